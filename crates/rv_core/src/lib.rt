@@ -1,0 +1,58 @@
+//! The shapes of in-order cores: how many stages there are, and what happens in which.
+#![tactic(auto)]
+
+ghost use Rattle.std.specs.Prelude.{ℕ, ◌≡◌, ◌≤◌, ◌<◌, ◌+◌};
+ghost use Rattle.rv_core.specs.Stages.{IsLawful};
+
+mod cores;
+
+pub use cores::{CoreKind, Five, Four, Three};
+
+/// A core of three to five stages, numbered from 0, the fetch. Its last stage, STAGES - 1, is the write-back.
+/// A user's core is one more `impl`, which proves the law on its numbers (this project's choice).
+pub trait Core {
+    /// The count of stages, 3 to 5.
+    const STAGES: u8;
+    /// The stage in which operands are read.
+    const RD: u8;
+    /// The stage in which an instruction executes: RD or the next one.
+    const EX: u8;
+    /// The stage in which memory is accessed, behind EX.
+    const MEM: u8;
+
+    ghost STAGES: { ℕ };
+
+    ghost RD: { ℕ };
+
+    ghost EX: { ℕ };
+
+    ghost MEM: { ℕ };
+
+    ghost lawful: { IsLawful STAGES RD EX MEM };
+}
+
+/// The numbers of a core as a value.
+#[derive(Clone, Copy, Debug, PartialEq, Eq)]
+pub struct Shape {
+    /// The count of stages, 3 to 5.
+    pub stages: u8,
+    pub rd: u8,
+    pub ex: u8,
+    pub mem: u8,
+    pub ghost lawful: { IsLawful stages rd ex mem },
+}
+
+/// The shape of a core.
+pub fn shape_of<C: Core>() -> Shape
+    ensures stages { result.stages ≡ C.STAGES }
+    ensures rd { result.rd ≡ C.RD }
+    ensures ex { result.ex ≡ C.EX }
+    ensures mem { result.mem ≡ C.MEM }
+{
+    Shape {
+        stages: C::STAGES,
+        rd: C::RD,
+        ex: C::EX,
+        mem: C::MEM,
+    }
+}
