@@ -1,0 +1,22 @@
+use Rattle.std.proofs.Common.{◌≡◌, List, ap}
+use Rattle.std.specs.Prelude.{reverse, None}
+use Rattle.ix_tool.specs.declared.trace.Row.{Row}
+use Rattle.ix_tool.specs.Trace.{newest}
+use Rattle.ix_tool.specs.Running.{Running}
+use Rattle.ix_tool.specs.Headline.{Headline}
+use Rattle.ix_tool.specs.PlainMachine.{setting, IsRowOf, machine_of, machine_after}
+use Rattle.ix_tool.specs.Placed.{IsSound}
+use Rattle.ix_tool.proofs.Sound.{sound_after, headline_after, reverse_push}
+use Rattle.ix_tool.proofs.machine.Machine.cycle.Goals as goal
+
+pub invariant_of-self : goal.invariant_of-self
+invariant_of-self g c =
+    let going : (newest (reverse c.self.inside.trace.rows)).stop ≡ None = rw (ap (λ (v : Running). v.rows) c.self.view_is) c.requires.going in
+    rw (reverse_push c.self.inside.trace.rows c.make_row-row.result c.push.new.self.rows c.push.ensures.rows)
+    (sound_after c.self.inside.shape c.self.inside.image.now c.self.inside.kept c.make_row-row.new.kept (reverse c.self.inside.trace.rows) c.make_row-row.result c.self.invariant going (rw c.as_slice.ensures.words at c.make_row-row.ensures.row) (rw c.as_slice.ensures.words at c.make_row-row.ensures.after))
+
+pub returns-clause-headline : goal.returns-clause-headline
+returns-clause-headline g c =
+    let going : (newest (reverse c.self.inside.trace.rows)).stop ≡ None = rw (ap (λ (v : Running). v.rows) c.self.view_is) c.requires.going in
+    rw (reverse_push c.self.inside.trace.rows c.make_row-row.result c.push.new.self.rows c.push.ensures.rows)
+    (headline_after c.self.inside.shape c.self.inside.image.now c.self.inside.kept c.make_row-row.new.kept (reverse c.self.inside.trace.rows) c.make_row-row.result c.self.invariant going (rw c.as_slice.ensures.words at c.make_row-row.ensures.row) (rw c.as_slice.ensures.words at c.make_row-row.ensures.after))

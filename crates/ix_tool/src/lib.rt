@@ -1,0 +1,11 @@
+//! The tool: from the words of a command and the bytes of its files to the bytes that it writes.
+#![tactic(auto)]
+
+mod decide;
+mod engine;
+pub mod history;
+pub mod machine;
+pub mod sequential;
+pub mod stages;
+pub mod step;
+pub mod trace;
