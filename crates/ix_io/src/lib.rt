@@ -21,3 +21,6 @@ pub use shelf::{Failed, Shelf};
 pub use sink::Sink;
 pub use sure::{SureShelf, SureSink};
 pub use write::{WriteErr, write_all};
+
+#[cfg(test)]
+mod tests;
