@@ -1,2 +1,3 @@
+pub mod BaseTable
 pub mod formers
 pub mod Types

@@ -1,0 +1,5 @@
+pub mod BitLemmas
+pub mod FieldLemmas
+pub mod Positions
+pub mod RowLemmas
+pub mod SignLemmas
