@@ -1,7 +1,14 @@
 -- Hexadecimal digits, one more at a time.
-use Rattle.std.proofs.Common.{◌≡◌, ℕ, ◌+◌, ◌*◌, ◌/◌, ◌%◌, ◌^◌, List, [], ◌∷◌, ◌++◌, suc, zero, refl, sym, ◌∙◌, ap, arith, add-one, pow-add, append_assoc, ◌-◌, ◌≤◌}
+use Rattle.std.proofs.Common.{◌<◌, length, lit<, ◌≡◌, ℕ, ◌+◌, ◌*◌, ◌/◌, ◌%◌, ◌^◌, List, [], ◌∷◌, ◌++◌, suc, zero, refl, sym, ◌∙◌, ap, arith, add-one, pow-add, append_assoc, length-append, ◌-◌, ◌≤◌}
 use Rattle.std.proofs.Math.Nat.{div-div-eq-div-mul, pow-suc}
+use Rattle.std.proofs.lemmas.Fmt.{length-decimal-le}
+use Rattle.std.specs.Fmt.{decimal}
 use Rattle.ix_io.specs.Out.{hex_digit, hex_digits}
+
+-- the decimal digits of a number of 64 bits are 20 at most
+pub decimal_is_short : (number : ℕ) → number < 2 ^ 64 → length (decimal number) ≤ 20
+decimal_is_short number fits =
+    let few : 2 ^ 64 < 10 ^ 20 = lit< tt in length-decimal-le 20 number (lit< tt) (omega (arith, few)) fits
 
 -- the digits down to the place after one, and then the digit there
 pub hex_digits_more : (count number place : ℕ)
@@ -29,3 +36,10 @@ pub digits_push : (before items pushed : List ℕ) (digits left place number dig
 digits_push before items pushed digits left place number digit next within stand is more =
     let count : digits - place ≡ (digits - left) + 1 = omega arith in
     rw (count, hex_digits_more (digits - left) number place, ← next, ← is, ← append_assoc, ← stand) more
+
+-- there are that many digits
+pub length-hex_digits : (count number : ℕ) → length (hex_digits count number) ≡ count
+unfolding hex_digits
+length-hex_digits zero number = refl
+length-hex_digits (suc count) number =
+    length-append (hex_digits count (number / 16)) _ ∙ (rw (length-hex_digits count (number / 16)) (add-one count))

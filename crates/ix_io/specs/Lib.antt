@@ -3,3 +3,5 @@ pub mod Shelf
 pub mod Sink
 pub mod Out
 pub mod SureSink
+pub mod Calls
+pub mod Mem

@@ -2,8 +2,10 @@
 //! writes over them.
 #![tactic(auto)]
 
+mod calls;
 mod files;
 mod host;
+mod mem;
 mod out;
 mod read;
 mod shelf;
@@ -12,9 +14,13 @@ mod sure;
 mod write;
 
 pub use host::{HostShelf, HostSink};
+pub use mem::{MemShelf, MemSink};
 pub use out::Out;
 pub use read::{ReadErr, read_all};
 pub use shelf::{Failed, Shelf};
 pub use sink::Sink;
 pub use sure::{SureShelf, SureSink};
 pub use write::{WriteErr, write_all};
+
+#[cfg(test)]
+mod tests;

@@ -1,4 +1,4 @@
-ghost use Rattle.std.specs.Prelude.{◌≡◌, ℕ, ◌+◌, ◌*◌, ◌/◌, ◌%◌, ◌^◌, ◌<◌, ◌≤◌, [], ◌++◌, length, IfOk, OnOk, OnErr, decimal};
+ghost use Rattle.std.specs.Prelude.{◌≡◌, ℕ, ◌+◌, ◌*◌, ◌/◌, ◌%◌, ◌^◌, ◌<◌, ◌≤◌, [], ◌++◌, length, IfOk, OnOk, OnErr, decimal, min};
 ghost use Rattle.ix_io.specs.Faults.{Rose};
 ghost use Rattle.ix_io.specs.Sink.{Appends, AppendsFront};
 ghost use Rattle.ix_io.specs.Out.{hex_digit, hex_digits};
@@ -75,10 +75,12 @@ impl Out {
         self.bytes.extend_from_slice(text.as_bytes()).unwrap();
     }
 
-    /// Appends a number in decimal digits without leading zeros, which are 20 at most.
+    /// Appends a number in decimal digits without leading zeros, which are 20 at most, so that room for 20 is enough.
+    #[tactic(auto, using(crate::proofs::Digits::decimal_is_short))]
     pub fn decimal(&mut self, number: u64)
-        requires { length self.old + length (decimal number) ≤ 65536 }
-        ensures { self.new ≡ self.old ++ decimal number }
+        requires { length self.old + min (length (decimal number)) 20 ≤ 65536 }
+        ensures appends { self.new ≡ self.old ++ decimal number }
+        ensures few { length self.new ≤ length self.old + 20 }
     {
         self.text(Buffer::new().format(number));
     }
@@ -89,7 +91,8 @@ impl Out {
         requires most { digits ≤ 32 }
         requires fits { pattern.width ≤ 4 * digits }
         requires room { length self.old + digits ≤ 65536 }
-        ensures { self.new ≡ self.old ++ hex_digits digits pattern.raw }
+        ensures appends { self.new ≡ self.old ++ hex_digits digits pattern.raw }
+        ensures count { length self.new ≡ length self.old + digits }
     {
         let mut left = digits;
         while left > 0 {
