@@ -2,7 +2,7 @@ use Rattle.std.proofs.Common.{rules, refl, ap, pos, ◌∙◌, FitsSigned, w32}
 use Rattle.std.proofs.lemmas.Int.{to_z-of_z}
 use Rattle.rv_isa.specs.Fields.{fields_of}
 use Rattle.rv_isa.proofs.FieldLemmas.{same_base}
-use Rattle.rv_isa.proofs.base.fields.Goals as goal
+use Rattle.rv_isa.proofs.decoding.fields.Goals as goal
 
 pub returns-in-Register : goal.returns-in-Register
 unfolding fields_of
