@@ -12,7 +12,7 @@ use Rattle.rv_isa.proofs.FieldLemmas.{is_base}
 use Rattle.rv_isa.proofs.TableLemmas.{mask_of, mask_is, match_under_mask}
 use Rattle.rv_isa.proofs.MaskLemmas.{and_opcode, and_function, and_functions, and_whole}
 use Rattle.rv_isa.proofs.SignLemmas.{low_signed_12, low_signed_13, low_signed_21, low_signed_32, signed_low_12, signed_low_13, signed_low_21, signed_low_32, amount_low, even-cast_unsigned, page-cast_unsigned, cast_unsigned-lt, IsWithin-wider}
-use Rattle.rv_isa.proofs.RowLemmas.{row_of-from_Matches, decoded_from_row, decoded_from_None, row_of-Some}
+use Rattle.rv_isa.proofs.RowLemmas.{row_of-from_Matches, decoded_from_row, decoded_from_None, row_of-Some, IsInRange-fields_of}
 use Rattle.rv_isa.specs.Decoded.{decoded}
 
 -- the match of a row, from a word of the row
@@ -254,3 +254,13 @@ from_row word b (Some row) r fits e =
 -- a word that decodes is the word of what it decodes to
 pub encoded-decoded : (word : ℕ) (b : Base) → word < 2 ^ 32 → decoded word ≡ Some b → encoded b ≡ word
 encoded-decoded word b fits e = from_row word b (row_of word) refl fits e
+
+in_range_from : (word : ℕ) (b : Base) (found : Option ℕ) → row_of word ≡ found → decoded word ≡ Some b → IsInRange b
+in_range_from word b None r e = absurd (none-some b (sym (decoded_from_None word r) ∙ e))
+in_range_from word b (Some row) r e =
+    let same : fields_of (format_of row) row word ≡ b = same_Some _ _ (sym (decoded_from_row word row r) ∙ e) in
+    rw (← same) (IsInRange-fields_of (format_of row) row word refl (row_of-Some word row r).0)
+
+-- what a word decodes to is in range
+pub IsInRange-decoded : (word : ℕ) (b : Base) → decoded word ≡ Some b → IsInRange b
+IsInRange-decoded word b e = in_range_from word b (row_of word) refl e

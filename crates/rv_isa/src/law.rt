@@ -16,5 +16,6 @@ pub fn rows_are_apart()
 /// and each word that decodes is the word of its instruction, since the fields keep every bit that the row does not fix.
 pub fn decoding_undoes_encoding()
     ensures instruction { (b : Base) → IsInRange b → decoded (encoded b) ≡ Some b }
+    ensures in_range { (word : ℕ) (b : Base) → decoded word ≡ Some b → IsInRange b }
     ensures word { (word : ℕ) (b : Base) → word < 2 ^ 32 → decoded word ≡ Some b → encoded b ≡ word }
 {}

@@ -9,6 +9,8 @@ mod image;
 mod law;
 pub mod rows;
 mod table;
+#[cfg(test)]
+mod tests;
 mod word;
 
 pub use base::Base;
