@@ -76,55 +76,22 @@ fn fields(format: Format, row: u8, word: u32) -> Base
     let rd = bits(word, 11, 7) as u8;
     let rs1 = bits(word, 19, 15) as u8;
     let rs2 = bits(word, 24, 20) as u8;
-    let none = Base {
-        row,
-        rd: 0,
-        rs1: 0,
-        rs2: 0,
-        imm: 0,
+    let (rd, rs1, rs2, imm) = match format {
+        Format::Register => (rd, rs1, rs2, 0),
+        Format::Immediate => (rd, rs1, 0, immediate(word)),
+        Format::Shift => (rd, rs1, 0, i32::from(rs2)),
+        Format::Store => (0, rs1, rs2, store_offset(word)),
+        Format::Branch => (0, rs1, rs2, branch_offset(word)),
+        Format::Upper => (rd, 0, 0, upper(word)),
+        Format::Jump => (rd, 0, 0, jump_offset(word)),
+        Format::Fixed => (0, 0, 0, 0),
     };
-    match format {
-        Format::Register => Base {
-            rd,
-            rs1,
-            rs2,
-            ..none
-        },
-        Format::Immediate => Base {
-            rd,
-            rs1,
-            imm: immediate(word),
-            ..none
-        },
-        Format::Shift => Base {
-            rd,
-            rs1,
-            imm: i32::from(rs2),
-            ..none
-        },
-        Format::Store => Base {
-            rs1,
-            rs2,
-            imm: store_offset(word),
-            ..none
-        },
-        Format::Branch => Base {
-            rs1,
-            rs2,
-            imm: branch_offset(word),
-            ..none
-        },
-        Format::Upper => Base {
-            rd,
-            imm: upper(word),
-            ..none
-        },
-        Format::Jump => Base {
-            rd,
-            imm: jump_offset(word),
-            ..none
-        },
-        Format::Fixed => none,
+    Base {
+        row,
+        rd,
+        rs1,
+        rs2,
+        imm,
     }
 }
 

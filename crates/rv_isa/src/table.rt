@@ -7,7 +7,7 @@ ghost use Rattle.rv_isa.specs.Table.{pattern_of, format_of, row_of};
 pub enum Format {
     /// R: rd, rs1 and rs2.
     Register,
-    /// I: rd, rs1 and a signed immediate of 12 bits.
+    /// I: rd, rs1 and a signed immediate of 12 bits. FENCE has this format too, so that no bit of it is lost.
     Immediate,
     /// I with a shift amount, 0 to 31, in the place of rs2: rd, rs1 and the amount as immediate.
     Shift,
@@ -19,7 +19,7 @@ pub enum Format {
     Upper,
     /// J: rd and a signed, even immediate of 21 bits.
     Jump,
-    /// No field: the whole word is fixed.
+    /// No field: the whole word is fixed, as for ECALL and EBREAK.
     Fixed,
 }
 
