@@ -24,7 +24,7 @@ pub enum Format {
 }
 
 /// Mask and match of each row.
-const PATTERNS: [(u32, u32); 40] = [
+static PATTERNS: [(u32, u32); 40] = [
     (0x0000007f, 0x00000037), // LUI
     (0x0000007f, 0x00000017), // AUIPC
     (0x0000007f, 0x0000006f), // JAL
@@ -68,7 +68,7 @@ const PATTERNS: [(u32, u32); 40] = [
 ];
 
 /// Format of each row.
-const FORMATS: [Format; 40] = [
+static FORMATS: [Format; 40] = [
     Format::Upper, // LUI
     Format::Upper, // AUIPC
     Format::Jump, // JAL
