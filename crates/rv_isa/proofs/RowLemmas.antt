@@ -1,14 +1,16 @@
 -- The row that a word matches, and what its fields are.
-use Rattle.std.proofs.Common.{ℕ, ◌+◌, ◌*◌, ◌^◌, ◌<◌, ◌≡◌, length, Some, None, refl, arith}
+use Rattle.std.proofs.Common.{ℕ, ◌+◌, ◌*◌, ◌^◌, ◌<◌, ◌≡◌, length, Some, None, refl, arith, false, get_or, true}
 use Rattle.std.proofs.lemmas.Int.{ints}
 use Rattle.std.proofs.lemmas.List.Quantifiers.{position-Some}
-use Rattle.std.proofs.lemmas.Bool.{eqb-true, eq-eqb, both_ways}
+use Rattle.std.proofs.lemmas.Bool.{eqb-true, eq-eqb, ne_eqb, both_ways, cond-true, lt-ltb}
+use Rattle.std.proofs.lemmas.List.Sums.{position_or_len_is}
 use Rattle.ix_bits.specs.BaseTable.{base_patterns, is_match}
 use Rattle.rv_isa.specs.Table.{row_of, pattern_of, format_of, Matches}
 use Rattle.rv_isa.specs.Fields.{fields_of, IsInRange, bits_of}
 use Rattle.rv_isa.specs.Decoded.{decoded}
 use Rattle.rv_isa.specs.declared.table.Format.{Format}
 use Rattle.rv_isa.specs.declared.table.Format.TheVariants.{Register, Immediate, Shift, Store, Branch, Upper, Jump, Fixed}
+use Rattle.rv_isa.proofs.TableLemmas.{not_both}
 use Rattle.rv_isa.proofs.Positions.{fails_from_length, length_from_None}
 use Rattle.rv_isa.proofs.SignLemmas.{IsWithin-signed, even-signed, page-signed}
 
@@ -84,3 +86,15 @@ decoded_from_row word row e = rw e refl
 pub decoded_from_None : (word : ℕ) → row_of word ≡ None → decoded word ≡ None
 unfolding decoded
 decoded_from_None word e = rw e refl
+
+-- the row that a word matches is the row that is found
+pub row_of-from_Matches : (word row : ℕ) → row < 40 → Matches word row → row_of word ≡ Some row
+unfolding row_of pattern_of
+row_of-from_Matches word row h m =
+    let within : row < length base_patterns = rw length-patterns h in
+    let here : is_match word (get_or base_patterns row (0, 0)) ≡ true = eq-eqb _ _ m in
+    let before : (k : ℕ) → k < row → is_match word (get_or base_patterns k (0, 0)) ≡ false =
+    λ k less. ne_eqb _ _ (λ n. not_both word k row less h n m)
+    in
+    let first = position_or_len_is (is_match word) base_patterns row (0, 0) (omega arith) before (λ _. here) in
+    rw first (cond-true _ _ _ (lt-ltb _ _ within))

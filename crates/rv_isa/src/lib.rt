@@ -3,10 +3,19 @@
 #![tactic(auto)]
 
 mod base;
+mod decoding;
+mod encoding;
 mod image;
+mod law;
 pub mod rows;
 mod table;
+#[cfg(test)]
+mod tests;
+mod word;
 
-pub use base::{Base, decode};
+pub use base::Base;
+pub use decoding::decode;
+pub use encoding::encode;
 pub use image::Image;
+pub use law::{decoding_undoes_encoding, rows_are_apart};
 pub use table::{Format, base_format, base_pattern};

@@ -7,7 +7,7 @@ ghost use Rattle.rv_isa.specs.Table.{pattern_of, format_of, row_of};
 pub enum Format {
     /// R: rd, rs1 and rs2.
     Register,
-    /// I: rd, rs1 and a signed immediate of 12 bits.
+    /// I: rd, rs1 and a signed immediate of 12 bits. FENCE has this format too, so that no bit of it is lost.
     Immediate,
     /// I with a shift amount, 0 to 31, in the place of rs2: rd, rs1 and the amount as immediate.
     Shift,
@@ -19,12 +19,12 @@ pub enum Format {
     Upper,
     /// J: rd and a signed, even immediate of 21 bits.
     Jump,
-    /// No field: the whole word is fixed.
+    /// No field: the whole word is fixed, as for ECALL and EBREAK.
     Fixed,
 }
 
 /// Mask and match of each row.
-const PATTERNS: [(u32, u32); 40] = [
+static PATTERNS: [(u32, u32); 40] = [
     (0x0000007f, 0x00000037), // LUI
     (0x0000007f, 0x00000017), // AUIPC
     (0x0000007f, 0x0000006f), // JAL
@@ -68,7 +68,7 @@ const PATTERNS: [(u32, u32); 40] = [
 ];
 
 /// Format of each row.
-const FORMATS: [Format; 40] = [
+static FORMATS: [Format; 40] = [
     Format::Upper, // LUI
     Format::Upper, // AUIPC
     Format::Jump, // JAL

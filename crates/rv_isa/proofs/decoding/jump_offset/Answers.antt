@@ -2,7 +2,7 @@ use Rattle.std.proofs.Common.{◌+◌, ◌*◌, ◌≡◌, arith, rules, ap, ◌
 use Rattle.std.proofs.lemmas.Int.{to_z-of_z}
 use Rattle.rv_isa.specs.Fields.{bits_of, signed}
 use Rattle.rv_isa.proofs.BitLemmas.{jump_parts}
-use Rattle.rv_isa.proofs.base.jump_offset.Goals as goal
+use Rattle.rv_isa.proofs.decoding.jump_offset.Goals as goal
 
 pub sign_extended-requires-clause-fits : goal.sign_extended-requires-clause-fits
 sign_extended-requires-clause-fits c =

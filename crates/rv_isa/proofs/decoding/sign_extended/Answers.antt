@@ -3,7 +3,7 @@ use Rattle.std.proofs.Math.Pow.{pow_mono}
 use Rattle.std.proofs.lemmas.Nat.{one_shl}
 use Rattle.std.proofs.lemmas.Int.{ints}
 use Rattle.rv_isa.proofs.SignLemmas.{signed_negative}
-use Rattle.rv_isa.proofs.base.sign_extended.Goals as goal
+use Rattle.rv_isa.proofs.decoding.sign_extended.Goals as goal
 
 pub overflow_sub-result : goal.overflow_sub-result
 overflow_sub-result c =
