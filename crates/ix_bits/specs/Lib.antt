@@ -1,2 +1,5 @@
 pub mod formers
 pub mod Types
+pub mod ResultTypes
+pub mod Operators
+pub mod Laws
