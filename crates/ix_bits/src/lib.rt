@@ -1,12 +1,20 @@
 //! What every crate of the project speaks of: types of numbers, bit patterns, lists, names, and want of memory.
 #![tactic(auto)]
 
+mod arithmetic;
+mod laws;
 mod list;
 mod memory;
 mod name;
 mod number;
+mod operator;
+#[cfg(test)]
+mod tests;
 
+pub use arithmetic::{binary, cast, range, unary, width_of_both};
+pub use laws::number_laws;
 pub use list::List;
 pub use memory::Memory;
 pub use name::Name;
 pub use number::{Bits, Ty};
+pub use operator::{BinOp, UnOp};

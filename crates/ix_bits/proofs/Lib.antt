@@ -1,0 +1,9 @@
+pub mod Remainders
+pub mod Patterns
+pub mod Ranges
+pub mod Results
+pub mod Shifts
+pub mod InRange
+pub mod Operations
+pub mod Unique
+pub mod Embeddings

@@ -1,0 +1,2 @@
+pub mod BySigns
+pub mod Smallest
