@@ -7,3 +7,5 @@ pub mod Stopping
 pub mod Bound
 pub mod Rows
 pub mod Sound
+pub mod Results
+pub mod ImageLemmas

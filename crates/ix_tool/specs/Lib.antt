@@ -6,3 +6,4 @@ pub mod Headline
 pub mod PlainMachine
 pub mod Placed
 pub mod Running
+pub mod ImageText

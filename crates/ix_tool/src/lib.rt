@@ -4,6 +4,7 @@
 mod decide;
 mod engine;
 pub mod history;
+pub mod image_text;
 pub mod machine;
 pub mod sequential;
 pub mod stages;
