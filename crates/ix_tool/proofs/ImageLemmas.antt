@@ -2,7 +2,7 @@
 use Rattle.std.proofs.Common.{Bor, ◌≡◌, ◌≢◌, ℕ, zero, suc, ◌+◌, ◌-◌, ◌*◌, ◌^◌, ◌<◌, ◌≤◌, List, [], ◌∷◌, ◌++◌, length, Option, Some, None, Bool, true, false, refl, sym, ap, ◌∙◌, subst, arith, ◌⊎◌, inl, inr}
 use Rattle.std.specs.Prelude.{nat_le, ◌&&◌, ◌||◌, if◌then◌else◌, ◌==◌}
 use Rattle.std.proofs.lemmas.Bool.Decides.{nat_tests}
-use Rattle.std.specs.Prelude.{slice_get, map, option_map}
+use Rattle.std.specs.Prelude.{slice_get, map, option_map, codes}
 use Rattle.std.specs.List.{join_with_byte}
 use Rattle.std.proofs.Common.{get_or}
 use Rattle.std.proofs.lemmas.List.{append-nil, length-take}
@@ -166,3 +166,6 @@ built_next all i line h b ok = subst AllBuilt (sym (words_next all i line h)) (b
   by_kind Skipped f = subst AllBuilt (sym (append-nil (words_in (take i all)))) b
   by_kind (Word w) f = AllBuilt-push (words_in (take i all)) w b (f w refl)
   by_kind Bad f = subst AllBuilt (sym (append-nil (words_in (take i all)))) b
+
+newline : codes "\n" ≡ 10 ∷ []
+newline = refl

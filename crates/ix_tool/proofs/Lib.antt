@@ -9,3 +9,4 @@ pub mod Rows
 pub mod Sound
 pub mod Results
 pub mod ImageLemmas
+pub mod Texts

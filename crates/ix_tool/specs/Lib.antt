@@ -7,3 +7,4 @@ pub mod PlainMachine
 pub mod Placed
 pub mod Running
 pub mod ImageText
+pub mod TraceText

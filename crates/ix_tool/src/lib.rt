@@ -6,6 +6,7 @@ mod engine;
 pub mod history;
 pub mod image_text;
 pub mod machine;
+pub mod row_text;
 pub mod sequential;
 pub mod stages;
 pub mod step;
