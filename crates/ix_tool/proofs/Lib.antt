@@ -10,3 +10,5 @@ pub mod Sound
 pub mod Results
 pub mod ImageLemmas
 pub mod Texts
+pub mod Writing
+pub mod RunOutputs

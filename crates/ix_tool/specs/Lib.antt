@@ -8,3 +8,6 @@ pub mod Placed
 pub mod Running
 pub mod ImageText
 pub mod TraceText
+pub mod CommandLine
+pub mod CommandOutput
+pub mod Codes

@@ -1,0 +1,18 @@
+-- What a run writes is the text of its rows.
+use Rattle.std.proofs.Common.{◌≡◌, ℕ, ◌≤◌, List, ◌++◌, length, reverse, Option, None, refl, sym, ap, ◌∙◌, subst}
+use Rattle.ix_tool.specs.declared.trace.Row.{Row}
+use Rattle.ix_tool.specs.declared.sequential.Arch.{Arch}
+use Rattle.ix_tool.specs.Trace.{Setting, newest, architecture}
+use Rattle.ix_tool.specs.Headline.{Headline}
+use Rattle.ix_tool.specs.TraceText.{trace_text, state_text}
+use Rattle.ix_tool.specs.CommandOutput.{three, IsRunOutput}
+
+pub run_output : (image : List ℕ) (cycles : ℕ) (first last : Setting) (rows kept : List Row) (arch : Arch) → first ≡ three image → last ≡ first → Headline last rows → length rows ≤ cycles → ((newest rows).stop ≡ None → length rows ≡ cycles) → kept ≡ reverse rows → arch ≡ architecture rows → IsRunOutput image cycles (trace_text 3 0 kept ++ state_text arch)
+run_output image cycles first last rows kept arch p q h few whole k a =
+    record {
+      rows = rows;
+      headline = subst (λ s. Headline s rows) (q ∙ p) h;
+      few = few;
+      whole = whole;
+      text_is = ap (λ r. trace_text 3 0 r ++ state_text arch) k ∙ ap (λ s. trace_text 3 0 (reverse rows) ++ state_text s) a;
+    }
