@@ -12,3 +12,5 @@ pub mod ImageLemmas
 pub mod Texts
 pub mod Writing
 pub mod RunOutputs
+pub mod Outcomes
+pub mod Clauses

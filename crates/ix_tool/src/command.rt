@@ -39,6 +39,7 @@ fn number_within(most: u64, word: &str) -> Option<u64>
 }
 
 /// A command: the file of the image, and the cycles, 0 to 200,000.
+#[derive(Clone, Copy, Debug)]
 pub struct Run<'a> {
     pub image: &'a str,
     pub cycles: u32,

@@ -13,4 +13,5 @@ pub mod sequential;
 pub mod stages;
 pub mod step;
 pub mod status;
+pub mod tool;
 pub mod trace;
