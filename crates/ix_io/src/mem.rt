@@ -1,4 +1,4 @@
-ghost use Rattle.std.specs.Prelude.{ℕ, ◌≡◌, ◌+◌, ◌-◌, ◌^◌, ◌<◌, ◌≤◌, ◌⊎◌, ◌↔◌, ◌++◌, [], Some, None, length, min, take, unwrap_or, Contains, IfOk, OnErr, OnOk, IsErr};
+ghost use Rattle.std.specs.Prelude.{◌≡◌, ◌+◌, ◌-◌, ◌^◌, ◌<◌, ◌≤◌, ◌⊎◌, ◌↔◌, ◌++◌, [], Some, None, length, min, take, unwrap_or, Contains, IfOk, OnErr, OnOk, IsErr};
 ghost use Rattle.ix_io.specs.Calls.{first_call, after_call, after_fault};
 ghost use Rattle.ix_io.specs.Faults.{AllInRange, NoneFell, Rose};
 ghost use Rattle.ix_io.specs.Shelf.{Places, file_named, told_file};

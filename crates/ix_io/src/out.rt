@@ -1,4 +1,4 @@
-ghost use Rattle.std.specs.Prelude.{◌≡◌, ℕ, ◌+◌, ◌*◌, ◌/◌, ◌%◌, ◌^◌, ◌<◌, ◌≤◌, [], ◌++◌, length, IfOk, OnOk, OnErr, decimal, min};
+ghost use Rattle.std.specs.Prelude.{◌≡◌, ◌+◌, ◌*◌, ◌/◌, ◌%◌, ◌^◌, ◌<◌, ◌≤◌, [], ◌++◌, length, IfOk, OnOk, OnErr, decimal, min};
 ghost use Rattle.ix_io.specs.Faults.{Rose};
 ghost use Rattle.ix_io.specs.Sink.{Appends, AppendsFront};
 ghost use Rattle.ix_io.specs.Out.{hex_digit, hex_digits};

@@ -1,4 +1,4 @@
-ghost use Rattle.std.specs.Prelude.{◌≡◌, ℕ, ◌<◌, ◌≤◌, List, length, IfOk, IfSome, OnErr, IsErrOf};
+ghost use Rattle.std.specs.Prelude.{◌≡◌, ◌<◌, ◌≤◌, length, IfOk, IfSome, IsErrOf};
 ghost use Rattle.ix_io.specs.Faults.{NoneFell, Rose};
 ghost use Rattle.ix_io.specs.Shelf.{told_file};
 

@@ -1,4 +1,4 @@
-ghost use Rattle.std.specs.Prelude.{◌≡◌, Some, None, Ok, length, IfOk, IfSome, is_some, [], ◌-◌, min};
+ghost use Rattle.std.specs.Prelude.{◌≡◌, Some, None, Ok, length, IfOk, IfSome, is_some, []};
 ghost use Rattle.ix_io.specs.SureSink.{Room, told_after};
 
 use crate::files::{find, place};
