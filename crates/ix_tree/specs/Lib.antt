@@ -1,0 +1,6 @@
+pub mod Tokens
+pub mod Trees
+pub mod Productions
+pub mod Grammar
+pub mod Machine
+pub mod Laws

@@ -3,6 +3,7 @@
 
 mod expr;
 mod extension;
+mod grammar;
 mod section;
 mod stmt;
 mod token;
@@ -10,6 +11,7 @@ mod typed;
 
 pub use expr::{CastTo, Expr, ExprKind, TypeKind, TypeText};
 pub use extension::{Behaviour, Extension, Instruction, Piece, Register, Table};
+pub use grammar::grammar_laws;
 pub use section::{
     BlockText, Instr, PieceKind, PieceText, Section, SectionKind, State, StateKind, Tree,
 };
