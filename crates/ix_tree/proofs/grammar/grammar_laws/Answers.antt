@@ -1,5 +1,5 @@
 use Rattle.ix_tree.proofs.Steps.{one}
-use Rattle.ix_tree.proofs.Expressions.{complete_type, begins}
+use Rattle.ix_tree.proofs.Statements.{complete_stmt}
 use Rattle.ix_tree.proofs.grammar.grammar_laws.Goals as goal
 
 pub returns : goal.returns
