@@ -1,3 +1,5 @@
 pub mod Steps
 pub mod Expressions
 pub mod Statements
+pub mod Sections
+pub mod Unique

@@ -1,9 +1,13 @@
--- Laws of the definitions.
+-- Laws of the grammar.
 use Rattle.std.specs.Prelude.{◌≡◌, List, ℕ}
 use Rattle.ix_tree.specs.declared.token.Token.{Token}
 use Rattle.ix_tree.specs.Trees.{TextTree}
-use Rattle.ix_tree.specs.Grammar.{Derives}
+use Rattle.ix_tree.specs.Grammar.{IsText, Derives}
 
 -- no list of tokens derives two trees
 abbrev pub TreeLaw : Type 0
 TreeLaw = (tokens : List Token) (x y : TextTree) → Derives tokens x → Derives tokens y → x ≡ y
+
+-- nor does one at any nesting, and each token has one nesting
+abbrev pub NestingLaw : Type 0
+NestingLaw = (tokens : List Token) (ms ns : List ℕ) (x y : TextTree) → IsText tokens ms x → IsText tokens ns y → (ms ≡ ns) × (x ≡ y)

@@ -1,7 +1,8 @@
-ghost use Rattle.ix_tree.specs.Laws.{TreeLaw};
+ghost use Rattle.ix_tree.specs.Laws.{TreeLaw, NestingLaw};
 
 /// Laws of the grammar. It does nothing: its contract is what it is for.
 pub fn grammar_laws()
-    ensures { TreeLaw }
+    ensures tree { TreeLaw }
+    ensures nesting { NestingLaw }
 {
 }

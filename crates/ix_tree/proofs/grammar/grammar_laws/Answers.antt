@@ -1,6 +1,8 @@
-use Rattle.ix_tree.proofs.Steps.{one}
-use Rattle.ix_tree.proofs.Statements.{complete_stmt}
+use Rattle.ix_tree.proofs.Unique.{unique}
 use Rattle.ix_tree.proofs.grammar.grammar_laws.Goals as goal
 
-pub returns : goal.returns
-returns c = ?
+pub returns-clause-tree : goal.returns-clause-tree
+returns-clause-tree c = λ tokens x y d e. (unique d.is e.is).1
+
+pub returns-clause-nesting : goal.returns-clause-nesting
+returns-clause-nesting c = λ tokens ms ns x y d e. unique d e
