@@ -3,3 +3,5 @@ pub mod Expressions
 pub mod Statements
 pub mod Sections
 pub mod Unique
+pub mod Lexemes
+pub mod Parts

@@ -3,4 +3,5 @@ pub mod Trees
 pub mod Productions
 pub mod Grammar
 pub mod Machine
+pub mod Lexing
 pub mod Laws
