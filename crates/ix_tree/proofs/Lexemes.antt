@@ -1,63 +1,59 @@
 -- No bytes have two lists of tokens.
-use Rattle.std.proofs.Common.{◌≡◌, ℕ, zero, suc, ◌+◌, ◌-◌, ◌*◌, ◌^◌, ◌<◌, ◌≤◌, ◌⊎◌, List, [], ◌∷◌, ◌++◌, length, Bool, true, false, not, ◌&&◌, ◌||◌, cond, refl, ap, sym, ◌∙◌, subst, ⊎_elim, append_assoc, arith, Option, Some, None, nat_eq}
-use Rattle.std.specs.Prelude.{slice_get}
-use Rattle.std.specs.List.{list_all, position}
+use Rattle.std.proofs.Common.{◌≡◌, ℕ, ◌^◌, ◌<◌, ◌≤◌, List, [], ◌∷◌, ◌++◌, Bool, true, false, not, refl, ap, sym, ◌∙◌, subst, ⊎_elim, arith, Some, None, nat_eq}
+use Rattle.std.specs.List.{list_all}
 use Rattle.std.specs.Coded.{le_prop}
 use Rattle.std.proofs.lemmas.Bool.{eq-eqb, ne_eqb, and_parts, cases_eq, false≢true, true≢false}
-use Rattle.std.proofs.lemmas.Bool.Decides.{nat_tests}
 use Rattle.std.proofs.lemmas.List.{append_cancel_left}
 use Rattle.std.proofs.lemmas.List.Folds.{list_all-append}
 use Rattle.ix_bits.specs.declared.number.Ty.{Ty}
 use Rattle.ix_bits.specs.declared.number.Bits.{Bits}
-use Rattle.ix_tree.specs.declared.token.Token.{Token}
 use Rattle.ix_tree.specs.declared.token.TokenKind.{TokenKind}
-use Rattle.ix_tree.specs.declared.token.TokenKind.TheVariants.{Unsized, Sized, Symbol}
-use Rattle.ix_tree.specs.Tokens.{symbols}
-use Rattle.ix_tree.specs.Lexing.{is_space, is_digit, is_letter, is_name_byte, is_number_byte, is_line_byte, is_text_byte, Stops, ends_comment, IsComment, comment_end, comment_byte, digit_value, IsRun, run_end, run_digit, run_gap, IsDigits, digits, IsUnsized, IsSized, base_of, IsNumber, decimal, hexadecimal, binary, sized, same_bytes, word_kind, BeginsWith, Form, space, line_comment, comment, word, text, number, symbol, token, IsPart, is_space_part, is_line_part, is_comment_part, is_word_part, is_text_part, is_number_part, is_symbol_part, Reads, reads_none, reads_more}
+use Rattle.ix_tree.specs.declared.token.TokenKind.TheVariants.{Unsized, Sized}
+use Rattle.ix_tree.specs.Lexing.{Stops, ends_comment, IsComment, comment_end, comment_byte, digit_value, IsRun, run_end, run_digit, run_gap, IsDigits, digits, IsUnsized, IsSized, IsNumber, decimal, hexadecimal, binary, sized}
 
 -- ---- numbers of one type and value are one
 ty_same : (s t : Bool) (w v : ℕ) (a : 1 ≤ w) (b : w ≤ 128) (c : 1 ≤ v) (d : v ≤ 128) → s ≡ t → w ≡ v
-  → let x : Ty = record { signed = s; width = w; some_width = a; most_width = b } in
+    → let x : Ty = record { signed = s; width = w; some_width = a; most_width = b } in
     let y : Ty = record { signed = t; width = v; some_width = c; most_width = d } in
     x ≡ y
 ty_same s t w v a b c d e f =
     subst
     (λ (n : ℕ). (p : 1 ≤ n) (q : n ≤ 128) →
-      let x : Ty = record { signed = s; width = w; some_width = a; most_width = b } in
-      let y : Ty = record { signed = t; width = n; some_width = p; most_width = q } in
-      x ≡ y)
+    let x : Ty = record { signed = s; width = w; some_width = a; most_width = b } in
+    let y : Ty = record { signed = t; width = n; some_width = p; most_width = q } in
+    x ≡ y)
     f
     (λ p q.
-      ap (λ (r : Bool). let x : Ty = record { signed = r; width = w; some_width = a; most_width = b } in x) e
-      ∙ ap (λ (r : 1 ≤ w). let x : Ty = record { signed = t; width = w; some_width = r; most_width = b } in x) (le_prop a p)
-      ∙ ap (λ (r : w ≤ 128). let x : Ty = record { signed = t; width = w; some_width = p; most_width = r } in x) (le_prop b q))
+    ap (λ (r : Bool). let x : Ty = record { signed = r; width = w; some_width = a; most_width = b } in x) e
+    ∙ ap (λ (r : 1 ≤ w). let x : Ty = record { signed = t; width = w; some_width = r; most_width = b } in x) (le_prop a p)
+    ∙ ap (λ (r : w ≤ 128). let x : Ty = record { signed = t; width = w; some_width = p; most_width = r } in x) (le_prop b q))
     c d
 
 ty_is : (x y : Ty) → x.signed ≡ y.signed → x.width ≡ y.width → x ≡ y
 ty_is x y e f = ty_same x.signed y.signed x.width y.width x.some_width x.most_width y.some_width y.most_width e f
 
 bits_same : (r s w v : ℕ) (a : 1 ≤ w) (b : w ≤ 128) (c : r < 2 ^ w) (a' : 1 ≤ v) (b' : v ≤ 128) (c' : s < 2 ^ v) → r ≡ s → w ≡ v
-  → let x : Bits = record { raw = r; width = w; some_width = a; most_width = b; in_width = c } in
+    → let x : Bits = record { raw = r; width = w; some_width = a; most_width = b; in_width = c } in
     let y : Bits = record { raw = s; width = v; some_width = a'; most_width = b'; in_width = c' } in
     x ≡ y
 bits_same r s w v a b c a' b' c' e f =
     subst
     (λ (n : ℕ). (p : 1 ≤ n) (q : n ≤ 128) (u : s < 2 ^ n) →
-      let x : Bits = record { raw = r; width = w; some_width = a; most_width = b; in_width = c } in
-      let y : Bits = record { raw = s; width = n; some_width = p; most_width = q; in_width = u } in
-      x ≡ y)
+    let x : Bits = record { raw = r; width = w; some_width = a; most_width = b; in_width = c } in
+    let y : Bits = record { raw = s; width = n; some_width = p; most_width = q; in_width = u } in
+    x ≡ y)
     f
     (λ p q.
-      subst
-      (λ (m : ℕ). (u : m < 2 ^ w) →
-        let x : Bits = record { raw = r; width = w; some_width = a; most_width = b; in_width = c } in
-        let y : Bits = record { raw = m; width = w; some_width = p; most_width = q; in_width = u } in
-        x ≡ y)
-      e
-      (λ u.
-        ap (λ (k : 1 ≤ w). let x : Bits = record { raw = r; width = w; some_width = k; most_width = b; in_width = c } in x) (le_prop a p)
-        ∙ ap (λ (k : w ≤ 128). let x : Bits = record { raw = r; width = w; some_width = p; most_width = k; in_width = c } in x) (le_prop b q)
-        ∙ ap (λ (k : r < 2 ^ w). let x : Bits = record { raw = r; width = w; some_width = p; most_width = q; in_width = k } in x) (le_prop c u)))
+    subst
+    (λ (m : ℕ). (u : m < 2 ^ w) →
+    let x : Bits = record { raw = r; width = w; some_width = a; most_width = b; in_width = c } in
+    let y : Bits = record { raw = m; width = w; some_width = p; most_width = q; in_width = u } in
+    x ≡ y)
+    e
+    (λ u.
+    ap (λ (k : 1 ≤ w). let x : Bits = record { raw = r; width = w; some_width = k; most_width = b; in_width = c } in x) (le_prop a p)
+    ∙ ap (λ (k : w ≤ 128). let x : Bits = record { raw = r; width = w; some_width = p; most_width = k; in_width = c } in x) (le_prop b q)
+    ∙ ap (λ (k : r < 2 ^ w). let x : Bits = record { raw = r; width = w; some_width = p; most_width = q; in_width = k } in x) (le_prop c u)))
     a' b' c'
 
 bits_are : (x y : Bits) → x.raw ≡ y.raw → x.width ≡ y.width → x ≡ y

@@ -1,15 +1,15 @@
 -- The front of the bytes has one form, one length and one token.
-use Rattle.std.proofs.Common.{◌≡◌, ℕ, zero, suc, ◌+◌, ◌<◌, ◌≤◌, List, [], ◌∷◌, ◌++◌, length, Bool, true, false, not, ◌&&◌, ◌||◌, cond, refl, ap, sym, ◌∙◌, subst, append_assoc, arith, Option, Some, None, nat_eq, add-zero, zero-add}
+use Rattle.std.proofs.Common.{◌≡◌, ℕ, zero, suc, ◌+◌, List, [], ◌∷◌, ◌++◌, length, Bool, true, false, not, ◌&&◌, cond, refl, ap, sym, ◌∙◌, subst, append_assoc, arith, Option, Some, None, nat_eq, add-zero, zero-add}
 use Rattle.std.specs.Prelude.{slice_get}
 use Rattle.std.specs.List.{list_all, position}
-use Rattle.std.proofs.lemmas.Bool.{and_parts, not-true, false≢true, true≢false, eqb-true}
+use Rattle.std.proofs.lemmas.Bool.{and_parts, not-true, false≢true, eqb-true}
 use Rattle.std.proofs.lemmas.Bool.Decides.{nat_tests}
 use Rattle.std.proofs.lemmas.List.{append_cancel_left}
 use Rattle.ix_tree.specs.declared.token.Token.{Token}
 use Rattle.ix_tree.specs.declared.token.TokenKind.{TokenKind}
 use Rattle.ix_tree.specs.declared.token.TokenKind.TheVariants.{Symbol, Text}
 use Rattle.ix_tree.specs.Tokens.{symbols}
-use Rattle.ix_tree.specs.Lexing.{is_space, is_digit, is_letter, is_name_byte, is_number_byte, is_line_byte, is_text_byte, Stops, IsComment, IsNumber, same_bytes, word_kind, BeginsWith, Form, space, line_comment, comment, word, text, number, symbol, token, IsPart, is_space_part, is_line_part, is_comment_part, is_word_part, is_text_part, is_number_part, is_symbol_part, Reads, reads_none, reads_more}
+use Rattle.ix_tree.specs.Lexing.{is_space, is_digit, is_letter, is_name_byte, is_number_byte, is_line_byte, is_text_byte, same_bytes, word_kind, Form, space, line_comment, comment, word, text, number, symbol, token, IsPart, is_space_part, is_line_part, is_comment_part, is_word_part, is_text_part, is_number_part, is_symbol_part, Reads, reads_none, reads_more}
 use Rattle.ix_tree.proofs.Lexemes.{fronts, comments, number_unique}
 
 -- ---- the form shows in the first bytes

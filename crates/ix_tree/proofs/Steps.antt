@@ -1,12 +1,12 @@
 -- How the machine moves: one token, a token that ends productions, and a list of marks.
-use Rattle.std.proofs.Common.{◌≡◌, ℕ, ◌+◌, ◌<◌, ◌≤◌, List, [], ◌∷◌, ◌++◌, false, refl, ap, sym, ◌∙◌, arith, le-leb, nat_eq, nat_le}
+use Rattle.std.proofs.Common.{◌≡◌, ℕ, ◌+◌, ◌<◌, ◌≤◌, List, [], ◌∷◌, ◌++◌, false, refl, ap, ◌∙◌, arith, le-leb, nat_eq, nat_le}
 use Rattle.std.proofs.lemmas.Bool.Decides.{nat_tests}
 use Rattle.ix_tree.specs.declared.token.Token.{Token}
 use Rattle.ix_tree.specs.declared.token.TokenKind.{TokenKind}
 use Rattle.ix_tree.specs.Trees.{Part, power, before}
 use Rattle.ix_tree.specs.Productions.{Done}
 use Rattle.ix_tree.specs.Grammar.{IsOperator}
-use Rattle.ix_tree.specs.Machine.{Frame, f_binary, Stack, State, want, have, done, Next, stop, go, hold, grip, level, made, settle, hold_stmt, made_stmt, settle_stmt, power_stmt, close, after, act, ready, step, Outcome, accept, stuck, then_at, finish, run, marked}
+use Rattle.ix_tree.specs.Machine.{Frame, f_binary, Stack, State, want, have, done, Next, stop, go, hold, grip, level, made, settle, hold_stmt, made_stmt, settle_stmt, power_stmt, close, after, act, step, Outcome, stuck, then_at, run, marked}
 
 -- ---- one token
 pub one : (s : State) (t : Token) (ts : List Token) (m : ℕ) (z : State) → step s t ≡ go m z → run s (t ∷ ts) ≡ then_at m (run z ts)
@@ -43,7 +43,7 @@ unfolding settle
 settle_pop p d v f k h = rw (le-leb p (hold f) h) refl
 
 pub popped : (n d : ℕ) (v : Part) (f : Frame) (k : Stack) (rest : List Token) → ((p : ℕ) → Follows n p → p ≤ hold f) → Ends n rest
-  → run (have d v (f ∷ k)) rest ≡ run (have (level d f) (made v f) k) rest
+    → run (have d v (f ∷ k)) rest ≡ run (have (level d f) (made v f) k) rest
 unfolding run step
 popped n d v f k [] h e = refl
 popped n d v f k (t ∷ ts) h e =
@@ -59,7 +59,7 @@ pub operator_follows : (k : TokenKind) → IsOperator k → Follows (power k) (p
 operator_follows k o = (omega arith, λ e. omega (arith, o.low), λ e. omega (arith, o.high))
 
 pub step_binary : (d : ℕ) (x : Part) (t : Token) (k : Stack) → IsOperator t.kind → grip k < power t.kind
-  → step (have d x k) t ≡ go (d + before (power t.kind) x) (want (d + (before (power t.kind) x + 1)) (f_binary d x t ∷ k))
+    → step (have d x k) t ≡ go (d + before (power t.kind) x) (want (d + (before (power t.kind) x + 1)) (f_binary d x t ∷ k))
 unfolding step after
 step_binary d x t k o g =
     let a : nat_eq (power t.kind) 1 ≡ false = grind (arith, nat_tests, o.low) in

@@ -3,7 +3,7 @@ use Rattle.std.proofs.Common.{◌≡◌, ℕ, List, [], ◌∷◌, refl, ap, sym
 use Rattle.ix_tree.specs.declared.token.Token.{Token}
 use Rattle.ix_tree.specs.Trees.{TextTree}
 use Rattle.ix_tree.specs.Grammar.{IsText}
-use Rattle.ix_tree.specs.Machine.{Outcome, accept, then_at, marked}
+use Rattle.ix_tree.specs.Machine.{accept, marked}
 use Rattle.ix_tree.proofs.Sections.{accepted}
 
 same_end : (ms ns : List ℕ) (x y : TextTree) → marked ms (accept x) ≡ marked ns (accept y) → (ms ≡ ns) × (x ≡ y)

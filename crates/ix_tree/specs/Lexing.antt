@@ -91,13 +91,13 @@ base_of c = if nat_eq c 98 then Some 2 else if nat_eq c 100 then Some 10 else if
 pub data IsNumber : List ℕ → TokenKind → Type 0 where
   -- `0`, or digits that do not begin with 0
   decimal : {cs : List ℕ} {v : ℕ} (c : ℕ) (ty : Ty) (b : Bits) → IsDigits 10 (c ∷ cs) v → (c ≡ 48 → cs ≡ []) → IsUnsized v ty b
-    → IsNumber (c ∷ cs) (Unsized ty b)
+      → IsNumber (c ∷ cs) (Unsized ty b)
   hexadecimal : {cs : List ℕ} {v : ℕ} (ty : Ty) (b : Bits) → IsDigits 16 cs v → IsUnsized v ty b → IsNumber (48 ∷ 120 ∷ cs) (Unsized ty b)
   binary : {cs : List ℕ} {v : ℕ} (ty : Ty) (b : Bits) → IsDigits 2 cs v → IsUnsized v ty b → IsNumber (48 ∷ 98 ∷ cs) (Unsized ty b)
   -- a width that does not begin with 0, `'`, a base and digits
   sized : {cs ds : List ℕ} {w v base : ℕ} (c l : ℕ) (ty : Ty) (b : Bits) → IsDigits 10 (c ∷ cs) w → (c ≡ 48 → ⊥) → base_of l ≡ Some base → IsDigits base ds v
-    → IsSized w v ty b
-    → IsNumber ((c ∷ cs) ++ 39 ∷ l ∷ ds) (Sized ty b)
+      → IsSized w v ty b
+      → IsNumber ((c ∷ cs) ++ 39 ∷ l ∷ ds) (Sized ty b)
 
 -- ---- names and symbols
 abbrev pub same_bytes : List ℕ → List ℕ → Bool
@@ -138,23 +138,23 @@ pub data IsPart : Form → ℕ → List ℕ → List ℕ → List Token → Type
   is_comment_part : {at : ℕ} {x y : List ℕ} → IsComment x → IsPart comment at (47 ∷ 42 ∷ x) y []
   -- the longest run of letters, digits and `_` that begins with no digit, of at most 64 bytes
   is_word_part : {at : ℕ} {x y : List ℕ} (b : ℕ) → is_letter b ≡ true → list_all is_name_byte x ≡ true → Stops is_name_byte y → length (b ∷ x) ≤ 64
-    → IsPart word at (b ∷ x) y (token at (b ∷ x) (word_kind (b ∷ x)) ∷ [])
+      → IsPart word at (b ∷ x) y (token at (b ∷ x) (word_kind (b ∷ x)) ∷ [])
   -- `"` to `"` on one line
   is_text_part : {at : ℕ} {y : List ℕ} (x : List ℕ) → list_all is_text_byte x ≡ true → IsPart text at (34 ∷ (x ++ 34 ∷ [])) y (token at (34 ∷ (x ++ 34 ∷ [])) Text ∷ [])
   -- from a digit the longest run of letters, digits, `_` and `'`
   is_number_part : {at : ℕ} {x y : List ℕ} (b : ℕ) (kind : TokenKind) → is_digit b ≡ true → list_all is_number_byte x ≡ true → Stops is_number_byte y
-    → IsNumber (b ∷ x) kind
-    → IsPart number at (b ∷ x) y (token at (b ∷ x) kind ∷ [])
+      → IsNumber (b ∷ x) kind
+      → IsPart number at (b ∷ x) y (token at (b ∷ x) kind ∷ [])
   -- the longest symbol that fits
   is_symbol_part : {at : ℕ} {x y : List ℕ} (n : ℕ) → slice_get symbols n ≡ Some x
-    → ((m : ℕ) (s : List ℕ) → slice_get symbols m ≡ Some s → BeginsWith s (x ++ y) → length s ≤ length x)
-    → IsPart symbol at x y (token at x (Symbol n) ∷ [])
+      → ((m : ℕ) (s : List ℕ) → slice_get symbols m ≡ Some s → BeginsWith s (x ++ y) → length s ≤ length x)
+      → IsPart symbol at x y (token at x (Symbol n) ∷ [])
 
 -- The bytes from a place of the text begin with these tokens, and then the rest follows.
 pub data Reads : ℕ → List ℕ → List Token → List ℕ → Type 0 where
   reads_none : {at : ℕ} {y : List ℕ} → Reads at y [] y
   reads_more : {at : ℕ} {x y rest : List ℕ} {us ts : List Token} (form : Form) → IsPart form at x y us → Reads (at + length x) y ts rest
-    → Reads at (x ++ y) (us ++ ts) rest
+      → Reads at (x ++ y) (us ++ ts) rest
 
 -- the tokens are the text's
 pub record Lexes (bytes : List ℕ) (tokens : List Token) : Type 0 where

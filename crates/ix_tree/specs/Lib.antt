@@ -5,3 +5,4 @@ pub mod Grammar
 pub mod Machine
 pub mod Lexing
 pub mod Laws
+pub mod View

@@ -1,8 +1,6 @@
 -- The grammar as a plain program on tokens: what each token does to the open productions, and its nesting.
 -- A state knows the nesting `d` at which it stands, and a frame that at which its production stands.
-use Rattle.std.specs.Prelude.{◌≡◌, ℕ, ◌+◌, List, [], ◌∷◌, ◌++◌, Bool, true, false, ◌||◌, if◌then◌else◌, nat_eq, nat_le, Option, Some, None}
-use Rattle.ix_bits.specs.declared.number.Ty.{Ty}
-use Rattle.ix_bits.specs.declared.number.Bits.{Bits}
+use Rattle.std.specs.Prelude.{ℕ, ◌+◌, List, [], ◌∷◌, ◌++◌, Bool, true, false, ◌||◌, if◌then◌else◌, nat_eq, nat_le, Option, Some, None}
 use Rattle.ix_bits.specs.declared.operator.BinOp.{BinOp}
 use Rattle.ix_bits.specs.declared.operator.BinOp.TheVariants as B
 use Rattle.ix_bits.specs.declared.operator.UnOp.{UnOp}
@@ -17,9 +15,9 @@ use Rattle.ix_tree.specs.declared.expr.TypeKind.TheVariants as T
 use Rattle.ix_tree.specs.declared.expr.CastTo.{CastTo}
 use Rattle.ix_tree.specs.declared.expr.CastTo.TheVariants as C
 use Rattle.ix_tree.specs.declared.section.PieceText.{PieceText}
-use Rattle.ix_tree.specs.Tokens.{instruction_set, extends_word, rv32i_word, architectural_state, instructions_word, always_word, register_word, const_word, encoding_word, assembly_word, behavior_word, signed_word, unsigned_word, int_word, bool_word, if_word, else_word, for_word, spawn_word, pc_word, x_word, mem_word, true_word, false_word, open_brace, close_brace, open_square, close_square, open_round, close_round, semicolon, comma, colon, double_colon, equals, plus_plus, minus_minus, question, less, greater, minus, tilde, bang}
+use Rattle.ix_tree.specs.Tokens.{instruction_set, extends_word, rv32i_word, architectural_state, instructions_word, always_word, register_word, const_word, encoding_word, assembly_word, behavior_word, signed_word, unsigned_word, int_word, bool_word, if_word, else_word, for_word, spawn_word, open_brace, close_brace, open_square, close_square, open_round, close_round, semicolon, comma, colon, double_colon, equals, plus_plus, minus_minus, less, greater, minus, tilde, bang}
 use Rattle.ix_tree.specs.Trees.{ExprTree, e_literal, e_name, e_pc, e_x, e_mem, Place, AssignTree, DeclTree, StmtTree, StateTree, InstrTree, BlockTree, SectionTree, k_states, k_instructions, k_always, TextTree, power, before, Part, span, p_primary, p_unary, p_cast, p_binary, p_round, p_index, p_range, p_choose}
-use Rattle.ix_tree.specs.Productions.{bit_type, one_bit, zero_bit, type_text, place_name, place_pc, place_x, place_mem, place_mem_range, assign_set, assign_before, assign_after, decl, Done, d_block, d_empty, d_locals, d_assign, d_if, d_if_else, d_for, d_spawn, fixed_piece, field_piece, register_tree, table_tree, instr_tree, always_tree, section_tree, text_tree}
+use Rattle.ix_tree.specs.Productions.{bit_type, one_bit, zero_bit, type_text, place_name, place_pc, place_x, place_mem, place_mem_range, assign_set, assign_before, assign_after, decl, Done, d_block, d_empty, d_locals, d_assign, d_if, d_if_else, d_for, d_spawn, fixed_piece, field_piece, register_tree, table_tree, instr_tree, section_tree, text_tree}
 
 -- ---- what was read of an open section, state or instruction
 -- the text so far: its first token, its name and its whole sections, and the word of the open section

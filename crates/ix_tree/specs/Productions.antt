@@ -1,16 +1,15 @@
 -- What each production of types, places, statements and sections makes of its parts.
-use Rattle.std.specs.Prelude.{◌≡◌, ℕ, List, [], ◌∷◌, Option, Some, None, true, false}
+use Rattle.std.specs.Prelude.{ℕ, List, [], ◌∷◌, Option, Some, None, false}
 use Rattle.std.proofs.Common.{lit≤, lit<}
 use Rattle.ix_bits.specs.declared.number.Ty.{Ty}
 use Rattle.ix_bits.specs.declared.number.Bits.{Bits}
 use Rattle.ix_bits.specs.declared.operator.BinOp.{BinOp}
-use Rattle.ix_tree.specs.declared.token.Span.{Span}
 use Rattle.ix_tree.specs.declared.token.Token.{Token}
 use Rattle.ix_tree.specs.declared.expr.TypeText.{TypeText}
 use Rattle.ix_tree.specs.declared.expr.TypeKind.{TypeKind}
 use Rattle.ix_tree.specs.declared.section.PieceText.{PieceText}
 use Rattle.ix_tree.specs.declared.section.PieceKind.TheVariants.{Fixed, Field}
-use Rattle.ix_tree.specs.Trees.{ExprTree, e_literal, LvalueTree, l_name, l_pc, l_x, l_mem, Place, AssignTree, DeclTree, StmtTree, s_block, s_empty, s_locals, s_assign, s_if, s_if_else, s_for, s_spawn, StmtRow, row_end, row_more, StateTree, k_register, k_table, InstrTree, BlockTree, SectionTree, SectionKindTree, TextTree, Part, span, between}
+use Rattle.ix_tree.specs.Trees.{ExprTree, e_literal, l_name, l_pc, l_x, l_mem, Place, AssignTree, DeclTree, StmtTree, s_block, s_empty, s_locals, s_assign, s_if, s_if_else, s_for, s_spawn, StmtRow, row_end, row_more, StateTree, k_register, k_table, InstrTree, BlockTree, SectionTree, SectionKindTree, TextTree, Part, span, between}
 
 -- ---- truth values and the 1 of `++` and `--`
 abbrev pub bit_type : Ty

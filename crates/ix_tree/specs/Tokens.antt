@@ -1,8 +1,7 @@
 -- The reserved words and the symbols, and the kinds of token that they are (this project's profile of CoreDSL 2).
-use Rattle.std.specs.Prelude.{◌≡◌, ℕ, List, [], ◌∷◌, codes}
-use Rattle.ix_tree.specs.declared.token.Token.{Token}
+use Rattle.std.specs.Prelude.{ℕ, List, [], ◌∷◌, codes}
 use Rattle.ix_tree.specs.declared.token.TokenKind.{TokenKind}
-use Rattle.ix_tree.specs.declared.token.TokenKind.TheVariants.{Name, Text, Unsized, Sized, Word, Symbol}
+use Rattle.ix_tree.specs.declared.token.TokenKind.TheVariants.{Word, Symbol}
 
 -- the reserved words, in the order of their numbers
 abbrev pub words : List (List ℕ)

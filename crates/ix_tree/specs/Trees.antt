@@ -1,21 +1,17 @@
 -- Trees without where they lie in memory, and what each production makes of its parts.
-use Rattle.std.specs.Prelude.{◌≡◌, ℕ, ◌+◌, ◌≤◌, ◌<◌, ◌^◌, ◌-◌, List, [], ◌∷◌, Option, Some, None, Bool, true, false, if◌then◌else◌, nat_eq, slice_index_or}
-use Rattle.std.proofs.Common.{lit≤, lit<}
+use Rattle.std.specs.Prelude.{ℕ, ◌+◌, ◌-◌, List, [], ◌∷◌, Option, if◌then◌else◌, nat_eq, slice_index_or}
 use Rattle.ix_bits.specs.declared.number.Ty.{Ty}
 use Rattle.ix_bits.specs.declared.number.Bits.{Bits}
 use Rattle.ix_bits.specs.declared.operator.BinOp.{BinOp}
 use Rattle.ix_bits.specs.declared.operator.BinOp.TheVariants as B
 use Rattle.ix_bits.specs.declared.operator.UnOp.{UnOp}
-use Rattle.ix_bits.specs.declared.operator.UnOp.TheVariants as U
 use Rattle.ix_tree.specs.declared.token.Span.{Span}
 use Rattle.ix_tree.specs.declared.token.Token.{Token}
 use Rattle.ix_tree.specs.declared.token.TokenKind.{TokenKind}
 use Rattle.ix_tree.specs.declared.token.TokenKind.TheVariants.{Symbol}
 use Rattle.ix_tree.specs.declared.expr.TypeText.{TypeText}
-use Rattle.ix_tree.specs.declared.expr.TypeKind.{TypeKind}
 use Rattle.ix_tree.specs.declared.expr.CastTo.{CastTo}
 use Rattle.ix_tree.specs.declared.section.PieceText.{PieceText}
-use Rattle.ix_tree.specs.declared.section.PieceKind.{PieceKind}
 
 -- ---- trees
 pub data ExprTree : Type 0 where
@@ -161,7 +157,7 @@ p_binary x t y =
       to = y.to;
       tree = e_binary (span x.from y.to) (operator_of t.kind) x.tree y.tree;
       chain = power t.kind;
-      count = before (power t.kind) x + 1
+      count = before (power t.kind) x + 1;
     }
 
 abbrev pub p_round : Token → Part → Token → Part

@@ -6,12 +6,14 @@ mod extension;
 mod grammar;
 mod section;
 mod stmt;
+#[cfg(test)]
+mod tests;
 mod token;
 mod typed;
 
 pub use expr::{CastTo, Expr, ExprKind, TypeKind, TypeText};
 pub use extension::{Behaviour, Extension, Instruction, Piece, Register, Table};
-pub use grammar::grammar_laws;
+pub use grammar::{grammar_laws, table_laws};
 pub use section::{
     BlockText, Instr, PieceKind, PieceText, Section, SectionKind, State, StateKind, Tree,
 };
