@@ -5,3 +5,4 @@ pub mod Sections
 pub mod Unique
 pub mod Lexemes
 pub mod Parts
+pub mod Derived

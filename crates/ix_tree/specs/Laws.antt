@@ -4,6 +4,7 @@ use Rattle.ix_tree.specs.declared.token.Token.{Token}
 use Rattle.ix_tree.specs.Trees.{TextTree}
 use Rattle.ix_tree.specs.Grammar.{IsText, Derives}
 use Rattle.ix_tree.specs.Lexing.{Lexes}
+use Rattle.ix_tree.specs.Example.{two_ifs, two_ifs_tree}
 
 -- no list of tokens derives two trees
 abbrev pub TreeLaw : Type 0
@@ -16,3 +17,7 @@ NestingLaw = (tokens : List Token) (ms ns : List ℕ) (x y : TextTree) → IsTex
 -- no bytes have two lists of tokens
 abbrev pub LexingLaw : Type 0
 LexingLaw = (bytes : List ℕ) (xs ys : List Token) → Lexes bytes xs → Lexes bytes ys → xs ≡ ys
+
+-- the example derives its tree
+abbrev pub ExampleLaw : Type 0
+ExampleLaw = Derives two_ifs two_ifs_tree

@@ -6,3 +6,4 @@ pub mod Machine
 pub mod Lexing
 pub mod Laws
 pub mod View
+pub mod Example

@@ -1,6 +1,6 @@
 ghost use Rattle.std.specs.Prelude.{◌≡◌, map};
 ghost use Rattle.ix_tree.specs.Tokens.{words, symbols};
-ghost use Rattle.ix_tree.specs.Laws.{TreeLaw, NestingLaw, LexingLaw};
+ghost use Rattle.ix_tree.specs.Laws.{TreeLaw, NestingLaw, LexingLaw, ExampleLaw};
 
 use crate::{SYMBOLS, WORDS};
 
@@ -9,6 +9,7 @@ pub fn grammar_laws()
     ensures tree { TreeLaw }
     ensures nesting { NestingLaw }
     ensures lexing { LexingLaw }
+    ensures example { ExampleLaw }
 {}
 
 /// The tables of the code are those of the grammar. It does nothing: its contract is what it is for.
