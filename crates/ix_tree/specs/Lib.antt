@@ -1,0 +1,9 @@
+pub mod Tokens
+pub mod Trees
+pub mod Productions
+pub mod Grammar
+pub mod Machine
+pub mod Lexing
+pub mod Laws
+pub mod View
+pub mod Example
