@@ -19,6 +19,7 @@ between low high b h = (left (nat_le low b) refl h, right (nat_le low b) h) wher
   left : (p : Bool) → nat_le low b ≡ p → (p && nat_le b high) ≡ true → low ≤ b
   left true q e = grind (arith, nat_tests)
   left false q e = cc
+
   right : (p : Bool) → (p && nat_le b high) ≡ true → b ≤ high
   right true e = grind (arith, nat_tests)
   right false e = cc
@@ -27,7 +28,7 @@ between low high b h = (left (nat_le low b) refl h, right (nat_le low b) h) wher
 pub hex_below : (b d : ℕ) → hex_value b ≡ Some d → d < 16
 hex_below b d h = by_case (nat_le 48 b && nat_le b 57) refl (nat_le 65 b && nat_le b 70) refl (nat_le 97 b && nat_le b 102) refl h where
   by_case : (p : Bool) → (nat_le 48 b && nat_le b 57) ≡ p → (q : Bool) → (nat_le 65 b && nat_le b 70) ≡ q → (r : Bool) → (nat_le 97 b && nat_le b 102) ≡ r
-    → (if p then Some (b - 48) else if q then Some (b - 55) else if r then Some (b - 87) else None) ≡ Some d → d < 16
+      → (if p then Some (b - 48) else if q then Some (b - 55) else if r then Some (b - 87) else None) ≡ Some d → d < 16
   by_case true p q u r v e = let x = between 48 57 b p in let y : b - 48 ≡ d = cc in omega (arith, x.0, x.1, y)
   by_case false p true u r v e = let x = between 65 70 b u in let y : b - 55 ≡ d = cc in omega (arith, x.0, x.1, y)
   by_case false p false u true v e = let x = between 97 102 b v in let y : b - 87 ≡ d = cc in omega (arith, x.0, x.1, y)
@@ -55,18 +56,18 @@ AllBuilt-push (y ∷ xs) x h g = (h.0, AllBuilt-push xs x h.1 g)
 pub image_not_refused : (bytes words : List ℕ) (number : ℕ) → IsImageText bytes words → IsBadLine bytes number → ⊥
 image_not_refused bytes words number image bad =
     elim bad.refused [
-      inl is_bad ↦ good_at bad.before bad.line bad.behind (subst AllGood bad.parts image.good) is_bad
-    | inr w ↦
-        let e : words ≡ words_in bad.before ++ words_in (bad.line ∷ bad.behind) = image.words_are ∙ ap words_in bad.parts ∙ words_in-append bad.before (bad.line ∷ bad.behind) in
-        let l = ap length e ∙ length-append (words_in bad.before) (words_in (bad.line ∷ bad.behind)) in
-        let one : words_in (bad.line ∷ bad.behind) ≡ w.0 ∷ words_in bad.behind = ap (λ k. with_word k (words_in bad.behind)) w.1 in
-        let m = ap length one in
-        let few = image.few in
-        absurd (omega (arith, l, m, few, w.2))
+      | inl is_bad ↦ good_at bad.before bad.line bad.behind (subst AllGood bad.parts image.good) is_bad
+      | inr w ↦
+          let e : words ≡ words_in bad.before ++ words_in (bad.line ∷ bad.behind) = image.words_are ∙ ap words_in bad.parts ∙ words_in-append bad.before (bad.line ∷ bad.behind) in
+          let l = ap length e ∙ length-append (words_in bad.before) (words_in (bad.line ∷ bad.behind)) in
+          let one : words_in (bad.line ∷ bad.behind) ≡ w.0 ∷ words_in bad.behind = ap (λ k. with_word k (words_in bad.behind)) w.1 in
+          let m = ap length one in
+          let few = image.few in
+          absurd (omega (arith, l, m, few, w.2))
     ] where
-  good_at : (before : List (List ℕ)) (line : List ℕ) (behind : List (List ℕ)) → AllGood (before ++ line ∷ behind) → line_of line ≡ Bad → ⊥
-  good_at [] line behind h e = h.0 e
-  good_at (x ∷ before) line behind h e = good_at before line behind h.1 e
+      good_at : (before : List (List ℕ)) (line : List ℕ) (behind : List (List ℕ)) → AllGood (before ++ line ∷ behind) → line_of line ≡ Bad → ⊥
+      good_at [] line behind h e = h.0 e
+      good_at (x ∷ before) line behind h e = good_at before line behind h.1 e
 
 -- an image of built words has no line that is not
 pub built_not_refused : (bytes words : List ℕ) (number : ℕ) → words ≡ words_in (lines_of bytes) → AllBuilt words → IsUnbuiltLine bytes number → ⊥
@@ -74,9 +75,9 @@ built_not_refused bytes words number e built line =
     let w : words ≡ words_in line.before ++ words_in (line.line ∷ line.behind) = e ∙ ap words_in line.parts ∙ words_in-append line.before (line.line ∷ line.behind) in
     let one : words_in (line.line ∷ line.behind) ≡ line.word ∷ words_in line.behind = ap (λ k. with_word k (words_in line.behind)) line.is_word in
     built_at (words_in line.before) line.word (words_in line.behind) (subst AllBuilt (w ∙ ap (λ l. words_in line.before ++ l) one) built) line.unbuilt where
-  built_at : (before : List ℕ) (word : ℕ) (behind : List ℕ) → AllBuilt (before ++ word ∷ behind) → instruction_of word ≡ None → ⊥
-  built_at [] word behind h e = h.0 e
-  built_at (x ∷ before) word behind h e = built_at before word behind h.1 e
+      built_at : (before : List ℕ) (word : ℕ) (behind : List ℕ) → AllBuilt (before ++ word ∷ behind) → instruction_of word ≡ None → ⊥
+      built_at [] word behind h e = h.0 e
+      built_at (x ∷ before) word behind h e = built_at before word behind h.1 e
 
 -- The loops over the lines
 
@@ -124,9 +125,9 @@ number_fits bytes i line few h n =
     let lt = slice_get_within (lines_of bytes) i line h in
     let t : length (take i (lines_of bytes)) ≡ i = length-take i (lines_of bytes) ∙ omega (arith, lt) in
     omega (arith, j, e, b, t, some line n) where
-  some : (l : List ℕ) → (line_of l ≡ Skipped → ⊥) → 0 < length l
-  some [] f = absurd (f refl)
-  some (x ∷ l) f = omega arith
+      some : (l : List ℕ) → (line_of l ≡ Skipped → ⊥) → 0 < length l
+      some [] f = absurd (f refl)
+      some (x ∷ l) f = omega arith
 
 pub bad_line : (bytes words : List ℕ) (i number : ℕ) (line : List ℕ) → slice_get (lines_of bytes) i ≡ Some line → number ≡ i + 1 → AllGood (take i (lines_of bytes)) → words ≡ words_in (take i (lines_of bytes)) → length words ≤ 65536 → (line_of line ≡ Bad) ⊎ ((word : ℕ) × (line_of line ≡ Word word) × (length words ≡ 65536)) → IsBadLine bytes number
 bad_line bytes words i number line h e g w few why =

@@ -11,7 +11,9 @@ pub mod row_text;
 pub mod running;
 pub mod sequential;
 pub mod stages;
-pub mod step;
 pub mod status;
+pub mod step;
+#[cfg(test)]
+mod tests;
 pub mod tool;
 pub mod trace;

@@ -50,7 +50,12 @@ fn make_room<S: Sink>(out: &mut Out, sink: &mut S) -> Result<(), WriteErr>
 }
 
 /// Writes the lines of the rows, but for what stays in the buffer.
-fn write_rows<S: Sink>(trace: &Trace, shape: Shape, out: &mut Out, sink: &mut S) -> Result<(), WriteErr>
+fn write_rows<S: Sink>(
+    trace: &Trace,
+    shape: Shape,
+    out: &mut Out,
+    sink: &mut S,
+) -> Result<(), WriteErr>
     requires empty { out.old ≡ [] }
     requires shape { shape.stages ≡ 3 }
     ensures sent { OnOk result (Sends (S.written sink.old) (S.written sink.new) (trace_text 3 0 trace.now.rows) out.new) }
@@ -83,7 +88,12 @@ fn write_state<S: Sink>(arch: &Arch, out: &mut Out, sink: &mut S) -> Result<(), 
 }
 
 /// Writes the lines of the rows and of the state.
-fn write_run<S: Sink>(trace: &Trace, arch: &Arch, out: &mut Out, sink: &mut S) -> Result<(), WriteErr>
+fn write_run<S: Sink>(
+    trace: &Trace,
+    arch: &Arch,
+    out: &mut Out,
+    sink: &mut S,
+) -> Result<(), WriteErr>
     requires { out.old ≡ [] }
     ensures whole { OnOk result (Appends (S.written sink.old) (S.written sink.new) (trace_text 3 0 trace.now.rows ++ state_text arch.now)) }
     ensures front { OnErr result (AppendsFront (S.written sink.old) (S.written sink.new) (trace_text 3 0 trace.now.rows ++ state_text arch.now)) }

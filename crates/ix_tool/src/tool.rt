@@ -24,7 +24,13 @@ fn finish<S: Sink>(sink: &mut S, status: Status, bytes: &[u8]) -> Status
 }
 
 /// Refuses a file.
-fn refuse_file<S: Sink>(alloc: Global, sink: &mut S, status: Status, kind: &str, name: &str) -> Status
+fn refuse_file<S: Sink>(
+    alloc: Global,
+    sink: &mut S,
+    status: Status,
+    kind: &str,
+    name: &str,
+) -> Status
     ensures { WritesOrNot status (file_line kind.now name.now) (S.written sink.old) (S.written sink.new) (S.faults sink.old) (S.faults sink.new) result }
 {
     match format!(in alloc; "refused {kind} {name}\n") {
@@ -62,7 +68,13 @@ fn run_file<S: Sink>(alloc: Global, file: &[u8], cycles: u32, sink: &mut S) -> S
 }
 
 /// Runs the image of this name.
-fn run_command<F: Shelf, S: Sink>(alloc: Global, image: &str, cycles: u32, shelf: &mut F, sink: &mut S) -> Status
+fn run_command<F: Shelf, S: Sink>(
+    alloc: Global,
+    image: &str,
+    cycles: u32,
+    shelf: &mut F,
+    sink: &mut S,
+) -> Status
     ensures { CommandOutcome image.now cycles (told_file (F.files shelf.old) image.now) (F.faults shelf.old) (F.faults shelf.new) (S.written sink.old) (S.written sink.new) (S.faults sink.old) (S.faults sink.new) result }
 {
     match read_all(alloc, shelf, image) {
@@ -74,7 +86,12 @@ fn run_command<F: Shelf, S: Sink>(alloc: Global, image: &str, cycles: u32, shelf
 }
 
 /// What the tool does on these words, in one relation.
-fn run_words<F: Shelf, S: Sink>(alloc: Global, words: &[String], shelf: &mut F, sink: &mut S) -> Status
+fn run_words<F: Shelf, S: Sink>(
+    alloc: Global,
+    words: &[String],
+    shelf: &mut F,
+    sink: &mut S,
+) -> Status
     ensures { OutcomeOf (command_of (bytes_of words.now)) (F.files shelf.old) (F.faults shelf.old) (F.faults shelf.new) (S.written sink.old) (S.written sink.new) (S.faults sink.old) (S.faults sink.new) result }
 {
     match parse(words) {
@@ -88,7 +105,12 @@ fn run_words<F: Shelf, S: Sink>(alloc: Global, words: &[String], shelf: &mut F, 
 /// `run IMAGE CYCLES` writes the trace and the state of a run on the core of three stages: at most 200,000 cycles over an
 /// image of at most 1,048,576 bytes and 65,536 words. A refusal writes its one line alone; want of memory writes nothing,
 /// and comes before the first cycle.
-pub fn run_tool<F: Shelf, S: Sink>(alloc: Global, words: &[String], shelf: &mut F, sink: &mut S) -> Status
+pub fn run_tool<F: Shelf, S: Sink>(
+    alloc: Global,
+    words: &[String],
+    shelf: &mut F,
+    sink: &mut S,
+) -> Status
     // The bytes that were written are the text of one list of rows. These are lawful, what they retire is a prefix of the
     // sequential run with its states and its stop, and no more rows than the bound pass without a retirement.
     ensures headline { result ≡ Status.Ok → told_of (F.files shelf.old) (bytes_of words.now) ≢ None
@@ -100,7 +122,7 @@ pub fn run_tool<F: Shelf, S: Sink>(alloc: Global, words: &[String], shelf: &mut 
         → ReadFaultAnswer (bytes_of words.now) (F.faults shelf.old) (F.faults shelf.new) (S.written sink.old) (S.written sink.new) }
     ensures write_fault { result ≡ Status.WriteFault
         → WriteFaultAnswer (bytes_of words.now) (told_of (F.files shelf.old) (bytes_of words.now)) (F.faults shelf.old) (F.faults shelf.new)
-            (S.written sink.old) (S.written sink.new) (S.faults sink.old) (S.faults sink.new) }
+        (S.written sink.old) (S.written sink.new) (S.faults sink.old) (S.faults sink.new) }
     ensures too_long { result ≡ Status.TooLong
         → TooLongAnswer (bytes_of words.now) (told_of (F.files shelf.old) (bytes_of words.now)) (S.written sink.old) (S.written sink.new) }
     ensures image { result ≡ Status.Image → told_of (F.files shelf.old) (bytes_of words.now) ≢ None
@@ -115,7 +137,7 @@ pub fn run_tool<F: Shelf, S: Sink>(alloc: Global, words: &[String], shelf: &mut 
 
     // The command is complete.
     ensures complete { RunPremises (bytes_of words.now) (told_of (F.files shelf.old) (bytes_of words.now)) (F.faults shelf.old) (F.faults shelf.new)
-            (S.faults sink.old) (S.faults sink.new)
+        (S.faults sink.old) (S.faults sink.new)
         → RunsOrNot (bytes_of words.now) (told_of (F.files shelf.old) (bytes_of words.now)) (S.written sink.old) (S.written sink.new) result }
 {
     run_words(alloc, words, shelf, sink)

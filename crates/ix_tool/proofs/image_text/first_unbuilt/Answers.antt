@@ -28,5 +28,5 @@ loop-i-preserved c =
     record {
       lines_are = c.loop-i.invariant.lines_are;
       built = built_next (lines_of c.args.bytes.now) c.loop-i.i (get_or c.deref-line-items.result.now c.loop-i.i none_line).now at c.loop-i.invariant.built
-        (elim c.match-line_of.branch [ in-Word+else-is_none w ↦ (λ word e n. let same : w.in-Word.word ≡ word = cc (w.in-Word.ensures, e) in cc (ap (λ v. is_some (instruction_of v)) same, ap (λ o. is_some o) n, w.if-is_none.ensures, ap (λ o. is_some o) w.instruction_of.ensures)) | in_default w ↦ (λ word e n. absurd (w.in_default.not-Word word (c.line_of.ensures ∙ e))) ]);
+          (elim c.match-line_of.branch [ in-Word+else-is_none w ↦ (λ word e n. let same : w.in-Word.word ≡ word = cc (w.in-Word.ensures, e) in cc (ap (λ v. is_some (instruction_of v)) same, ap (λ o. is_some o) n, w.if-is_none.ensures, ap (λ o. is_some o) w.instruction_of.ensures)) | in_default w ↦ (λ word e n. absurd (w.in_default.not-Word word (c.line_of.ensures ∙ e))) ]);
     }

@@ -28,13 +28,13 @@ pub returns-then-len-eq65536-clause-refused : goal.returns-then-len-eq65536-clau
 returns-then-len-eq65536-clause-refused c =
     let at = line_at c.deref-line-items.result.now (lines_of c.args.bytes.now) c.loop-i.i none_line c.loop-i.invariant.lines_are (omega (arith, c.loop-i-test.true, c.loop-i.auto.i-end)) in
     bad_line c.args.bytes.now c.loop-i.image c.loop-i.i (c.loop-i.i + 1) (get_or c.deref-line-items.result.now c.loop-i.i none_line).now at refl c.loop-i.invariant.good c.loop-i.invariant.words c.loop-i.invariant.few
-      (inr (c.in-Word.word, sym c.in-Word.ensures, omega (arith, c.len.ensures.value, c.if-len-eq65536.true)))
+    (inr (c.in-Word.word, sym c.in-Word.ensures, omega (arith, c.len.ensures.value, c.if-len-eq65536.true)))
 
 pub returns-in-Bad-clause-refused : goal.returns-in-Bad-clause-refused
 returns-in-Bad-clause-refused c =
     let at = line_at c.deref-line-items.result.now (lines_of c.args.bytes.now) c.loop-i.i none_line c.loop-i.invariant.lines_are (omega (arith, c.loop-i-test.true, c.loop-i.auto.i-end)) in
     bad_line c.args.bytes.now c.loop-i.image c.loop-i.i (c.loop-i.i + 1) (get_or c.deref-line-items.result.now c.loop-i.i none_line).now at refl c.loop-i.invariant.good c.loop-i.invariant.words c.loop-i.invariant.few
-      (inl (sym c.in-Bad.ensures))
+    (inl (sym c.in-Bad.ensures))
 
 -- what a line adds to the words
 skipped : (image all : List ℕ) (line : List ℕ) → image ≡ all → line_of line ≡ Skipped → image ≡ all ++ with_word (line_of line) []
@@ -44,23 +44,23 @@ pub loop-i-preserved : goal.loop-i-preserved
 loop-i-preserved c =
     let at = line_at c.deref-line-items.result.now (lines_of c.args.bytes.now) c.loop-i.i none_line c.loop-i.invariant.lines_are (omega (arith, c.loop-i-test.true, c.loop-i.auto.i-end)) in
     elim c.match-line_of.branch [
-      in-Skipped w ↦ record {
+      | in-Skipped w ↦ record {
         lines_are = c.loop-i.invariant.lines_are;
         good = good_next (lines_of c.args.bytes.now) c.loop-i.i (get_or c.deref-line-items.result.now c.loop-i.i none_line).now at c.loop-i.invariant.good (λ e. cc (w.in-Skipped.ensures, e));
         words = w.image-is
-          ∙ skipped c.loop-i.image (words_in (take c.loop-i.i (lines_of c.args.bytes.now))) (get_or c.deref-line-items.result.now c.loop-i.i none_line).now c.loop-i.invariant.words (sym w.in-Skipped.ensures)
-          ∙ sym (words_next (lines_of c.args.bytes.now) c.loop-i.i (get_or c.deref-line-items.result.now c.loop-i.i none_line).now at);
+            ∙ skipped c.loop-i.image (words_in (take c.loop-i.i (lines_of c.args.bytes.now))) (get_or c.deref-line-items.result.now c.loop-i.i none_line).now c.loop-i.invariant.words (sym w.in-Skipped.ensures)
+            ∙ sym (words_next (lines_of c.args.bytes.now) c.loop-i.i (get_or c.deref-line-items.result.now c.loop-i.i none_line).now at);
         few = omega (arith, ap length w.image-is, c.loop-i.invariant.few);
       }
-    | in-Word+else-len-eq65536+else-is_err w ↦
-        let pushed = w.image-is ∙ on_ok w.push.result w.push.ensures.ok w.if-is_err.ensures.negation in
-        record {
-          lines_are = c.loop-i.invariant.lines_are;
-          good = good_next (lines_of c.args.bytes.now) c.loop-i.i (get_or c.deref-line-items.result.now c.loop-i.i none_line).now at c.loop-i.invariant.good (λ e. cc (w.in-Word.ensures, e));
-          words = pushed
-            ∙ ap (λ l. l ++ w.in-Word.word ∷ []) c.loop-i.invariant.words
-            ∙ ap (λ k. words_in (take c.loop-i.i (lines_of c.args.bytes.now)) ++ with_word k []) w.in-Word.ensures
-            ∙ sym (words_next (lines_of c.args.bytes.now) c.loop-i.i (get_or c.deref-line-items.result.now c.loop-i.i none_line).now at);
-          few = let l = ap length pushed ∙ length-append c.loop-i.image (w.in-Word.word ∷ []) in omega (arith, l, c.loop-i.invariant.few, w.len.ensures.value, w.if-len-eq65536.false);
-        }
+      | in-Word+else-len-eq65536+else-is_err w ↦
+          let pushed = w.image-is ∙ on_ok w.push.result w.push.ensures.ok w.if-is_err.ensures.negation in
+          record {
+            lines_are = c.loop-i.invariant.lines_are;
+            good = good_next (lines_of c.args.bytes.now) c.loop-i.i (get_or c.deref-line-items.result.now c.loop-i.i none_line).now at c.loop-i.invariant.good (λ e. cc (w.in-Word.ensures, e));
+            words = pushed
+                ∙ ap (λ l. l ++ w.in-Word.word ∷ []) c.loop-i.invariant.words
+                ∙ ap (λ k. words_in (take c.loop-i.i (lines_of c.args.bytes.now)) ++ with_word k []) w.in-Word.ensures
+                ∙ sym (words_next (lines_of c.args.bytes.now) c.loop-i.i (get_or c.deref-line-items.result.now c.loop-i.i none_line).now at);
+            few = let l = ap length pushed ∙ length-append c.loop-i.image (w.in-Word.word ∷ []) in omega (arith, l, c.loop-i.invariant.few, w.len.ensures.value, w.if-len-eq65536.false);
+          }
     ]

@@ -16,8 +16,8 @@ pub returns-in-Err-clause-front : goal.returns-in-Err-clause-front
 returns-in-Err-clause-front g c =
     front_of_rows (g.S.Sink.written c.args.sink.now) (g.S.Sink.written c.make_room.new.sink) 3 c.loop-k.k c.args.trace.now.rows
     (subst (λ l. AppendsFront (g.S.Sink.written c.args.sink.now) (g.S.Sink.written c.make_room.new.sink) l) (append-nil (trace_text 3 0 (take c.loop-k.k c.args.trace.now.rows)))
-      (sends_front (g.S.Sink.written c.args.sink.now) (g.S.Sink.written c.loop-k.sink) (g.S.Sink.written c.make_room.new.sink) (trace_text 3 0 (take c.loop-k.k c.args.trace.now.rows)) c.loop-k.out [] c.loop-k.invariant.sent
-        (subst (λ l. AppendsFront (g.S.Sink.written c.loop-k.sink) (g.S.Sink.written c.make_room.new.sink) l) (sym (append-nil c.loop-k.out)) c.in-Err.ensures.front)))
+    (sends_front (g.S.Sink.written c.args.sink.now) (g.S.Sink.written c.loop-k.sink) (g.S.Sink.written c.make_room.new.sink) (trace_text 3 0 (take c.loop-k.k c.args.trace.now.rows)) c.loop-k.out [] c.loop-k.invariant.sent
+    (subst (λ l. AppendsFront (g.S.Sink.written c.loop-k.sink) (g.S.Sink.written c.make_room.new.sink) l) (sym (append-nil c.loop-k.out)) c.in-Err.ensures.front)))
 
 pub loop-k-preserved : goal.loop-k-preserved
 loop-k-preserved g c =
