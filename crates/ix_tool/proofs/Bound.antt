@@ -1,15 +1,14 @@
 -- Not many rows pass without a retirement: the oldest token comes nearer in each.
-use Rattle.std.proofs.Common.{◌≡◌, ℕ, zero, suc, ◌+◌, ◌<◌, ◌≤◌, List, [], ◌∷◌, length, Option, Some, None, Bool, true, false, refl, sym, ap, ◌∙◌, subst, arith, ◌⊎◌, inl, inr}
-use Rattle.std.specs.Prelude.{◌&&◌, ◌||◌, not, if◌then◌else◌, ◌==◌, is_some, is_none, min, max}
+use Rattle.std.proofs.Common.{◌≡◌, ℕ, zero, suc, ◌<◌, ◌≤◌, List, [], ◌∷◌, length, Option, Some, None, Bool, true, false, refl, ap, ◌∙◌, subst, arith, ◌⊎◌, inl, inr}
+use Rattle.std.specs.Prelude.{◌&&◌, if◌then◌else◌, ◌==◌, is_some, min, max}
 use Rattle.ix_tool.specs.declared.trace.Hold.{Hold}
-use Rattle.ix_tool.specs.declared.trace.Hold.TheVariants.{Behind}
 use Rattle.ix_tool.specs.declared.sequential.Instruction.{Instruction}
 use Rattle.ix_tool.specs.declared.sequential.Instruction.TheVariants.{AddImmediate, Add, Break}
 use Rattle.ix_tool.specs.declared.stages.Token.{Token}
 use Rattle.ix_tool.specs.Instructions.{instruction_of}
 use Rattle.ix_tool.specs.Trace.{Setting}
-use Rattle.ix_tool.specs.PlainMachine.{Slots, or_else, writer, waits_for, operand_hold, word_stop, staying, drain, own_hold, stops_now, is_blocked, shown, decided, new_token, fill_first, gone, going, kept, advanced, leaving, remains, fetch_after, first_slot}
-use Rattle.ix_tool.specs.Placed.{one_more, count, first_of_two, here, to_go, rank}
+use Rattle.ix_tool.specs.PlainMachine.{Slots, or_else, writer, waits_for, operand_hold, word_stop, staying, stops_now, is_blocked, shown, decided, fill_first, gone, going, advanced, leaving, remains, fetch_after}
+use Rattle.ix_tool.specs.Placed.{first_of_two, here, to_go, rank}
 use Rattle.ix_tool.proofs.Tokens.{Decided, NoStops, decided_tail, no_stops_tail, decided_length, advanced_length}
 
 zero_left : (n : ℕ) → first_of_two n 0 ≡ 0 → n ≡ 0

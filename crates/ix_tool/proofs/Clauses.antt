@@ -1,5 +1,5 @@
 -- The clauses of the tool, from what it does.
-use Rattle.std.proofs.Common.{◌≡◌, ◌≢◌, ℕ, ◌<◌, ◌≤◌, List, length, Option, Some, None, refl, sym, ap, ◌∙◌, subst, ◌⊎◌, inl, inr}
+use Rattle.std.proofs.Common.{◌≡◌, ◌≢◌, ℕ, ◌<◌, List, length, Option, Some, None, refl, sym, ◌∙◌, subst, ◌⊎◌, inl, inr}
 use Rattle.std.specs.Prelude.{IfSome, codes}
 use native.Mathlib.Omega.{arith}
 use Rattle.ix_io.specs.Faults.{Rose}
@@ -9,7 +9,7 @@ use Rattle.ix_tool.specs.declared.status.Status.{Status}
 use Rattle.ix_tool.specs.declared.status.Status.TheVariants.{Ok as ok_status, Usage, ReadFault, WriteFault, TooLong, Image, Memory}
 use Rattle.ix_tool.specs.ImageText.{IsImageText, IsBadLine, IsUnbuiltLine, AllBuilt}
 use Rattle.ix_tool.specs.CommandLine.{RunCommand, command_of}
-use Rattle.ix_tool.specs.CommandOutput.{Writes, IsRunOf, IsRunOutput, IsDue, due_usage, due_too_long, due_bad, due_unbuilt, due_run, IsDueOfFile, file_bad, file_unbuilt, file_run, IsOfFile, CommandOutcome, run_memory, run_due, run_too_long, run_read_fault, run_untold, OutcomeOf, told_of, file_of_command, file_line, image_line, WriteFaultAnswer, TooLongAnswer, ImageAnswer, RunAnswer, IsStatusOr, RunPremises, RunsOrNot}
+use Rattle.ix_tool.specs.CommandOutput.{Writes, IsRunOf, IsDue, due_usage, due_too_long, due_bad, due_unbuilt, due_run, IsDueOfFile, file_bad, file_unbuilt, file_run, IsOfFile, run_memory, run_due, run_too_long, run_read_fault, run_untold, OutcomeOf, told_of, file_of_command, file_line, image_line, WriteFaultAnswer, TooLongAnswer, ImageAnswer, RunAnswer, IsStatusOr, RunPremises, RunsOrNot}
 use Rattle.ix_tool.proofs.ImageLemmas.{image_not_refused, built_not_refused}
 
 -- what the tool did, by the answer that is due

@@ -1,15 +1,14 @@
 -- Stage 0 takes what is fetched.
-use Rattle.std.proofs.Common.{◌≡◌, ℕ, zero, suc, ◌+◌, ◌*◌, ◌%◌, ◌^◌, ◌<◌, ◌≤◌, List, [], ◌∷◌, drop, length, Option, Some, None, Bool, true, false, refl, sym, ap, ◌∙◌, subst, arith, add-zero, add-suc}
-use Rattle.std.specs.Prelude.{◌&&◌, ◌||◌, not, if◌then◌else◌, is_some, slice_get}
-use Rattle.ix_tool.specs.declared.trace.Cell.{Cell}
+use Rattle.std.proofs.Common.{◌≡◌, ℕ, suc, ◌+◌, ◌*◌, ◌%◌, ◌^◌, ◌<◌, ◌≤◌, List, [], ◌∷◌, length, Option, Some, None, Bool, true, false, refl, arith}
+use Rattle.std.specs.Prelude.{◌||◌, if◌then◌else◌, is_some, slice_get}
 use Rattle.ix_tool.specs.declared.trace.Row.{Row}
 use Rattle.ix_tool.specs.declared.stages.Token.{Token}
-use Rattle.ix_tool.specs.Trace.{Setting, stages_of, has_serial}
-use Rattle.ix_tool.specs.LawfulTrace.{Name, name_of, leaves, front, serial_after, address_after}
-use Rattle.ix_tool.specs.PlainMachine.{Slots, decided, with_hold, new_token, fill, fill_first, next_after, fetch_after, first_slot, cell_of, cells_of, kept, going, gone, advanced}
-use Rattle.ix_tool.specs.Placed.{one_more, count, tail, IsPlaced, IsPlacedSlot, Placed, IsShape}
+use Rattle.ix_tool.specs.Trace.{Setting}
+use Rattle.ix_tool.specs.LawfulTrace.{name_of, leaves, front, serial_after, address_after}
+use Rattle.ix_tool.specs.PlainMachine.{Slots, decided, new_token, fill_first, next_after, fetch_after, first_slot, cells_of, gone, advanced}
+use Rattle.ix_tool.specs.Placed.{one_more, count, tail, IsPlaced, Placed, IsShape}
 use Rattle.ix_tool.proofs.Tokens.{decided_count}
-use Rattle.ix_tool.proofs.Moving.{FlushesNone, token_name}
+use Rattle.ix_tool.proofs.Moving.{FlushesNone}
 
 new_placed : (k : Setting) (shape : IsShape k) (p serial at word : ℕ) → serial ≡ p → at ≡ 4 * p → slice_get k.image p ≡ Some word → IsPlaced k p 0 (new_token serial at word)
 new_placed k shape p serial at word e a w =

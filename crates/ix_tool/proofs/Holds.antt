@@ -1,6 +1,6 @@
 -- The holds that the machine decides are the first true ones.
-use Rattle.std.proofs.Common.{◌≡◌, ◌≢◌, ℕ, zero, suc, ◌+◌, ◌*◌, ◌%◌, ◌^◌, ◌<◌, ◌≤◌, List, [], ◌∷◌, drop, length, Option, Some, None, Bool, true, false, refl, sym, ap, ◌∙◌, subst, arith, add-zero, add-suc, ◌⊎◌, inl, inr}
-use Rattle.std.specs.Prelude.{◌&&◌, ◌||◌, not, if◌then◌else◌, ◌==◌, is_some, is_none, slice_get, slice_index, nat_lt, min, max}
+use Rattle.std.proofs.Common.{◌≡◌, ◌≢◌, ℕ, zero, suc, ◌+◌, ◌*◌, ◌<◌, ◌≤◌, List, [], ◌∷◌, drop, Option, Some, None, Bool, true, false, refl, sym, ap, ◌∙◌, subst, arith, add-zero, add-suc, ◌⊎◌, inl, inr}
+use Rattle.std.specs.Prelude.{◌&&◌, ◌||◌, not, if◌then◌else◌, ◌==◌, is_some, is_none, slice_get, nat_lt, min, max}
 use Rattle.std.proofs.lemmas.Bool.{cases_lt}
 use Rattle.std.proofs.lemmas.Bool.Decides.{nat_tests}
 use Rattle.ix_tool.specs.declared.trace.Cell.{Cell}
@@ -12,13 +12,13 @@ use Rattle.ix_tool.specs.declared.sequential.Instruction.TheVariants.{AddImmedia
 use Rattle.ix_tool.specs.declared.sequential.Stop.{Stop}
 use Rattle.ix_tool.specs.declared.stages.Token.{Token}
 use Rattle.ix_tool.specs.Instructions.{instruction_of}
-use Rattle.ix_tool.specs.SequentialRun.{run, step, answer_to, Stopped}
+use Rattle.ix_tool.specs.SequentialRun.{run, step, answer_to}
 use Rattle.ix_tool.specs.Trace.{Setting, stages_of, Stands, has_serial, is_flushed, is_retired, place, retirements}
-use Rattle.ix_tool.specs.LawfulTrace.{destination_of, reads_of, IsWordOf, IsOlder, IsDue, WaitsForOperand, WaitsToDrain, OwnHold, StopsRun, WaitsBehind, TrueHold, ComesFirst, ShowsHold, kind_of, register_of, serial_of}
-use Rattle.ix_tool.specs.PlainMachine.{Slots, or_else, writer, operand, waits_for, operand_hold, word_stop, drain, staying, own_hold, stops_now, is_blocked, shown, cell_of, cells_of}
-use Rattle.ix_tool.specs.Placed.{one_more, count, IsPlaced, IsPlacedSlot, Placed, IsShape}
+use Rattle.ix_tool.specs.LawfulTrace.{destination_of, reads_of, IsWordOf, IsOlder, IsDue, WaitsForOperand, WaitsToDrain, OwnHold, StopsRun, WaitsBehind, TrueHold, ComesFirst, ShowsHold}
+use Rattle.ix_tool.specs.PlainMachine.{Slots, or_else, writer, operand, waits_for, operand_hold, word_stop, drain, staying, own_hold, stops_now, is_blocked, shown, cells_of}
+use Rattle.ix_tool.specs.Placed.{one_more, count, Placed, IsShape}
 use Rattle.ix_tool.proofs.Runs.{goes_on, step_word, stops_as, stopped_as}
-use Rattle.ix_tool.proofs.Tokens.{or_else_none, is_none_of, same_test, test_eq, test_ne, Decided}
+use Rattle.ix_tool.proofs.Tokens.{same_test, test_eq, test_ne, Decided}
 
 -- how many tokens go out of the last stage
 abbrev pub out_last : Option Token → ℕ

@@ -1,14 +1,14 @@
 -- Where the machine puts its tokens is where the law of moves wants them.
-use Rattle.std.proofs.Common.{◌≡◌, ℕ, zero, suc, ◌+◌, ◌*◌, ◌%◌, ◌^◌, ◌<◌, ◌≤◌, List, [], ◌∷◌, drop, length, Option, Some, None, Bool, true, false, refl, sym, ap, ◌∙◌, subst, arith, add-zero}
-use Rattle.std.specs.Prelude.{◌&&◌, ◌||◌, not, if◌then◌else◌, is_some, slice_get}
+use Rattle.std.proofs.Common.{◌≡◌, ℕ, zero, suc, ◌+◌, List, [], ◌∷◌, drop, length, Option, Some, None, Bool, true, false, refl, ap, ◌∙◌, arith, add-zero}
+use Rattle.std.specs.Prelude.{◌&&◌, ◌||◌, if◌then◌else◌, is_some, slice_get}
 use Rattle.ix_tool.specs.declared.trace.Cell.{Cell}
 use Rattle.ix_tool.specs.declared.trace.Row.{Row}
 use Rattle.ix_tool.specs.declared.stages.Token.{Token}
-use Rattle.ix_tool.specs.Trace.{Setting, stages_of, has_serial}
-use Rattle.ix_tool.specs.LawfulTrace.{Name, name_of, names_of, stays, leaves, comes, fetched, front, InStage, MovesInto, serial_after, address_after}
-use Rattle.ix_tool.specs.PlainMachine.{Slots, gone, going, kept, advanced, leaving, first_slot, cell_of, cells_of, fill, fill_first, next_after, fetch_after}
-use Rattle.ix_tool.specs.Placed.{one_more, count}
-use Rattle.ix_tool.proofs.Tokens.{Decided, NoStops, Free, is_held, decided_tail, no_stops_tail, free_ahead}
+use Rattle.ix_tool.specs.Trace.{Setting, has_serial}
+use Rattle.ix_tool.specs.LawfulTrace.{Name, name_of, names_of, stays, leaves, comes, fetched, front, InStage, MovesInto}
+use Rattle.ix_tool.specs.PlainMachine.{Slots, gone, going, kept, advanced, leaving, first_slot, cell_of, cells_of, fill, fill_first}
+use Rattle.ix_tool.specs.Placed.{one_more}
+use Rattle.ix_tool.proofs.Tokens.{Decided, NoStops, Free, decided_tail, no_stops_tail, free_ahead}
 use Rattle.ix_tool.proofs.Holds.{out_of, out_last}
 
 -- no serial is flushed in the row

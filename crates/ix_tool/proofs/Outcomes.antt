@@ -1,9 +1,9 @@
 -- What the tool does, from what its parts do.
-use Rattle.std.proofs.Common.{◌≡◌, ℕ, ◌<◌, ◌≤◌, List, length, Option, Some, None, refl, sym, ap, ◌∙◌, subst, ◌⊎◌, inl, inr}
+use Rattle.std.proofs.Common.{◌≡◌, ℕ, ◌<◌, ◌≤◌, List, length, Option, Some, None, refl, sym, ap, subst, ◌⊎◌, inl, inr}
 use Rattle.std.specs.Prelude.{IfSome, codes}
 use Rattle.ix_io.specs.Faults.{Rose}
 use Rattle.ix_tool.specs.declared.status.Status.{Status}
-use Rattle.ix_tool.specs.declared.status.Status.TheVariants.{Ok as ok_status, Usage, ReadFault, WriteFault, TooLong, Image, Memory}
+use Rattle.ix_tool.specs.declared.status.Status.TheVariants.{Ok as ok_status, ReadFault, TooLong, Memory}
 use Rattle.ix_tool.specs.ImageText.{lines_of, words_in, IsImageText, AllBuilt}
 use Rattle.ix_tool.specs.CommandOutput.{Writes, WritesOrNot, IsRunOutput, IsDueOfFile, file_bad, file_unbuilt, file_run, FileOutcome, IsOfFile, CommandOutcome, run_memory, run_due, run_too_long, run_read_fault, run_untold, file_line}
 

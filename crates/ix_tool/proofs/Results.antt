@@ -1,6 +1,6 @@
 -- Facts on results.
-use Rattle.std.proofs.Common.{◌≡◌, Bool, true, false, Result, Ok, Err}
-use Rattle.std.specs.Prelude.{OnOk, is_ok, is_err}
+use Rattle.std.proofs.Common.{◌≡◌, true, Result, Ok, Err}
+use Rattle.std.specs.Prelude.{OnOk, is_ok}
 
 -- what holds at an Ok, where the result is one
 pub on_ok : {T E P : Type 0} (r : Result T E) → OnOk r P → is_ok r ≡ true → P

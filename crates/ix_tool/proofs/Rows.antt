@@ -1,7 +1,6 @@
 -- Each row that the machine makes is lawful and agrees with the run, and the machine stays tied to the rows.
-use Rattle.std.proofs.Common.{◌≡◌, ◌≢◌, ℕ, zero, suc, ◌+◌, ◌*◌, ◌-◌, ◌%◌, ◌^◌, ◌<◌, ◌≤◌, List, [], ◌∷◌, drop, length, Option, Some, None, Bool, true, false, refl, sym, ap, ◌∙◌, subst, arith, add-zero, add-suc, ◌⊎◌, inl, inr}
-use Rattle.std.specs.Prelude.{◌&&◌, ◌||◌, not, if◌then◌else◌, ◌==◌, is_some, is_none, slice_get, nat_lt, replicate}
-use Rattle.std.proofs.lemmas.Bool.{cases_lt}
+use Rattle.std.proofs.Common.{◌≡◌, ℕ, zero, suc, ◌+◌, ◌*◌, ◌-◌, ◌<◌, ◌≤◌, List, [], ◌∷◌, drop, length, Option, Some, None, Bool, true, false, refl, sym, ap, ◌∙◌, subst, arith, add-zero, ◌⊎◌, inl, inr}
+use Rattle.std.specs.Prelude.{◌&&◌, ◌||◌, if◌then◌else◌, ◌==◌, is_some, is_none, slice_get, nat_lt, replicate}
 use Rattle.std.proofs.lemmas.List.{length-drop}
 use Rattle.std.proofs.lemmas.Bool.Decides.{nat_tests}
 use Rattle.ix_tool.specs.declared.trace.Cell.{Cell}
@@ -9,24 +8,23 @@ use Rattle.ix_tool.specs.declared.trace.Hold.{Hold}
 use Rattle.ix_tool.specs.declared.trace.Row.{Row}
 use Rattle.ix_tool.specs.declared.sequential.Arch.{Arch}
 use Rattle.ix_tool.specs.declared.sequential.Commit.{Commit}
-use Rattle.ix_tool.specs.declared.sequential.Instruction.{Instruction}
 use Rattle.ix_tool.specs.declared.sequential.Stop.{Stop}
 use Rattle.ix_tool.specs.declared.sequential.Stop.TheVariants.{Fetch}
 use Rattle.ix_tool.specs.declared.stages.Token.{Token}
 use Rattle.ix_tool.specs.Instructions.{instruction_of}
-use Rattle.ix_tool.specs.SequentialRun.{word_at, run, step, after, applied, commit_of, answer_at, Answer, Done, Stopped}
-use Rattle.ix_tool.specs.Trace.{Setting, stages_of, Stands, has_serial, is_flushed, is_retired, retires, place, retirements, architecture, with_retired, newest, rows_without}
-use Rattle.ix_tool.specs.LawfulTrace.{Name, name_of, names_of, leaves, front, fetch_address, next_serial, plain_fetch, serial_after, Moves, MovesInto, Retires, IsWordOf, StopsRun, ShowsHold, Settles, successor, IsNextYounger, HasNoYounger, IsMismatch, Successors, IsEmptyAfter, StopsRightly, LawfulRow}
+use Rattle.ix_tool.specs.SequentialRun.{word_at, run, step, after, applied, commit_of, answer_at, Done, Stopped}
+use Rattle.ix_tool.specs.Trace.{Setting, stages_of, Stands, has_serial, is_flushed, is_retired, retirements, architecture, with_retired, newest, rows_without}
+use Rattle.ix_tool.specs.LawfulTrace.{name_of, names_of, leaves, front, fetch_address, next_serial, plain_fetch, Moves, MovesInto, Retires, IsWordOf, StopsRun, Settles, successor, IsNextYounger, HasNoYounger, IsMismatch, Successors, IsEmptyAfter, StopsRightly, LawfulRow}
 use Rattle.ix_tool.specs.Headline.{AgreesWithRun}
-use Rattle.ix_tool.specs.PlainMachine.{Machine, Slots, or_else, word_stop, value_of, own_hold, stops_now, staying, drain, decided, fill_first, next_after, gone, going, advanced, leaving, commit_for, with_serial, retired_of, slot_stop, remains, fetch_after, first_slot, cell_of, cells_of, seen_by, stop_after, arch_after, IsRowOf, machine_after}
+use Rattle.ix_tool.specs.PlainMachine.{Machine, Slots, or_else, word_stop, value_of, own_hold, stops_now, staying, drain, fill_first, next_after, gone, going, advanced, leaving, commit_for, with_serial, retired_of, slot_stop, remains, fetch_after, first_slot, cell_of, cells_of, seen_by, arch_after, IsRowOf, machine_after}
 use Rattle.ix_tool.specs.Placed.{one_more, count, tail, to_go, rank, IsPlaced, IsPlacedSlot, Placed, IsShape, Inv}
 use Rattle.ix_tool.proofs.Runs.{word_at-four, step_at, run_suc, goes_on, slice_get_below}
-use Rattle.ix_tool.proofs.Tokens.{or_else_none, or_else_none_b, is_none_of, same_test, test_eq, Decided, decided_is, decided_length, decided_names, decided_placed, decided_count, NoStops, own_none, not_due, count_advanced, placed_advanced, last_placed, advanced_length}
-use Rattle.ix_tool.proofs.Moving.{FlushesNone, token_name, moves_on, fill_moves, fill_length, LastSlot, last_slot, out_going}
+use Rattle.ix_tool.proofs.Tokens.{or_else_none, or_else_none_b, is_none_of, same_test, Decided, decided_is, decided_length, decided_names, decided_placed, decided_count, NoStops, own_none, not_due, count_advanced, placed_advanced, last_placed, advanced_length}
+use Rattle.ix_tool.proofs.Moving.{FlushesNone, moves_on, fill_moves, fill_length, last_slot, out_going}
 use Rattle.ix_tool.proofs.Filling.{fill_placed, next_count, decided_first, few_more, serial_told, fetch_told, fetch_place}
-use Rattle.ix_tool.proofs.Holds.{out_of, out_last, out_le, out_drop, drop_more, on_path, staying_is, Told, At, at_stage, place_is, shows, then_stops, stops_then, not_flushed, at_ex}
+use Rattle.ix_tool.proofs.Holds.{out_of, out_le, out_drop, drop_more, on_path, staying_is, Told, At, at_stage, place_is, shows, then_stops, stops_then}
 use Rattle.ix_tool.proofs.Bound.{rank_falls, to_go-decided, to_go-le, first_le, fill_rank, nothing_there}
-use Rattle.ix_tool.proofs.Stopping.{Stopper, stopper, stops_at, slot_stop_at, no_stops, remains_none, none_remains, remains_count}
+use Rattle.ix_tool.proofs.Stopping.{Stopper, stopper, slot_stop_at, no_stops, remains_none, none_remains, remains_count}
 
 none_in : (s : ℕ) → has_serial (replicate 5 None) s ≡ false
 none_in s = refl

@@ -1,5 +1,5 @@
 -- What a run writes is the text of its rows.
-use Rattle.std.proofs.Common.{◌≡◌, ℕ, ◌≤◌, List, ◌++◌, length, reverse, Option, None, refl, sym, ap, ◌∙◌, subst}
+use Rattle.std.proofs.Common.{◌≡◌, ℕ, ◌≤◌, List, ◌++◌, length, reverse, None, ap, ◌∙◌, subst}
 use Rattle.ix_tool.specs.declared.trace.Row.{Row}
 use Rattle.ix_tool.specs.declared.sequential.Arch.{Arch}
 use Rattle.ix_tool.specs.Trace.{Setting, newest, architecture}

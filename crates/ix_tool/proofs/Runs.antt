@@ -1,15 +1,13 @@
 -- Facts on the sequential run of a program without jumps.
-use Rattle.std.proofs.Common.{◌≡◌, ◌≢◌, ℕ, zero, suc, ◌+◌, ◌*◌, ◌/◌, ◌%◌, ◌^◌, ◌<◌, ◌≤◌, List, [], ◌∷◌, length, Option, Some, None, Bool, true, false, refl, sym, ap, ◌∙◌, subst, arith, ◌⊎◌, inl, inr, get_or, set, get_or-set_other}
-use Rattle.std.specs.Prelude.{if◌then◌else◌, ◌==◌, slice_get, slice_index, slice_set}
-use Rattle.std.proofs.lemmas.Bool.Decides.{nat_tests}
+use Rattle.std.proofs.Common.{◌≡◌, ◌≢◌, ℕ, zero, suc, ◌+◌, ◌*◌, ◌/◌, ◌%◌, ◌^◌, ◌<◌, ◌≤◌, List, [], ◌∷◌, length, Option, Some, None, Bool, true, false, refl, sym, ap, ◌∙◌, arith, ◌⊎◌, inl, inr, get_or-set_other}
+use Rattle.std.specs.Prelude.{if◌then◌else◌, ◌==◌, slice_get, slice_index}
 use Rattle.ix_tool.specs.declared.sequential.Arch.{Arch}
 use Rattle.ix_tool.specs.declared.sequential.Instruction.{Instruction}
 use Rattle.ix_tool.specs.declared.sequential.Instruction.TheVariants.{AddImmediate, Add, Break}
-use Rattle.ix_tool.specs.declared.sequential.Slot.{Slot}
-use Rattle.ix_tool.specs.declared.sequential.Slot.TheVariants.{Absent, Now, Later}
+use Rattle.ix_tool.specs.declared.sequential.Slot.TheVariants.{Absent, Now}
 use Rattle.ix_tool.specs.declared.sequential.Stop.{Stop}
 use Rattle.ix_tool.specs.Instructions.{instruction_of}
-use Rattle.ix_tool.specs.SequentialRun.{word_at, result_of, register_write, with_write, destination, commit_of, applied, after, answer_to, answer_at, step, run, first, Answer, Done, Stopped}
+use Rattle.ix_tool.specs.SequentialRun.{word_at, register_write, with_write, commit_of, after, answer_to, answer_at, step, run, Done, Stopped}
 use Rattle.ix_tool.specs.LawfulTrace.{destination_of}
 use Rattle.ix_tool.specs.PlainMachine.{stop_of, value_of}
 

@@ -1,20 +1,17 @@
 -- A machine over its rows is sound, at first and after each row.
-use Rattle.std.proofs.Common.{◌≡◌, ℕ, zero, suc, ◌+◌, ◌*◌, ◌-◌, ◌<◌, ◌≤◌, List, [], ◌∷◌, ◌++◌, take, length, Option, Some, None, Bool, true, false, refl, sym, ap, ◌∙◌, subst, arith}
+use Rattle.std.proofs.Common.{◌≡◌, ℕ, zero, suc, ◌+◌, ◌*◌, ◌<◌, ◌≤◌, List, [], ◌∷◌, ◌++◌, take, length, None, Bool, true, false, refl, sym, ap, ◌∙◌, subst, arith}
 use Rattle.std.specs.Prelude.{replicate, reverse, is_some, nat_lt, if◌then◌else◌}
 use Rattle.std.proofs.lemmas.List.{length-take, reverse-append}
 use Rattle.std.proofs.lemmas.Bool.Decides.{nat_tests}
 use Rattle.rv_core.specs.declared.Shape.{Shape}
-use Rattle.rv_core.specs.Stages.{IsLawful}
 use Rattle.ix_tool.specs.declared.trace.Row.{Row}
-use Rattle.ix_tool.specs.declared.sequential.Arch.{Arch}
-use Rattle.ix_tool.specs.declared.stages.Token.{Token}
 use Rattle.ix_tool.specs.declared.stages.Kept.{Kept}
-use Rattle.ix_tool.specs.SequentialRun.{run, first}
-use Rattle.ix_tool.specs.Trace.{Setting, newest, blank, stages_of, is_flushed, is_retired, retirements, architecture, rows_without}
-use Rattle.ix_tool.specs.LawfulTrace.{MovesInto, names_of, fetch_address, next_serial, Lawful}
-use Rattle.ix_tool.specs.Headline.{Headline, Agreeing, Progressing, progress_bound}
-use Rattle.ix_tool.specs.PlainMachine.{Machine, Slots, setting, machine_of, first_kept, cells_of, IsRowOf, machine_after, next_after, first_slot, arch_after}
-use Rattle.ix_tool.specs.Placed.{one_more, count, tail, to_go, rank, first_of_two, Placed, IsShape, Inv, IsSound}
+use Rattle.ix_tool.specs.SequentialRun.{run}
+use Rattle.ix_tool.specs.Trace.{Setting, newest, blank, is_flushed, is_retired, retirements, architecture, rows_without}
+use Rattle.ix_tool.specs.LawfulTrace.{MovesInto, names_of, fetch_address, next_serial}
+use Rattle.ix_tool.specs.Headline.{Headline, progress_bound}
+use Rattle.ix_tool.specs.PlainMachine.{Machine, Slots, setting, machine_of, first_kept, cells_of, IsRowOf, machine_after, arch_after}
+use Rattle.ix_tool.specs.Placed.{count, tail, to_go, rank, first_of_two, Placed, IsShape, Inv, IsSound}
 use Rattle.ix_tool.proofs.Rows.{lawful, agrees, goes_next, architecture_now, state_now}
 
 pub the_shape : (shape : Shape) (image : List ℕ) → length image ≤ 65536 → IsShape (setting image shape)

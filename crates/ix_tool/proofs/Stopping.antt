@@ -1,16 +1,15 @@
 -- Which token stops the run, and what is left.
-use Rattle.std.proofs.Common.{◌≡◌, ℕ, zero, suc, ◌+◌, ◌*◌, ◌<◌, ◌≤◌, List, [], ◌∷◌, drop, length, Option, Some, None, Bool, true, false, refl, sym, ap, ◌∙◌, subst, arith, add-zero}
-use Rattle.std.specs.Prelude.{◌&&◌, ◌||◌, not, if◌then◌else◌, ◌==◌, is_some, is_none, slice_get}
+use Rattle.std.proofs.Common.{◌≡◌, ℕ, zero, suc, ◌+◌, ◌<◌, [], ◌∷◌, drop, length, Option, Some, None, Bool, true, false, refl, sym, ap, ◌∙◌, arith}
+use Rattle.std.specs.Prelude.{◌&&◌, if◌then◌else◌, ◌==◌, is_some, is_none, slice_get}
 use Rattle.std.proofs.lemmas.Bool.Decides.{nat_tests}
 use Rattle.ix_tool.specs.declared.trace.Cell.{Cell}
 use Rattle.ix_tool.specs.declared.sequential.Stop.{Stop}
-use Rattle.ix_tool.specs.declared.sequential.Stop.TheVariants.{Fetch}
 use Rattle.ix_tool.specs.declared.stages.Token.{Token}
 use Rattle.ix_tool.specs.Trace.{Setting}
-use Rattle.ix_tool.specs.PlainMachine.{Slots, or_else, word_stop, own_hold, stops_now, slot_stop, remains, cell_of, cells_of}
-use Rattle.ix_tool.specs.Placed.{one_more, count}
-use Rattle.ix_tool.proofs.Tokens.{NoStops, test_eq, same_test, is_none_of}
-use Rattle.ix_tool.proofs.Holds.{out_of, out_last}
+use Rattle.ix_tool.specs.PlainMachine.{Slots, word_stop, own_hold, stops_now, slot_stop, remains, cells_of}
+use Rattle.ix_tool.specs.Placed.{count}
+use Rattle.ix_tool.proofs.Tokens.{NoStops, test_eq, is_none_of}
+use Rattle.ix_tool.proofs.Holds.{out_of}
 
 -- the token that stops the run
 pub record Stopper (k : Setting) (base : ℕ) (seen : Slots) (stop : Stop) : Type 0 where

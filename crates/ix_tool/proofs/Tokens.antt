@@ -1,19 +1,18 @@
 -- After a row the tokens stand in their places again.
-use Rattle.std.proofs.Common.{◌≡◌, ◌≢◌, ℕ, zero, suc, ◌+◌, ◌*◌, ◌%◌, ◌^◌, ◌<◌, ◌≤◌, List, [], ◌∷◌, length, Option, Some, None, Bool, true, false, refl, sym, ap, ◌∙◌, subst, arith, add-zero, add-suc, ◌⊎◌, inl, inr}
-use Rattle.std.specs.Prelude.{◌&&◌, ◌||◌, not, if◌then◌else◌, ◌==◌, is_some, is_none, slice_get, slice_index, nat_lt, min, max}
+use Rattle.std.proofs.Common.{◌≡◌, ◌≢◌, ℕ, zero, suc, ◌+◌, ◌<◌, ◌≤◌, List, [], ◌∷◌, length, Option, Some, None, Bool, true, false, refl, sym, ap, ◌∙◌, subst, arith, add-zero, add-suc, inl, inr}
+use Rattle.std.specs.Prelude.{◌&&◌, if◌then◌else◌, ◌==◌, is_some, is_none, slice_index, min, max}
 use Rattle.std.proofs.lemmas.Bool.{cases_lt}
 use Rattle.std.proofs.lemmas.Bool.Decides.{nat_tests}
 use Rattle.ix_tool.specs.declared.trace.Hold.{Hold}
-use Rattle.ix_tool.specs.declared.trace.Hold.TheVariants.{Operand, Drain, Behind}
+use Rattle.ix_tool.specs.declared.trace.Hold.TheVariants.{Behind}
 use Rattle.ix_tool.specs.declared.sequential.Instruction.{Instruction}
 use Rattle.ix_tool.specs.declared.sequential.Instruction.TheVariants.{AddImmediate, Add, Break}
-use Rattle.ix_tool.specs.declared.sequential.Stop.{Stop}
 use Rattle.ix_tool.specs.declared.stages.Token.{Token}
 use Rattle.ix_tool.specs.Instructions.{instruction_of}
-use Rattle.ix_tool.specs.SequentialRun.{result_of, run}
+use Rattle.ix_tool.specs.SequentialRun.{run}
 use Rattle.ix_tool.specs.Trace.{Setting}
 use Rattle.ix_tool.specs.LawfulTrace.{destination_of, name_of, names_of}
-use Rattle.ix_tool.specs.PlainMachine.{Slots, or_else, writer, operand, waits_for, operand_hold, word_stop, drain, staying, own_hold, stops_now, is_blocked, shown, with_hold, decided, new_token, fill, fill_first, value_of, gone, going, kept, advanced, leaving, first_slot, cell_of, cells_of}
+use Rattle.ix_tool.specs.PlainMachine.{Slots, or_else, writer, operand, waits_for, operand_hold, word_stop, own_hold, stops_now, is_blocked, shown, decided, value_of, gone, going, kept, advanced, leaving, first_slot, cells_of}
 use Rattle.ix_tool.specs.Placed.{one_more, count, IsPlaced, IsPlacedSlot, Placed, IsShape}
 use Rattle.ix_tool.proofs.Runs.{run_other, run_zero, slice_get_below}
 

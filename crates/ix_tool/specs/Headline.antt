@@ -1,5 +1,5 @@
 -- What a trace shows is the sequential run, and it goes on (this project's choice).
-use Rattle.std.specs.Prelude.{◌≡◌, ℕ, suc, ◌+◌, ◌≤◌, List, [], ◌∷◌, Option, Some, None}
+use Rattle.std.specs.Prelude.{◌≡◌, ℕ, ◌+◌, ◌≤◌, List, [], ◌∷◌, Some}
 use Rattle.ix_tool.specs.declared.trace.Row.{Row}
 use Rattle.ix_tool.specs.declared.sequential.Commit.{Commit}
 use Rattle.ix_tool.specs.declared.sequential.Stop.{Stop}

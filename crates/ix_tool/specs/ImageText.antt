@@ -1,12 +1,11 @@
 -- The text of an image: one word a line (this project's choice).
-use Rattle.std.specs.Prelude.{◌≡◌, ◌≢◌, ℕ, ◌+◌, ◌-◌, ◌*◌, ◌≤◌, List, [], ◌∷◌, ◌++◌, length, reverse, Option, Some, None, Bool, true, false, ◌&&◌, ◌||◌, if◌then◌else◌, ◌==◌, nat_le, nat_lt, ◌⊎◌}
+use Rattle.std.specs.Prelude.{◌≡◌, ◌≢◌, ℕ, ◌+◌, ◌-◌, ◌*◌, ◌≤◌, List, [], ◌∷◌, ◌++◌, length, reverse, Option, Some, None, Bool, true, ◌&&◌, ◌||◌, if◌then◌else◌, ◌==◌, nat_le, ◌⊎◌}
 use Rattle.std.specs.List.{slice_split}
 use Rattle.std.specs.Option.{option_and_then}
 use Rattle.ix_tool.specs.declared.image_text.Line.{Line}
 use Rattle.ix_tool.specs.declared.image_text.Line.TheVariants.{Skipped, Word, Bad}
 use Rattle.ix_tool.specs.declared.image_text.TextErr.{TextErr}
 use Rattle.ix_tool.specs.declared.image_text.TextErr.TheVariants.{At, Memory}
-use Rattle.ix_tool.specs.declared.sequential.Instruction.{Instruction}
 use Rattle.ix_tool.specs.Instructions.{instruction_of}
 
 -- the lines, which line feeds part

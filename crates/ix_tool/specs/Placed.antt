@@ -1,6 +1,6 @@
 -- Where the tokens of the machine stand in the sequential run, and what ties the machine to the rows before. The built rows have no jump,
 -- so the serial of a token is its place in the run, and four times that is its address.
-use Rattle.std.specs.Prelude.{◌≡◌, ℕ, zero, suc, ◌+◌, ◌*◌, ◌<◌, ◌≤◌, List, [], ◌∷◌, length, Option, Some, None, Bool, true, false, if◌then◌else◌, is_some, nat_lt, slice_get}
+use Rattle.std.specs.Prelude.{◌≡◌, ℕ, zero, suc, ◌+◌, ◌*◌, ◌<◌, ◌≤◌, List, [], ◌∷◌, length, Option, Some, None, false, nat_lt, slice_get}
 use Rattle.rv_core.specs.declared.Shape.{Shape}
 use Rattle.ix_tool.specs.declared.trace.Row.{Row}
 use Rattle.ix_tool.specs.declared.stages.Token.{Token}

@@ -1,5 +1,5 @@
 -- The machine over lists: what it keeps between rows, the row that it makes, and what it keeps then. A slot's older ones are those of the later stages.
-use Rattle.std.specs.Prelude.{◌≡◌, ℕ, zero, suc, ◌+◌, ◌%◌, ◌^◌, List, [], ◌∷◌, map, Option, Some, None, Bool, true, false, ◌&&◌, ◌||◌, not, if◌then◌else◌, ◌==◌, is_some, is_none, replicate, take, min, max}
+use Rattle.std.specs.Prelude.{◌≡◌, ℕ, suc, ◌+◌, ◌%◌, ◌^◌, List, [], ◌∷◌, map, Option, Some, None, Bool, true, false, ◌&&◌, ◌||◌, if◌then◌else◌, ◌==◌, is_some, is_none, replicate, take, min, max}
 use Rattle.rv_core.specs.declared.Shape.{Shape}
 use Rattle.ix_tool.specs.declared.trace.Cell.{Cell}
 use Rattle.ix_tool.specs.declared.trace.Row.{Row}

@@ -1,7 +1,6 @@
 -- The sequential run: one instruction at a time, with no cycles in it (RV32I, the built rows).
-use Rattle.std.specs.Prelude.{◌≡◌, ℕ, zero, suc, ◌+◌, ◌/◌, ◌%◌, ◌^◌, List, [], ◌∷◌, replicate, Option, Some, None, Bool, true, false, ◌&&◌, ◌||◌, not, slice_get, slice_index, slice_set, if◌then◌else◌, ◌==◌}
+use Rattle.std.specs.Prelude.{ℕ, zero, suc, ◌+◌, ◌/◌, ◌%◌, ◌^◌, List, replicate, Option, Some, None, Bool, false, ◌&&◌, ◌||◌, not, slice_get, slice_index, slice_set, if◌then◌else◌, ◌==◌}
 use Rattle.std.specs.Int.{w32, cast_unsigned}
-use Rattle.ix_bits.specs.declared.number.Bits.{Bits}
 use Rattle.ix_tool.specs.declared.sequential.Instruction.{Instruction}
 use Rattle.ix_tool.specs.declared.sequential.Instruction.TheVariants.{AddImmediate, Add, Break}
 use Rattle.ix_tool.specs.declared.sequential.Slot.{Slot}

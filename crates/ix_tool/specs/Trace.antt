@@ -1,5 +1,5 @@
 -- A trace as a history of rows, the newest first, and what is read from it (this project's choice).
-use Rattle.std.specs.Prelude.{◌≡◌, ℕ, zero, suc, ◌+◌, ◌%◌, ◌^◌, ◌<◌, List, [], ◌∷◌, take, replicate, Option, Some, None, Bool, true, false, ◌&&◌, ◌||◌, not, if◌then◌else◌, ◌==◌, is_some, slice_get}
+use Rattle.std.specs.Prelude.{◌≡◌, ℕ, zero, suc, List, [], ◌∷◌, take, replicate, Option, Some, None, Bool, false, ◌||◌, if◌then◌else◌, ◌==◌, is_some, slice_get}
 use Rattle.ix_tool.specs.declared.trace.Cell.{Cell}
 use Rattle.ix_tool.specs.declared.trace.Row.{Row}
 use Rattle.ix_tool.specs.declared.sequential.Commit.{Commit}

@@ -1,5 +1,5 @@
 -- The text of a trace and of a state (this project's choice). Numbers are decimal; addresses, words and x values have eight hexadecimal digits.
-use Rattle.std.specs.Prelude.{◌≡◌, ℕ, zero, suc, ◌+◌, ◌*◌, ◌/◌, ◌%◌, ◌^◌, List, [], ◌∷◌, ◌++◌, take, Option, Some, None, Bool, true, false, not, ◌&&◌, if◌then◌else◌, ◌==◌, codes, decimal}
+use Rattle.std.specs.Prelude.{ℕ, suc, ◌+◌, ◌*◌, ◌/◌, ◌%◌, ◌^◌, List, [], ◌∷◌, ◌++◌, take, Option, Some, None, Bool, true, false, if◌then◌else◌, ◌==◌, codes, decimal}
 use Rattle.std.specs.List.{flat_map}
 use Rattle.ix_bits.specs.declared.number.Bits.{Bits}
 use Rattle.ix_io.specs.Out.{hex_digits}

@@ -1,9 +1,8 @@
-use Rattle.std.proofs.Common.{◌≡◌, ℕ, ◌+◌, ◌<◌, get_or, take, length, Bor, List, [], ◌∷◌, Option, Some, None, sym, ◌∙◌, refl, ap, arith}
-use Rattle.std.specs.Prelude.{slice_get, is_some}
+use Rattle.std.proofs.Common.{◌≡◌, ℕ, ◌+◌, get_or, Bor, List, [], sym, ◌∙◌, refl, ap, arith}
+use Rattle.std.specs.Prelude.{is_some}
 use Rattle.ix_tool.proofs.Tokens.{is_none_of}
-use Rattle.ix_tool.specs.declared.image_text.Line.TheVariants.{Skipped, Word, Bad}
 use Rattle.ix_tool.specs.Instructions.{instruction_of}
-use Rattle.ix_tool.specs.ImageText.{lines_of, line_of}
+use Rattle.ix_tool.specs.ImageText.{lines_of}
 use Rattle.ix_tool.proofs.ImageLemmas.{line_at, number_fits, unbuilt_line, built_next}
 use Rattle.ix_tool.proofs.image_text.first_unbuilt.Goals as goal
 use Rattle.ix_tool.proofs.image_text.first_unbuilt.Goals.{in-Word+else-is_none, in_default}

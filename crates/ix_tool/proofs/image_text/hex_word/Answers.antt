@@ -1,4 +1,4 @@
-use Rattle.std.proofs.Common.{◌≡◌, ℕ, ◌+◌, ◌*◌, ◌^◌, ◌<◌, ◌≤◌, arith, lit<, sym, get_or}
+use Rattle.std.proofs.Common.{ℕ, ◌^◌, ◌<◌, ◌≤◌, arith, lit<, sym, get_or}
 use Rattle.std.proofs.Math.Nat.{pow-le-pow_right}
 use Rattle.ix_tool.proofs.ImageLemmas.{hex_below}
 use Rattle.ix_tool.proofs.image_text.hex_word.Goals as goal

@@ -1,8 +1,6 @@
-use Rattle.std.proofs.Common.{◌≡◌, ℕ, ◌+◌, ◌<◌, ◌≤◌, ◌++◌, get_or, take, length, Bor, List, [], ◌∷◌, Option, Some, None, sym, ◌∙◌, refl, ap, arith, inl, inr, length-append}
-use Rattle.std.specs.Prelude.{slice_get, is_some}
+use Rattle.std.proofs.Common.{◌≡◌, ℕ, ◌+◌, ◌++◌, get_or, take, length, Bor, List, [], ◌∷◌, sym, ◌∙◌, refl, ap, arith, inl, inr, length-append}
 use Rattle.std.proofs.lemmas.List.{append-nil}
-use Rattle.ix_tool.specs.declared.image_text.Line.{Line}
-use Rattle.ix_tool.specs.declared.image_text.Line.TheVariants.{Skipped, Word, Bad}
+use Rattle.ix_tool.specs.declared.image_text.Line.TheVariants.{Skipped}
 use Rattle.ix_tool.specs.ImageText.{lines_of, line_of, words_in, with_word}
 use Rattle.ix_tool.proofs.Results.{on_ok}
 use Rattle.ix_tool.proofs.ImageLemmas.{line_at, number_fits, bad_line, good_next, words_next}

@@ -1,4 +1,4 @@
-use Rattle.std.proofs.Common.{◌≡◌, ◌≤◌, ◌∙◌, arith, ap, length, length-append}
+use Rattle.std.proofs.Common.{◌∙◌, arith, ap, length, length-append}
 use Rattle.std.specs.Prelude.{decimal}
 use Rattle.ix_tool.proofs.Texts.{number_short}
 use Rattle.ix_tool.proofs.row_text.put_number.Goals as goal

@@ -1,4 +1,4 @@
-use Rattle.std.proofs.Common.{◌≡◌, ◌++◌, List, ℕ, inl, inr, refl}
+use Rattle.std.proofs.Common.{◌++◌, inl, inr, refl}
 use Rattle.ix_tool.specs.TraceText.{trace_text, state_text}
 use Rattle.ix_tool.proofs.RunOutputs.{run_output}
 use Rattle.ix_tool.proofs.running.run_image.Goals as goal

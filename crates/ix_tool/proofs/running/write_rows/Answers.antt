@@ -1,4 +1,4 @@
-use Rattle.std.proofs.Common.{◌≡◌, ◌≤◌, ◌++◌, ◌∙◌, List, ℕ, subst, sym, ap, arith, take, []}
+use Rattle.std.proofs.Common.{◌++◌, ◌∙◌, subst, sym, ap, arith, take, []}
 use Rattle.std.proofs.lemmas.List.{append-nil}
 use Rattle.ix_io.specs.Sink.{AppendsFront}
 use Rattle.ix_tool.specs.TraceText.{row_text, trace_text}

@@ -1,4 +1,4 @@
-use Rattle.std.proofs.Common.{◌≡◌, ◌++◌, List, ℕ, subst, sym, ap}
+use Rattle.std.proofs.Common.{subst}
 use Rattle.ix_io.specs.Sink.{AppendsFront}
 use Rattle.ix_tool.specs.TraceText.{state_text}
 use Rattle.ix_tool.proofs.Writing.{sends_front, on_err}

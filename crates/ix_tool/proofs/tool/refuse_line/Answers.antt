@@ -1,6 +1,6 @@
-use Rattle.std.proofs.Common.{◌≡◌, ◌∙◌, List, ℕ, inl, inr, subst, sym, ap}
+use Rattle.std.proofs.Common.{◌∙◌, inr, subst}
 use Rattle.ix_tool.specs.declared.status.Status.TheVariants.{Image}
-use Rattle.ix_tool.specs.CommandOutput.{Writes, image_line}
+use Rattle.ix_tool.specs.CommandOutput.{Writes}
 use Rattle.ix_tool.proofs.tool.refuse_line.Goals as goal
 
 pub returns-in-Ok : goal.returns-in-Ok

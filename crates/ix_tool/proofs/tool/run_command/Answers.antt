@@ -1,5 +1,4 @@
-use Rattle.std.proofs.Common.{◌≡◌, ◌<◌, ◌≤◌, List, ℕ, length, ap, subst, sym, refl, Err}
-use Rattle.std.specs.Prelude.{IfSome}
+use Rattle.std.proofs.Common.{ap, subst, Err}
 use Rattle.ix_io.specs.Shelf.{told_file}
 use Rattle.ix_tool.specs.CommandOutput.{FileOutcome}
 use Rattle.ix_tool.proofs.Outcomes.{from_file, from_fault, from_too_long}

@@ -1,4 +1,3 @@
-use Rattle.std.proofs.Common.{◌≡◌, ◌≢◌, List, ℕ}
 use Rattle.ix_tool.specs.CommandLine.{bytes_of}
 use Rattle.ix_tool.specs.CommandOutput.{told_of}
 use Rattle.ix_tool.proofs.Clauses.{done_of, write_fault, too_long, image, due, complete}

@@ -1,4 +1,4 @@
-use Rattle.std.proofs.Common.{◌≡◌, ◌∙◌, List, ℕ, ap, subst, sym, refl, Some}
+use Rattle.std.proofs.Common.{subst, sym}
 use Rattle.ix_tool.specs.CommandOutput.{OutcomeOf}
 use Rattle.ix_tool.proofs.tool.run_words.Goals as goal
 

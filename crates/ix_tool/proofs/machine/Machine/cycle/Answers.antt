@@ -1,11 +1,7 @@
-use Rattle.std.proofs.Common.{◌≡◌, List, ap}
+use Rattle.std.proofs.Common.{◌≡◌, ap}
 use Rattle.std.specs.Prelude.{reverse, None}
-use Rattle.ix_tool.specs.declared.trace.Row.{Row}
 use Rattle.ix_tool.specs.Trace.{newest}
 use Rattle.ix_tool.specs.Running.{Running}
-use Rattle.ix_tool.specs.Headline.{Headline}
-use Rattle.ix_tool.specs.PlainMachine.{setting, IsRowOf, machine_of, machine_after}
-use Rattle.ix_tool.specs.Placed.{IsSound}
 use Rattle.ix_tool.proofs.Sound.{sound_after, headline_after, reverse_push}
 use Rattle.ix_tool.proofs.machine.Machine.cycle.Goals as goal
 

@@ -1,4 +1,4 @@
-use Rattle.std.proofs.Common.{◌≡◌, ◌≤◌, List, length, ap, arith}
+use Rattle.std.proofs.Common.{◌≤◌, List, length, ap, arith}
 use Rattle.std.specs.Prelude.{reverse}
 use Rattle.ix_tool.specs.declared.trace.Row.{Row}
 use Rattle.ix_tool.proofs.Sound.{sound_first}
