@@ -5,10 +5,9 @@ use ix_io::{HostShelf, HostSink};
 use ix_tool::status::Status;
 use ix_tool::tool::run_tool;
 use std::alloc::Global;
-use std::env;
 use std::env::Env;
-use std::io;
 use std::process::ExitCode;
+use std::{env, io};
 
 /// The exit status where the runtime refuses the words for a cause other than memory.
 const REFUSED: u8 = 3;
@@ -27,7 +26,9 @@ fn main(rt: HostRuntime) -> ExitCode {
             let mut sink = HostSink::new(&rt);
             ExitCode::from(run_tool(rt.alloc(), words.as_slice(), &mut shelf, &mut sink).code())
         }
-        Err(error) if error.kind() == io::ErrorKind::OutOfMemory => ExitCode::from(Status::Memory.code()),
+        Err(error) if error.kind() == io::ErrorKind::OutOfMemory => ExitCode::from(
+            Status::Memory.code(),
+        ),
         Err(_) => ExitCode::from(REFUSED),
     }
 }
