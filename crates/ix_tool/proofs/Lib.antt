@@ -14,3 +14,4 @@ pub mod Writing
 pub mod RunOutputs
 pub mod Outcomes
 pub mod Clauses
+pub mod WorkedRun

@@ -11,3 +11,4 @@ pub mod TraceText
 pub mod CommandLine
 pub mod CommandOutput
 pub mod Codes
+pub mod Worked

@@ -6,6 +6,7 @@ mod decide;
 mod engine;
 pub mod history;
 pub mod image_text;
+pub mod laws;
 pub mod machine;
 pub mod row_text;
 pub mod running;
