@@ -1,0 +1,8 @@
+//! Netlists: modules of assignments and registers (IEEE 1364-2005), when one is valid, and what its names stand for.
+#![tactic(auto)]
+
+mod laws;
+mod netlist;
+
+pub use laws::has_one_valuation;
+pub use netlist::{Bank, Cell, Form, Net, Port};
