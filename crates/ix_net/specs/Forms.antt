@@ -1,5 +1,6 @@
 -- Right sides of assignments (IEEE 1364-2005, 5.1, expressions). A pattern is its bits as an unsigned number.
-use Rattle.std.specs.Prelude.{ℕ, ◌≡◌, ◌+◌, ◌-◌, ◌*◌, ◌/◌, ◌%◌, ◌^◌, ◌≤◌, ◌<◌, List, [], ◌∷◌, Option, Some, Bool, true, false, ◌==◌, nat_lt, if◌then◌else◌, bit_and, bit_or, bit_xor}
+use Rattle.std.specs.Prelude.{ℕ, ◌≡◌, ◌+◌, ◌-◌, ◌*◌, ◌/◌, ◌%◌, ◌^◌, ◌≤◌, ◌<◌, List, [], ◌∷◌, Option, Some, Bool, true, false, ◌==◌, nat_lt, if◌then◌else◌, bit_and, bit_or, bit_xor, int_lt}
+use Rattle.ix_bits.specs.Types.{number_of}
 use Rattle.ix_net.specs.declared.netlist.Form.{Form}
 use Rattle.ix_net.specs.declared.netlist.Form.TheVariants.{Hex, Copy, Add, Sub, Mul, And, Or, Xor, Not, Eq, Lt, LtSigned, Join, Range, Choose}
 
@@ -47,9 +48,9 @@ Fits width w (Choose c a b) = (width c ≡ Some 1) × (width a ≡ Some w) × (w
 abbrev pub bit_of : Bool → ℕ
 bit_of b = if b then 1 else 0
 
--- whether a is below b, both read as two's complement numbers of a width: turning the top bit keeps their order
+-- whether a is below b, both read as two's complement numbers of a width
 abbrev pub signed_lt : ℕ → ℕ → ℕ → Bool
-signed_lt w a b = nat_lt ((a + 2 ^ (w - 1)) % 2 ^ w) ((b + 2 ^ (w - 1)) % 2 ^ w)
+signed_lt w a b = int_lt (number_of true w a) (number_of true w b)
 
 -- the value of a right side with a target of width w, from the values and the widths of its operands
 abbrev pub result_of : (value width : List ℕ → ℕ) → ℕ → Form → ℕ

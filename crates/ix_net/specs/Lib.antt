@@ -6,3 +6,5 @@ pub mod Valid
 pub mod Valuation
 pub mod Run
 pub mod Laws
+pub mod Gates
+pub mod Tables

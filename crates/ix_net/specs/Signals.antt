@@ -1,5 +1,5 @@
 -- The names that a net declares (IEEE 1364-2005, 3.2, nets and variables).
-use Rattle.std.specs.Prelude.{ℕ, List, [], ◌∷◌, ◌++◌, map, length, Option, slice_get, ◌+◌}
+use Rattle.std.specs.Prelude.{ℕ, List, [], ◌∷◌, ◌++◌, map, length, Option, slice_get, ◌+◌, unwrap_or}
 use Rattle.std.specs.Option.{option_map, option_and_then}
 use Rattle.std.specs.List.{position_from}
 use Rattle.std.specs.Str.{bytes_eq}
@@ -27,3 +27,10 @@ place_of ports name = position_from (λ (p : Port). bytes_eq name p.name) 0 port
 -- the width of the first port with this name
 abbrev pub width_of : List Port → List ℕ → Option ℕ
 width_of ports name = option_and_then (λ i. slice_get (map (λ (p : Port). p.width) ports) i) (place_of ports name)
+
+-- the place of a name, and its width; 0 for one that is not declared
+abbrev pub number_of : List Port → List ℕ → ℕ
+number_of ports name = unwrap_or (place_of ports name) 0
+
+abbrev pub bits_of : List Port → List ℕ → ℕ
+bits_of ports name = unwrap_or (width_of ports name) 0

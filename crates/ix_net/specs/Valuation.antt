@@ -4,7 +4,7 @@ use Rattle.std.specs.Option.{option_map}
 use Rattle.ix_net.specs.declared.netlist.Net.{Net}
 use Rattle.ix_net.specs.declared.netlist.Port.{Port}
 use Rattle.ix_net.specs.declared.netlist.Cell.{Cell}
-use Rattle.ix_net.specs.Signals.{signals, place_of, width_of}
+use Rattle.ix_net.specs.Signals.{signals, place_of, bits_of}
 use Rattle.ix_net.specs.Forms.{result_of}
 
 -- `values` has one value for each signal of a net, in their order: inputs, cells, banks
@@ -23,7 +23,7 @@ banks_of net values = drop (length net.inputs + length net.cells) values
 
 -- the value of a cell's right side
 abbrev pub right_side : Net → List ℕ → Cell → ℕ
-right_side net values c = result_of (value_of net values) (λ name. unwrap_or (width_of (signals net) name) 0) c.width c.form
+right_side net values c = result_of (value_of net values) (bits_of (signals net)) c.width c.form
 
 -- one pattern for each port, within its width
 abbrev pub FitPorts : List Port → List ℕ → Type 0
