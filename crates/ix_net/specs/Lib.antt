@@ -8,3 +8,4 @@ pub mod Run
 pub mod Laws
 pub mod Gates
 pub mod Tables
+pub mod Order

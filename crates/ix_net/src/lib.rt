@@ -5,6 +5,7 @@ mod gates;
 mod keywords;
 mod laws;
 mod netlist;
+mod ordering;
 
 mod tables;
 
