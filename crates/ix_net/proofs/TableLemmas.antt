@@ -1,5 +1,5 @@
 -- What a table of signals shows of a net.
-use Rattle.std.proofs.Common.{◌≡◌, ◌≢◌, ℕ, ◌+◌, ◌<◌, ◌-◌, zero, suc, List, [], ◌∷◌, Bool, true, false, Option, Some, None, length, map, get_or, arith, refl, ap, sym, ◌∙◌, subst, All, AllPairs}
+use Rattle.std.proofs.Common.{◌≡◌, ◌≢◌, ℕ, ◌+◌, ◌<◌, ◌-◌, zero, suc, List, [], ◌∷◌, Bool, true, false, Option, Some, None, Result, Ok, Err, IfOk, length, map, get_or, arith, refl, ap, sym, ◌∙◌, subst, All, AllPairs}
 use Rattle.std.specs.Option.{option_and_then}
 use Rattle.std.specs.Prelude.{slice_get}
 use Rattle.std.specs.Str.{bytes_eq}
@@ -118,3 +118,12 @@ good_from net xs e h =
 
 pub apart_from : (net : Net) (xs : List Signal) → map port_of xs ≡ signals net → IsDeclared net → AllPairs (λ x y. x ≢ y) (net.name ∷ names (map port_of xs))
 apart_from net xs e h = let D : List Port → Type 0 = λ ps. AllPairs (λ x y. x ≢ y) (net.name ∷ names ps) in subst D (sym e) h.distinct
+
+-- the same of a result that may want memory
+pub IfOk_same : {A E : Type 0} (r : Result A E) (f : A → List ℕ) (xs ys : List ℕ) → xs ≡ ys → IfOk r (λ v. f v ≡ xs) → IfOk r (λ v. f v ≡ ys)
+IfOk_same (Ok v) f xs ys e h = h ∙ e
+IfOk_same (Err x) f xs ys e h = tt
+
+pub widths-ports : (xs : List Signal) → map (λ (s : Signal). s.width) xs ≡ map (λ (p : Port). p.width) (map port_of xs)
+widths-ports [] = refl
+widths-ports (x ∷ xs) = ap (λ ws. x.width ∷ ws) (widths-ports xs)

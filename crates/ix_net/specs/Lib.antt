@@ -9,3 +9,4 @@ pub mod Laws
 pub mod Gates
 pub mod Tables
 pub mod Order
+pub mod Wiring

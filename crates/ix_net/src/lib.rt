@@ -6,11 +6,11 @@ mod keywords;
 mod laws;
 mod netlist;
 mod ordering;
-
 mod tables;
-
+mod wires;
 
 pub use gates::Gate;
 pub use laws::has_one_valuation;
 pub use netlist::{Bank, Cell, Form, Net, Port};
+pub use wires::{Latch, Wiring, is_valid, wire};
 

@@ -90,6 +90,28 @@ fn number<'a>(alloc: Global, signals: &[Signal<'a>]) -> Result<Option<BTreeMap<&
     Ok(Some(places))
 }
 
+fn widths_of(alloc: Global, signals: &[Signal]) -> Result<Vec<u8>, Memory>
+    ensures { IfOk result (λ v. v.items ≡ map (λ s. s.width) signals.now) }
+{
+    let mut widths = Vec::with_capacity(alloc, signals.len())?;
+    for signal in signals {
+        widths.push(signal.width)?;
+    }
+    Ok(widths)
+}
+
+/// Whether no two ports have one name.
+pub(crate) fn are_distinct(alloc: Global, ports: &[Port]) -> Result<bool, Memory>
+    ensures { IfOk result (λ r. IsTrue r ↔ AllPairs (λ x y. x ≢ y) (names ports.now)) }
+{
+    let mut signals = Vec::new(alloc);
+    add_ports(&mut signals, ports)?;
+    match number(alloc, &signals)? {
+        Some(_) => Ok(true),
+        None => Ok(false),
+    }
+}
+
 /// The signals of a net, by name and by number. Contracts see the list of what the net declares.
 #[derive(Drop)]
 pub(crate) struct Table<'a> {
@@ -175,5 +197,12 @@ impl<'a> Table<'a> {
         let (first, width) = self.declared(a)?;
         let second = self.of_width(b, width)?;
         Some((first, second, width))
+    }
+
+    /// The width of each signal, in bits.
+    pub fn widths(&self, alloc: Global) -> Result<Vec<u8>, Memory>
+        ensures { IfOk result (λ v. v.items ≡ map (λ p. p.width) self.now) }
+    {
+        widths_of(alloc, &self.signals)
     }
 }
