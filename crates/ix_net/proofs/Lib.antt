@@ -5,3 +5,7 @@ pub mod OrderLemmas
 pub mod StepLemmas
 pub mod NetLemmas
 pub mod ValidLemmas
+pub mod Rank
+pub mod FormLemmas
+pub mod FitLemmas
+pub mod OneValuation

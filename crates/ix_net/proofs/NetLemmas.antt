@@ -148,7 +148,7 @@ operand_placed ports w f h n c =
 pub number_from_place : (ports : List Port) (n : List ℕ) (i : ℕ) → place_of ports n ≡ Some i → number_of ports n ≡ i
 number_from_place ports n i h = ap (λ o. unwrap_or o 0) h
 
-Contains-map : {Y : Type 0} (f : List ℕ → Y) (xs : List (List ℕ)) (x : List ℕ) → Contains xs x → Contains (map f xs) (f x)
+pub Contains-map : {Y : Type 0} (f : List ℕ → Y) (xs : List (List ℕ)) (x : List ℕ) → Contains xs x → Contains (map f xs) (f x)
 Contains-map f xs x c = let size : length (map f xs) ≡ length xs = length-map xs f in (c.0, omega (arith, c.1), get_or-map f xs c.0 x (f x) c.1 ∙ ap f c.2)
 
 Contains-unmap : {Y : Type 0} (f : List ℕ → Y) (xs : List (List ℕ)) (y : Y) → Contains (map f xs) y → (x : List ℕ) × Contains xs x × (f x ≡ y)
