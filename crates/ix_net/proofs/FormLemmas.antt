@@ -48,11 +48,11 @@ gate_result-gate_of value place width w (Range a hi lo) = refl
 gate_result-gate_of value place width w (Choose c a b) = refl
 
 -- a single bit fits width 1
-bit_fits : (b : Bool) (w : ℕ) → w ≡ 1 → bit_of b < 2 ^ w
+pub bit_fits : (b : Bool) (w : ℕ) → w ≡ 1 → bit_of b < 2 ^ w
 bit_fits true w e = rw e (omega arith)
 bit_fits false w e = rw e (omega arith)
 
-join_fits : (a b u v w : ℕ) → a < 2 ^ u → b < 2 ^ v → w ≡ u + v → a * 2 ^ v + b < 2 ^ w
+pub join_fits : (a b u v w : ℕ) → a < 2 ^ u → b < 2 ^ v → w ≡ u + v → a * 2 ^ v + b < 2 ^ w
 join_fits a b u v w la lb e =
     let fits : a * 2 ^ v + b < 2 ^ v * 2 ^ u = mul-add-lt a (2 ^ v) b (2 ^ u) la lb in
     let split : 2 ^ w ≡ 2 ^ u * 2 ^ v = ap (λ n. 2 ^ n) e ∙ pow-add 2 u v in

@@ -29,13 +29,13 @@ use Rattle.ix_net.proofs.Rank.{IsRank, Passes, rank_or_loop}
 use Rattle.ix_net.proofs.ValidLemmas.{loop_from, apart_of}
 
 -- a test of a list of numbers
-list_any-eqb : (xs : List ℕ) (y : ℕ) → list_any (λ x. eqb x y) xs ≡ true → Contains xs y
+pub list_any-eqb : (xs : List ℕ) (y : ℕ) → list_any (λ x. eqb x y) xs ≡ true → Contains xs y
 list_any-eqb xs y h =
     let a : Any (λ x. eqb x y ≡ true) xs = Any-from_list_any (λ x. eqb x y) xs h in
     let P : ℕ → Type 0 = λ x. Contains xs x in
     subst P (eqb-true a.1 y a.4) (a.0, a.2, a.3)
 
-list_any-Contains : (xs : List ℕ) (y : ℕ) → Contains xs y → list_any (λ x. eqb x y) xs ≡ true
+pub list_any-Contains : (xs : List ℕ) (y : ℕ) → Contains xs y → list_any (λ x. eqb x y) xs ≡ true
 list_any-Contains xs y c = list_any-from_Any (λ x. eqb x y) xs (c.0, y, c.1, c.2, eq-eqb y y refl)
 
 -- the test of what a cell reads

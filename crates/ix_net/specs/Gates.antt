@@ -4,7 +4,7 @@ use Rattle.ix_net.specs.declared.netlist.Form.{Form}
 use Rattle.ix_net.specs.declared.gates.Gate.{Gate}
 use Rattle.ix_net.specs.declared.netlist.Form.TheVariants as form
 use Rattle.ix_net.specs.declared.gates.Gate.TheVariants.{Hex, Copy, Add, Sub, Mul, And, Or, Xor, Not, Eq, Lt, LtSigned, Join, Range, Choose}
-use Rattle.ix_net.specs.Forms.{ShareWidth, bit_of, signed_lt}
+use Rattle.ix_net.specs.Forms.{bit_of, signed_lt}
 
 -- a right side with numbers for names
 abbrev pub gate_of : (place width : List ℕ → ℕ) → Form → Gate
@@ -41,24 +41,6 @@ reads_of (LtSigned a b v) = a ∷ b ∷ []
 reads_of (Join a b v) = a ∷ b ∷ []
 reads_of (Range a hi lo) = a ∷ []
 reads_of (Choose c a b) = c ∷ a ∷ b ∷ []
-
--- the widths of the operands agree with the width of the target
-abbrev pub GateFits : (ℕ → Option ℕ) → ℕ → Gate → Type 0
-GateFits width w (Hex d) = d < 2 ^ w
-GateFits width w (Copy a) = width a ≡ Some w
-GateFits width w (Add a b) = (width a ≡ Some w) × (width b ≡ Some w)
-GateFits width w (Sub a b) = (width a ≡ Some w) × (width b ≡ Some w)
-GateFits width w (Mul a b) = (width a ≡ Some w) × (width b ≡ Some w)
-GateFits width w (And a b) = (width a ≡ Some w) × (width b ≡ Some w)
-GateFits width w (Or a b) = (width a ≡ Some w) × (width b ≡ Some w)
-GateFits width w (Xor a b) = (width a ≡ Some w) × (width b ≡ Some w)
-GateFits width w (Not a) = width a ≡ Some w
-GateFits width w (Eq a b) = (w ≡ 1) × ShareWidth (width a) (width b)
-GateFits width w (Lt a b) = (w ≡ 1) × ShareWidth (width a) (width b)
-GateFits width w (LtSigned a b v) = (w ≡ 1) × (width a ≡ Some v) × (width b ≡ Some v)
-GateFits width w (Join a b v) = (u : ℕ) × (width a ≡ Some u) × (width b ≡ Some v) × (w ≡ u + v)
-GateFits width w (Range a hi lo) = (v : ℕ) × (width a ≡ Some v) × (lo ≤ hi) × (hi < v) × (w ≡ hi - lo + 1)
-GateFits width w (Choose c a b) = (width c ≡ Some 1) × (width a ≡ Some w) × (width b ≡ Some w)
 
 -- the value of a right side with a target of width w, from the values of the signals
 abbrev pub gate_result : (ℕ → ℕ) → ℕ → Gate → ℕ

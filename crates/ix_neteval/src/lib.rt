@@ -1,0 +1,7 @@
+//! The simulator of netlists: the values of a valid net in one cycle after another (IEEE 1364-2005).
+#![tactic(auto)]
+
+mod arithmetic;
+mod running;
+
+pub use running::gate_value;
