@@ -1,3 +1,4 @@
 pub mod Masks
 pub mod GateLemmas
 pub mod RunLemmas
+pub mod LoadLemmas

@@ -3,5 +3,6 @@
 
 mod arithmetic;
 mod running;
+mod sim;
 
-pub use running::gate_value;
+pub use sim::{Sim, prepare};
