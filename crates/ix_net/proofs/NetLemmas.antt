@@ -44,7 +44,7 @@ slice_get_some [] k l = absurd (omega arith)
 slice_get_some (x ∷ xs) zero l = (x, refl)
 slice_get_some (x ∷ xs) (suc k) l = slice_get_some xs k (omega arith)
 
-slice_get_mapped : {X Y : Type 0} (f : X → Y) (xs : List X) (k : ℕ) (x : X) → slice_get xs k ≡ Some x → slice_get (map f xs) k ≡ Some (f x)
+pub slice_get_mapped : {X Y : Type 0} (f : X → Y) (xs : List X) (k : ℕ) (x : X) → slice_get xs k ≡ Some x → slice_get (map f xs) k ≡ Some (f x)
 slice_get_mapped f xs k x h = slice_get-map f xs k ∙ ap (option_map f) h
 
 pub contains_from_slice_get : {X : Type 0} (xs : List X) (k : ℕ) (x : X) → slice_get xs k ≡ Some x → Contains xs x

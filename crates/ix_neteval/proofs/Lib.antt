@@ -2,3 +2,4 @@ pub mod Masks
 pub mod GateLemmas
 pub mod RunLemmas
 pub mod LoadLemmas
+pub mod StateLemmas
