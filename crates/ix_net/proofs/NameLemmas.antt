@@ -9,15 +9,15 @@ use Rattle.ix_net.specs.Name.{IsName, StartsWithLetter, is_letter, is_mark, keyw
 
 -- a text equals one of a list exactly where the list contains it
 pub list_any-bytes_eq : (ks : List (List ℕ)) (t : List ℕ) (b : Bool) → b ≡ list_any (λ k. bytes_eq k t) ks → (b ≡ true) ↔ Contains ks t
-list_any-bytes_eq ks t b e =
-    ( λ h. (let a : Any (λ k. bytes_eq k t ≡ true) ks = Any-from_list_any (λ k. bytes_eq k t) ks (cc) in
-        let same : a.1 ≡ t = (bytes_eq-Decides a.1 t).0 a.4 in
-        let P : List ℕ → Type 0 = λ x. Contains ks x in
-        subst P same (a.0, a.2, a.3))
-    , λ c. (let found : Any (λ k. bytes_eq k t ≡ true) ks = (c.0, t, c.1, c.2, (bytes_eq-Decides t t).1 refl) in
-        let h : list_any (λ k. bytes_eq k t) ks ≡ true = list_any-from_Any (λ k. bytes_eq k t) ks found in
-        cc)
-    )
+list_any-bytes_eq ks t b e = (
+  λ h. (let a : Any (λ k. bytes_eq k t ≡ true) ks = Any-from_list_any (λ k. bytes_eq k t) ks (cc) in
+      let same : a.1 ≡ t = (bytes_eq-Decides a.1 t).0 a.4 in
+      let P : List ℕ → Type 0 = λ x. Contains ks x in
+      subst P same (a.0, a.2, a.3)),
+  λ c. (let found : Any (λ k. bytes_eq k t ≡ true) ks = (c.0, t, c.1, c.2, (bytes_eq-Decides t t).1 refl) in
+      let h : list_any (λ k. bytes_eq k t) ks ≡ true = list_any-from_Any (λ k. bytes_eq k t) ks found in
+      cc),
+)
 
 -- a text that meets the other parts of the rule is a name exactly where it is no keyword
 name_unless_keyword :

@@ -1,13 +1,13 @@
 -- Names and numbers of the signals of a net, and dependence by name and by number.
-use Rattle.std.proofs.Common.{◌≡◌, ◌≢◌, ℕ, ◌+◌, ◌-◌, ◌<◌, ◌≤◌, zero, suc, List, [], ◌∷◌, ◌++◌, Bool, true, false, Option, Some, None, unwrap_or, length, map, get_or, take, arith, refl, ap, sym, ◌∙◌, subst, All, AllPairs, Contains, eqb, cond}
+use Rattle.std.proofs.Common.{◌≡◌, ◌≢◌, ℕ, ◌+◌, ◌<◌, zero, suc, List, [], ◌∷◌, ◌++◌, true, Option, Some, None, unwrap_or, length, map, get_or, arith, refl, ap, sym, ◌∙◌, subst, All, AllPairs, Contains}
 use Rattle.std.specs.List.{AllByRecursion}
 use Rattle.std.specs.Option.{option_and_then, option_map}
 use Rattle.std.specs.Prelude.{slice_get}
 use Rattle.std.specs.Str.{bytes_eq}
-use Rattle.std.proofs.lemmas.Bool.{false_from_ne_true, eqb-true, eqb-false, cases_eq}
+use Rattle.std.proofs.lemmas.Bool.{false_from_ne_true}
 use Rattle.std.proofs.lemmas.List.{length-map, get_or-map, get_or_default, length-append}
 use Rattle.std.proofs.lemmas.List.Elements.{All-from_recursion, All-contains}
-use Rattle.std.proofs.lemmas.Option.{slice_get-get_or, slice_get_within, get_or_from_slice_get, slice_get-map, same_Some}
+use Rattle.std.proofs.lemmas.Option.{slice_get-get_or, slice_get_within, get_or_from_slice_get, slice_get-map}
 use Rattle.std.proofs.lemmas.Slice.Eq.{bytes_eq-Decides}
 use Rattle.ix_net.specs.declared.netlist.Net.{Net}
 use Rattle.ix_net.specs.declared.netlist.Port.{Port}
@@ -20,12 +20,12 @@ use Rattle.ix_net.specs.declared.gates.Gate.TheVariants as gate
 use Rattle.ix_net.specs.Chain.{Chain, one, more}
 use Rattle.ix_net.specs.Forms.{operands, Fits}
 use Rattle.ix_net.specs.Gates.{gate_of, reads_of}
-use Rattle.ix_net.specs.Order.{Reads, IsOrder, gate_at}
+use Rattle.ix_net.specs.Order.{Reads, gate_at}
 use Rattle.ix_net.specs.Signals.{signals, cell_port, bank_port, place_of, width_of, number_of, bits_of}
-use Rattle.ix_net.specs.Valid.{Feeds, DependsOn, names}
-use Rattle.ix_net.specs.Wiring.{cell_gate, IsCellPort}
+use Rattle.ix_net.specs.Valid.{Feeds, names}
+use Rattle.ix_net.specs.Wiring.{cell_gate}
 use Rattle.ix_net.proofs.PlaceLemmas.{position_from-at}
-use Rattle.ix_net.proofs.TableLemmas.{place_within, name_at_place, width_at_place}
+use Rattle.ix_net.proofs.TableLemmas.{name_at_place}
 
 -- reads of lists that are joined
 slice_get-append_right : {X : Type 0} (xs ys : List X) (k : ℕ) → slice_get (xs ++ ys) (length xs + k) ≡ slice_get ys k
@@ -87,10 +87,10 @@ place_of-at ports apart i p h =
     let here : bytes_eq p.name (get_or ports i p).name ≡ true = (bytes_eq-Decides p.name (get_or ports i p).name).1 (ap (λ (q : Port). q.name) (sym at)) in
     position_from-at (λ (q : Port). bytes_eq p.name q.name) ports 0 i p l here
     (λ m lt. false_from_ne_true (bytes_eq p.name (get_or ports m p).name)
-        (λ t. (let same : p.name ≡ (get_or ports m p).name = (bytes_eq-Decides p.name (get_or ports m p).name).0 t in
-            let at_m : get_or (names ports) m p.name ≡ (get_or ports m p).name = get_or-map (λ (q : Port). q.name) ports m p p.name (omega arith) in
-            let at_i : get_or (names ports) i p.name ≡ (get_or ports i p).name = get_or-map (λ (q : Port). q.name) ports i p p.name l in
-            apart m i p.name lt (omega arith) (at_m ∙ sym same ∙ ap (λ (q : Port). q.name) (sym at) ∙ sym at_i))))
+    (λ t. (let same : p.name ≡ (get_or ports m p).name = (bytes_eq-Decides p.name (get_or ports m p).name).0 t in
+    let at_m : get_or (names ports) m p.name ≡ (get_or ports m p).name = get_or-map (λ (q : Port). q.name) ports m p p.name (omega arith) in
+    let at_i : get_or (names ports) i p.name ≡ (get_or ports i p).name = get_or-map (λ (q : Port). q.name) ports i p p.name l in
+    apart m i p.name lt (omega arith) (at_m ∙ sym same ∙ ap (λ (q : Port). q.name) (sym at) ∙ sym at_i))))
     ∙ ap Some (omega arith)
 
 -- the operands of a right side by number
@@ -206,9 +206,9 @@ feeds_reads net apart a ca y ha f =
     let C : List ℕ → Type 0 = λ xs. Contains xs (number_of (signals net) ca.target) in
     let D : ℕ → Type 0 = λ i. Contains (reads_of (gate_at (gates_of_net net) b)) i in
     let by_gate : Contains (reads_of (gate_at (gates_of_net net) b)) (number_of (signals net) ca.target) =
-        subst C (sym (ap reads_of (gate_at_cell net b f.cell hb) ∙ reads_of-gate_of (number_of (signals net)) (bits_of (signals net)) f.cell.form)) by_form in
+    subst C (sym (ap reads_of (gate_at_cell net b f.cell hb) ∙ reads_of-gate_of (number_of (signals net)) (bits_of (signals net)) f.cell.form)) by_form in
     let r : Reads (length net.inputs) (gates_of_net net) a b =
-        record { source = omega arith; reader = omega arith; reads = subst D (number_from_place (signals net) ca.target (length net.inputs + a) at) by_gate } in
+    record { source = omega arith; reader = omega arith; reads = subst D (number_from_place (signals net) ca.target (length net.inputs + a) at) by_gate } in
     (b, f.cell, hb, f.drives, r)
 
 -- a loop by number is a loop by name

@@ -1,6 +1,6 @@
 -- A valid net has exactly one valuation for given inputs and banks.
-use Rattle.std.proofs.Common.{◌≡◌, ◌≢◌, ◌⊎◌, ⊎_elim, ℕ, ◌+◌, ◌-◌, ◌<◌, ◌≤◌, ◌^◌, zero, suc, max, List, [], ◌∷◌, ◌++◌, Bool, true, false, ◌&&◌, nat_lt, eqb, Option, Some, length, map, get_or, take, drop, arith, refl, ap, sym, ◌∙◌, subst, All, Contains, ltb}
-use Rattle.std.specs.List.{AllByRecursion, list_any, Any}
+use Rattle.std.proofs.Common.{◌≡◌, ⊎_elim, ℕ, ◌+◌, ◌-◌, ◌<◌, ◌≤◌, ◌^◌, zero, suc, max, List, ◌++◌, Bool, true, ◌&&◌, eqb, Some, length, map, get_or, take, arith, refl, ap, sym, ◌∙◌, subst, Contains, ltb}
+use Rattle.std.specs.List.{list_any, Any}
 use Rattle.std.specs.Prelude.{slice_get}
 use Rattle.std.proofs.lemmas.Bool.{cases_lt, and_parts, and_from, ltb-true, lt-ltb, eqb-true, eq-eqb}
 use Rattle.std.proofs.lemmas.Grind.{same_number_lists}
@@ -10,15 +10,14 @@ use Rattle.std.proofs.lemmas.List.Folds.{Any-from_list_any, list_any-from_Any}
 use Rattle.std.proofs.lemmas.Nat.{pow_pos}
 use Rattle.std.proofs.lemmas.Option.{slice_get-get_or, slice_get_within, get_or_from_slice_get}
 use Rattle.ix_net.specs.declared.netlist.Net.{Net}
-use Rattle.ix_net.specs.declared.netlist.Port.{Port}
 use Rattle.ix_net.specs.declared.netlist.Cell.{Cell}
 use Rattle.ix_net.specs.declared.gates.Gate.{Gate}
 use Rattle.ix_net.specs.Chain.{Chain, one, more}
 use Rattle.ix_net.specs.Forms.{operands}
 use Rattle.ix_net.specs.Gates.{reads_of}
-use Rattle.ix_net.specs.Laws.{HasOneValuation, ValidNetsHaveOneValuation}
+use Rattle.ix_net.specs.Laws.{ValidNetsHaveOneValuation}
 use Rattle.ix_net.specs.Order.{Reads, gate_at}
-use Rattle.ix_net.specs.Signals.{signals, cell_port, bank_port, place_of, width_of, number_of, bits_of}
+use Rattle.ix_net.specs.Signals.{signals, cell_port, bank_port, place_of, number_of, bits_of}
 use Rattle.ix_net.specs.Valid.{IsValid}
 use Rattle.ix_net.specs.Wiring.{cell_gate}
 use Rattle.ix_net.specs.Valuation.{FitPorts, IsValuation, Settles, value_of, right_side, inputs_of, banks_of}
@@ -82,7 +81,7 @@ operand_reads net a b c n hb within at la =
     let C : List ℕ → Type 0 = λ xs. Contains xs (number_of (signals net) n) in
     let D : ℕ → Type 0 = λ i. Contains (reads_of (gate_at (gates_of_net net) b)) i in
     let by_gate : Contains (reads_of (gate_at (gates_of_net net) b)) (number_of (signals net) n) =
-        subst C (sym (ap reads_of (gate_at_cell net b c hb) ∙ reads_of-gate_of (number_of (signals net)) (bits_of (signals net)) c.form)) by_form in
+    subst C (sym (ap reads_of (gate_at_cell net b c hb) ∙ reads_of-gate_of (number_of (signals net)) (bits_of (signals net)) c.form)) by_form in
     record { source = omega arith; reader = omega arith; reads = subst D (number_from_place (signals net) n (length net.inputs + a) at) by_gate }
 
 -- two lists of values agree on inputs and banks
@@ -98,21 +97,21 @@ pub right_side-same :
 right_side-same net v u k c fits agrees hk cells =
     result_of-same (value_of net v) (value_of net u) (bits_of (signals net)) c.width c.form
     (recursion_from_All (λ n. value_of net v n ≡ value_of net u n) (operands c.form) (λ j d l.
-        (let n : List ℕ = get_or (operands c.form) j d in
-        let within : Contains (operands c.form) n = (j, l, get_or_default (operands c.form) j n d l) in
-        let p = operand_placed (signals net) c.width c.form (cell_fits net k c fits hk) n within in
-        let same : get_or v p.0 0 ≡ get_or u p.0 0 =
-            ⊎_elim (λ (li : p.0 < length net.inputs). agrees.on_inputs p.0 li)
-            (λ (gi : length net.inputs ≤ p.0). ⊎_elim
-                (λ (lb : p.0 < length net.inputs + length net.cells).
-                    (let a = p.0 - length net.inputs in
-                    let e : p.0 ≡ length net.inputs + a = omega arith in
-                    let r : Reads (length net.inputs) (gates_of_net net) a k = operand_reads net a k c n hk within (p.1 ∙ ap Some e) (omega arith) in
-                    ap (λ i. get_or v i 0) e ∙ cells a r ∙ ap (λ i. get_or u i 0) (sym e)))
-                (λ (gb : length net.inputs + length net.cells ≤ p.0). agrees.on_banks p.0 gb)
-                (cases_lt p.0 (length net.inputs + length net.cells)))
-            (cases_lt p.0 (length net.inputs)) in
-        value_at_place net v n p.0 p.1 ∙ same ∙ sym (value_at_place net u n p.0 p.1))))
+    (let n : List ℕ = get_or (operands c.form) j d in
+    let within : Contains (operands c.form) n = (j, l, get_or_default (operands c.form) j n d l) in
+    let p = operand_placed (signals net) c.width c.form (cell_fits net k c fits hk) n within in
+    let same : get_or v p.0 0 ≡ get_or u p.0 0 =
+    ⊎_elim (λ (li : p.0 < length net.inputs). agrees.on_inputs p.0 li)
+    (λ (gi : length net.inputs ≤ p.0). ⊎_elim
+    (λ (lb : p.0 < length net.inputs + length net.cells).
+    (let a = p.0 - length net.inputs in
+    let e : p.0 ≡ length net.inputs + a = omega arith in
+    let r : Reads (length net.inputs) (gates_of_net net) a k = operand_reads net a k c n hk within (p.1 ∙ ap Some e) (omega arith) in
+    ap (λ i. get_or v i 0) e ∙ cells a r ∙ ap (λ i. get_or u i 0) (sym e)))
+    (λ (gb : length net.inputs + length net.cells ≤ p.0). agrees.on_banks p.0 gb)
+    (cases_lt p.0 (length net.inputs + length net.cells)))
+    (cases_lt p.0 (length net.inputs)) in
+    value_at_place net v n p.0 p.1 ∙ same ∙ sym (value_at_place net u n p.0 p.1))))
 
 -- two lists with the same inputs and banks agree
 agrees_from : (net : Net) (v u : List ℕ) → inputs_of net v ≡ inputs_of net u → banks_of net v ≡ banks_of net u → Agrees net v u
@@ -121,8 +120,8 @@ agrees_from net v u ei eb =
     record {
       on_inputs = λ i l. sym (get_or-take (length net.inputs) v i 0 l) ∙ ap (λ xs. get_or xs i 0) ei ∙ get_or-take (length net.inputs) u i 0 l;
       on_banks = λ i l.
-        (let e : m + (i - m) ≡ i = omega arith in
-        ap (λ j. get_or v j 0) (sym e) ∙ sym (get_or-drop m v (i - m) 0) ∙ ap (λ xs. get_or xs (i - m) 0) eb ∙ get_or-drop m u (i - m) 0 ∙ ap (λ j. get_or u j 0) e);
+          (let e : m + (i - m) ≡ i = omega arith in
+          ap (λ j. get_or v j 0) (sym e) ∙ sym (get_or-drop m v (i - m) 0) ∙ ap (λ xs. get_or xs (i - m) 0) eb ∙ get_or-drop m u (i - m) 0 ∙ ap (λ j. get_or u j 0) e);
     }
 
 -- two valuations that agree on inputs and banks agree on the cells of a rank below n, for each n
@@ -133,7 +132,7 @@ unique_upto net v u h apart fits agrees hv hu zero a c ha l = absurd (omega arit
 unique_upto net v u h apart fits agrees hv hu (suc n) a c ha l =
     let size : length (gates_of_net net) ≡ length net.cells = length-map net.cells (cell_gate (signals net)) in
     let right : right_side net v c ≡ right_side net u c = right_side-same net v u a c fits agrees ha
-        (λ b r. (let cb = slice_get_some net.cells b (omega (arith, r.source)) in unique_upto net v u h apart fits agrees hv hu n b cb.0 cb.1 (omega (arith, h.rises b a r)))) in
+    (λ b r. (let cb = slice_get_some net.cells b (omega (arith, r.source)) in unique_upto net v u h apart fits agrees hv hu n b cb.0 cb.1 (omega (arith, h.rises b a r)))) in
     let within : Contains net.cells c = contains_from_slice_get net.cells a c ha in
     let at_v : value_of net v c.target ≡ right_side net v c = All-contains (λ (c : Cell). value_of net v c.target ≡ right_side net v c) net.cells c hv.holds within in
     let at_u : value_of net u c.target ≡ right_side net u c = All-contains (λ (c : Cell). value_of net u c.target ≡ right_side net u c) net.cells c hu.holds within in
@@ -148,15 +147,15 @@ unique_valuation net valid inputs banks v u sv su =
     let lu = fit_length (signals net) u su.valuation.fit in
     same_number_lists v u (lv ∙ sym lu)
     (λ i l. ⊎_elim (λ (li : i < length net.inputs). agrees.on_inputs i li)
-        (λ (gi : length net.inputs ≤ i). ⊎_elim
-            (λ (lb : i < length net.inputs + length net.cells).
-                (let a = i - length net.inputs in
-                let e : length net.inputs + a ≡ i = omega arith in
-                let c = slice_get_some net.cells a (omega arith) in
-                ap (λ j. get_or v j 0) (sym e) ∙ unique_upto net v u h apart valid.cells_fit agrees sv.valuation su.valuation (suc (h.rank a)) a c.0 c.1 (omega arith) ∙ ap (λ j. get_or u j 0) e))
-            (λ (gb : length net.inputs + length net.cells ≤ i). agrees.on_banks i gb)
-            (cases_lt i (length net.inputs + length net.cells)))
-        (cases_lt i (length net.inputs)))
+    (λ (gi : length net.inputs ≤ i). ⊎_elim
+    (λ (lb : i < length net.inputs + length net.cells).
+    (let a = i - length net.inputs in
+    let e : length net.inputs + a ≡ i = omega arith in
+    let c = slice_get_some net.cells a (omega arith) in
+    ap (λ j. get_or v j 0) (sym e) ∙ unique_upto net v u h apart valid.cells_fit agrees sv.valuation su.valuation (suc (h.rank a)) a c.0 c.1 (omega arith) ∙ ap (λ j. get_or u j 0) e))
+    (λ (gb : length net.inputs + length net.cells ≤ i). agrees.on_banks i gb)
+    (cases_lt i (length net.inputs + length net.cells)))
+    (cases_lt i (length net.inputs)))
 
 -- values with given inputs and banks, and a value of f for each cell
 abbrev laid : Net → List ℕ → List ℕ → (Cell → ℕ) → List ℕ
@@ -215,10 +214,10 @@ turns_still net inputs banks h fits e (suc n) a c ha l =
     right_side-same net (laid net inputs banks (turns net inputs banks n)) (laid net inputs banks (turns net inputs banks (suc n))) a c fits
     (laid_agrees net inputs banks (turns net inputs banks n) (turns net inputs banks (suc n)) e) ha
     (λ b r.
-        (let cb = slice_get_some net.cells b (omega (arith, r.source)) in
-        laid_cell net inputs banks (turns net inputs banks n) b cb.0 e cb.1
-        ∙ turns_still net inputs banks h fits e n b cb.0 cb.1 (omega (arith, h.rises b a r))
-        ∙ sym (laid_cell net inputs banks (turns net inputs banks (suc n)) b cb.0 e cb.1)))
+    (let cb = slice_get_some net.cells b (omega (arith, r.source)) in
+    laid_cell net inputs banks (turns net inputs banks n) b cb.0 e cb.1
+    ∙ turns_still net inputs banks h fits e n b cb.0 cb.1 (omega (arith, h.rises b a r))
+    ∙ sym (laid_cell net inputs banks (turns net inputs banks (suc n)) b cb.0 e cb.1)))
 
 -- past all ranks below n
 abbrev top : (ℕ → ℕ) → ℕ → ℕ
@@ -238,17 +237,17 @@ valuation_exists net valid inputs banks fi fb =
     let v : List ℕ = laid net inputs banks (turns net inputs banks m) in
     let e : length inputs ≡ length net.inputs = fit_length net.inputs inputs fi in
     let s : Settles net inputs banks v = record {
-        valuation = record {
-          fit = turns_fit net inputs banks valid.cells_fit fi fb m;
-          holds = λ k d l.
+      valuation = record {
+        fit = turns_fit net inputs banks valid.cells_fit fi fb m;
+        holds = λ k d l.
             (let c : Cell = get_or net.cells k d in
             let hk : slice_get net.cells k ≡ Some c = slice_get-get_or net.cells k d l in
             value_of_cell net apart v k c hk ∙ laid_cell net inputs banks (turns net inputs banks m) k c e hk
             ∙ turns_still net inputs banks h valid.cells_fit e m k c hk (top-above h.rank (length net.cells) k l));
-        };
-        inputs_same = laid_inputs net inputs banks (turns net inputs banks m) e;
-        banks_same = laid_banks net inputs banks (turns net inputs banks m) e;
-      } in
+      };
+      inputs_same = laid_inputs net inputs banks (turns net inputs banks m) e;
+      banks_same = laid_banks net inputs banks (turns net inputs banks m) e;
+    } in
     (v, s)
 
 pub one_valuation : ValidNetsHaveOneValuation

@@ -1,14 +1,14 @@
 -- The search for an order of cells: the path that is open, and what a step of the search keeps.
-use Rattle.std.proofs.Common.{◌≡◌, ◌≢◌, ◌⊎◌, ⊎_elim, inl, inr, ℕ, ◌+◌, ◌-◌, ◌*◌, ◌<◌, ◌≤◌, zero, suc, List, [], ◌∷◌, ◌++◌, Bool, true, false, cond, length, get_or, set, take, arith, refl, ap, sym, ◌∙◌, subst, All, Contains, length-append, length-set}
-use Rattle.std.proofs.lemmas.Bool.{cases_eq, cases_lt, cases_order}
-use Rattle.std.proofs.lemmas.List.{get_or-set_same, get_or-set_other, get_or_default, get_or_append_left, get_or_push, get_or_past, take-append-le, take_at, take_more, take_all, length_push, set_past}
+use Rattle.std.proofs.Common.{◌≡◌, ◌≢◌, ◌⊎◌, ⊎_elim, inl, inr, ℕ, ◌+◌, ◌-◌, ◌<◌, ◌≤◌, zero, suc, List, [], ◌∷◌, ◌++◌, length, get_or, set, take, arith, refl, ap, sym, ◌∙◌, subst, All, Contains}
+use Rattle.std.proofs.lemmas.Bool.{cases_eq, cases_lt}
+use Rattle.std.proofs.lemmas.List.{get_or-set_same, get_or-set_other, get_or_default, get_or_append_left, get_or_push, take-append-le, take_at, take_more, take_all, length_push}
 use Rattle.std.proofs.lemmas.List.Elements.{Contains-append_left, Contains-push, Contains-push_cases, All-push}
 use Rattle.ix_net.specs.declared.gates.Gate.{Gate}
 use Rattle.ix_net.specs.declared.ordering.Mark.{Mark}
 use Rattle.ix_net.specs.declared.ordering.Mark.TheVariants.{New, Open, Done}
 use Rattle.ix_net.specs.Chain.{Chain, one, more}
 use Rattle.ix_net.specs.Gates.{reads_of}
-use Rattle.ix_net.specs.Order.{Reads, IsOrder, IsOrdered, IsResting, StaysSeen, gate_at, mark_at}
+use Rattle.ix_net.specs.Order.{Reads, IsOrdered, IsResting, StaysSeen, gate_at, mark_at}
 
 -- one more element of what was gone over
 pub Contains-more : {X : Type 0} (xs : List X) (i : ℕ) (d x : X) → i < length xs → Contains (take (i + 1) xs) x → Contains (take i xs) x ⊎ (get_or xs i d ≡ x)
@@ -59,11 +59,11 @@ searching_first first gates old order root size l rest =
       cells = All-push (λ k. k < length gates) [] root (λ k d lk. absurd (omega arith)) l;
       linked = λ p lp. absurd (omega arith);
       opened = λ k h.
-        ⊎_elim (λ (e : (k ≡ root) × (Open ≡ Open)). let here : Contains (root ∷ []) k = (0, omega arith, sym e.0) in here)
-        (λ (o : (k ≢ root) × (mark_at old k ≡ Open)). absurd (rest.shut k o.1)) (mark_cases old root k Open Open lo h);
+          ⊎_elim (λ (e : (k ≡ root) × (Open ≡ Open)). let here : Contains (root ∷ []) k = (0, omega arith, sym e.0) in here)
+          (λ (o : (k ≢ root) × (mark_at old k ≡ Open)). absurd (rest.shut k o.1)) (mark_cases old root k Open Open lo h);
       done = λ k h.
-        ⊎_elim (λ (e : (k ≡ root) × (Open ≡ Done)). absurd (let no = e.1 in cc))
-        (λ (o : (k ≢ root) × (mark_at old k ≡ Done)). rest.done k o.1) (mark_cases old root k Open Done lo h);
+          ⊎_elim (λ (e : (k ≡ root) × (Open ≡ Done)). absurd (let no = e.1 in cc))
+          (λ (o : (k ≢ root) × (mark_at old k ≡ Done)). rest.done k o.1) (mark_cases old root k Open Done lo h);
       ordered = rest.ordered;
       seen = seen-set old old root Open lo (λ e. cc) (λ k h. h);
       root_seen = λ h. ⊎_elim (λ (e : (root ≡ root) × (Open ≡ New)). let no = e.1 in cc) (λ (o : (root ≢ root) × (mark_at old root ≡ New)). o.0 refl) (mark_cases old root root Open New lo h);
@@ -85,17 +85,17 @@ ordered-push first gates order cell l h reads =
     record {
       cells = All-push (λ k. k < length gates) order cell h.cells l;
       behind = λ i a li r. ⊎_elim
-        (λ (lt : i < length order).
-            (let R : ℕ → Type 0 = λ x. Reads first gates a x in
-            let C : List ℕ → Type 0 = λ ys. Contains ys a in
-            subst C (sym (take-append-le i order (cell ∷ []) (omega arith))) (h.behind i a lt (subst R (before_last order cell i lt) r))))
-        (λ (ge : length order ≤ i).
-            (let e : i ≡ length order = omega arith in
-            let R : ℕ → Type 0 = λ x. Reads first gates a x in
-            let C : List ℕ → Type 0 = λ ys. Contains ys a in
-            let at : get_or (order ++ cell ∷ []) i 0 ≡ cell = ap (λ n. get_or (order ++ cell ∷ []) n 0) e ∙ last_of order cell in
-            subst C (sym (take_at order (cell ∷ []) i (sym e))) (reads a (subst R at r))))
-        (cases_lt i (length order));
+          (λ (lt : i < length order).
+          (let R : ℕ → Type 0 = λ x. Reads first gates a x in
+          let C : List ℕ → Type 0 = λ ys. Contains ys a in
+          subst C (sym (take-append-le i order (cell ∷ []) (omega arith))) (h.behind i a lt (subst R (before_last order cell i lt) r))))
+          (λ (ge : length order ≤ i).
+          (let e : i ≡ length order = omega arith in
+          let R : ℕ → Type 0 = λ x. Reads first gates a x in
+          let C : List ℕ → Type 0 = λ ys. Contains ys a in
+          let at : get_or (order ++ cell ∷ []) i 0 ≡ cell = ap (λ n. get_or (order ++ cell ∷ []) n 0) e ∙ last_of order cell in
+          subst C (sym (take_at order (cell ∷ []) i (sym e))) (reads a (subst R at r))))
+          (cases_lt i (length order));
     }
 
 -- the last cell of the path is done
@@ -111,16 +111,16 @@ searching_done first gates old marks order rest root cell size s ready =
     record {
       cells = λ k d lk. (let P : ℕ → Type 0 = λ x. x < length gates in subst P (get_or_append_left rest (cell ∷ []) d k lk) (s.cells k d (omega arith)));
       linked = λ p lp.
-        (let R : ℕ → Type 0 = λ x. Reads first gates x (get_or (rest ++ cell ∷ []) p 0) in
-        let Q : ℕ → Type 0 = λ y. Reads first gates (get_or rest (p + 1) 0) y in
-        subst Q (before_last rest cell p (omega arith)) (subst R (before_last rest cell (p + 1) lp) (s.linked p (omega arith))));
+          (let R : ℕ → Type 0 = λ x. Reads first gates x (get_or (rest ++ cell ∷ []) p 0) in
+          let Q : ℕ → Type 0 = λ y. Reads first gates (get_or rest (p + 1) 0) y in
+          subst Q (before_last rest cell p (omega arith)) (subst R (before_last rest cell (p + 1) lp) (s.linked p (omega arith))));
       opened = λ k h.
-        ⊎_elim (λ (e : (k ≡ cell) × (Done ≡ Open)). absurd (let no = e.1 in cc))
-        (λ (o : (k ≢ cell) × (mark_at marks k ≡ Open)). ⊎_elim (λ (c : Contains rest k). c) (λ (e : cell ≡ k). absurd (o.0 (sym e))) (Contains-push_cases rest cell k (s.opened k o.1)))
-        (mark_cases marks cell k Done Open lm h);
+          ⊎_elim (λ (e : (k ≡ cell) × (Done ≡ Open)). absurd (let no = e.1 in cc))
+          (λ (o : (k ≢ cell) × (mark_at marks k ≡ Open)). ⊎_elim (λ (c : Contains rest k). c) (λ (e : cell ≡ k). absurd (o.0 (sym e))) (Contains-push_cases rest cell k (s.opened k o.1)))
+          (mark_cases marks cell k Done Open lm h);
       done = λ k h.
-        ⊎_elim (λ (e : (k ≡ cell) × (Done ≡ Done)). let C : ℕ → Type 0 = λ x. Contains (order ++ cell ∷ []) x in subst C (sym e.0) (Contains-push order cell))
-        (λ (o : (k ≢ cell) × (mark_at marks k ≡ Done)). Contains-append_left order (cell ∷ []) k (s.done k o.1)) (mark_cases marks cell k Done Done lm h);
+          ⊎_elim (λ (e : (k ≡ cell) × (Done ≡ Done)). let C : ℕ → Type 0 = λ x. Contains (order ++ cell ∷ []) x in subst C (sym e.0) (Contains-push order cell))
+          (λ (o : (k ≢ cell) × (mark_at marks k ≡ Done)). Contains-append_left order (cell ∷ []) k (s.done k o.1)) (mark_cases marks cell k Done Done lm h);
       ordered = ordered-push first gates order cell l s.ordered (λ a r. s.done a (ready a (let la = r.source in omega arith) r.reads));
       seen = seen-set old marks cell Done lm (λ e. cc) s.seen;
       root_seen = root-set marks cell root Done lm (λ e. cc) s.root_seen;
@@ -139,24 +139,24 @@ searching_on first gates old marks order rest root cell next size s r undone =
     record {
       cells = All-push (λ k. k < length gates) (rest ++ cell ∷ []) next s.cells r.source;
       linked = λ p lp. ⊎_elim
-        (λ (lt : p + 1 < length (rest ++ cell ∷ [])).
-            (let R : ℕ → Type 0 = λ x. Reads first gates x (get_or ((rest ++ cell ∷ []) ++ next ∷ []) p 0) in
-            let Q : ℕ → Type 0 = λ y. Reads first gates (get_or (rest ++ cell ∷ []) (p + 1) 0) y in
-            subst R (sym (before_last (rest ++ cell ∷ []) next (p + 1) lt)) (subst Q (sym (before_last (rest ++ cell ∷ []) next p (omega arith))) (s.linked p lt))))
-        (λ (ge : length (rest ++ cell ∷ []) ≤ p + 1).
-            (let e : p + 1 ≡ length (rest ++ cell ∷ []) = omega arith in
-            let e' : p ≡ length rest = omega arith in
-            let at_next : get_or ((rest ++ cell ∷ []) ++ next ∷ []) (p + 1) 0 ≡ next = ap (λ n. get_or ((rest ++ cell ∷ []) ++ next ∷ []) n 0) e ∙ last_of (rest ++ cell ∷ []) next in
-            let at_cell : get_or ((rest ++ cell ∷ []) ++ next ∷ []) p 0 ≡ cell = before_last (rest ++ cell ∷ []) next p (omega arith) ∙ ap (λ n. get_or (rest ++ cell ∷ []) n 0) e' ∙ last_of rest cell in
-            let R : ℕ → Type 0 = λ x. Reads first gates x (get_or ((rest ++ cell ∷ []) ++ next ∷ []) p 0) in
-            let Q : ℕ → Type 0 = λ y. Reads first gates next y in
-            subst R (sym at_next) (subst Q (sym at_cell) r)))
-        (cases_lt (p + 1) (length (rest ++ cell ∷ [])));
+          (λ (lt : p + 1 < length (rest ++ cell ∷ [])).
+          (let R : ℕ → Type 0 = λ x. Reads first gates x (get_or ((rest ++ cell ∷ []) ++ next ∷ []) p 0) in
+          let Q : ℕ → Type 0 = λ y. Reads first gates (get_or (rest ++ cell ∷ []) (p + 1) 0) y in
+          subst R (sym (before_last (rest ++ cell ∷ []) next (p + 1) lt)) (subst Q (sym (before_last (rest ++ cell ∷ []) next p (omega arith))) (s.linked p lt))))
+          (λ (ge : length (rest ++ cell ∷ []) ≤ p + 1).
+          (let e : p + 1 ≡ length (rest ++ cell ∷ []) = omega arith in
+          let e' : p ≡ length rest = omega arith in
+          let at_next : get_or ((rest ++ cell ∷ []) ++ next ∷ []) (p + 1) 0 ≡ next = ap (λ n. get_or ((rest ++ cell ∷ []) ++ next ∷ []) n 0) e ∙ last_of (rest ++ cell ∷ []) next in
+          let at_cell : get_or ((rest ++ cell ∷ []) ++ next ∷ []) p 0 ≡ cell = before_last (rest ++ cell ∷ []) next p (omega arith) ∙ ap (λ n. get_or (rest ++ cell ∷ []) n 0) e' ∙ last_of rest cell in
+          let R : ℕ → Type 0 = λ x. Reads first gates x (get_or ((rest ++ cell ∷ []) ++ next ∷ []) p 0) in
+          let Q : ℕ → Type 0 = λ y. Reads first gates next y in
+          subst R (sym at_next) (subst Q (sym at_cell) r)))
+          (cases_lt (p + 1) (length (rest ++ cell ∷ [])));
       opened = λ k h.
-        ⊎_elim (λ (e : (k ≡ next) × (Open ≡ Open)). let C : ℕ → Type 0 = λ x. Contains ((rest ++ cell ∷ []) ++ next ∷ []) x in subst C (sym e.0) (Contains-push (rest ++ cell ∷ []) next))
-        (λ (o : (k ≢ next) × (mark_at marks k ≡ Open)). Contains-append_left (rest ++ cell ∷ []) (next ∷ []) k (s.opened k o.1)) (mark_cases marks next k Open Open lm h);
+          ⊎_elim (λ (e : (k ≡ next) × (Open ≡ Open)). let C : ℕ → Type 0 = λ x. Contains ((rest ++ cell ∷ []) ++ next ∷ []) x in subst C (sym e.0) (Contains-push (rest ++ cell ∷ []) next))
+          (λ (o : (k ≢ next) × (mark_at marks k ≡ Open)). Contains-append_left (rest ++ cell ∷ []) (next ∷ []) k (s.opened k o.1)) (mark_cases marks next k Open Open lm h);
       done = λ k h.
-        ⊎_elim (λ (e : (k ≡ next) × (Open ≡ Done)). absurd (let no = e.1 in cc)) (λ (o : (k ≢ next) × (mark_at marks k ≡ Done)). s.done k o.1) (mark_cases marks next k Open Done lm h);
+          ⊎_elim (λ (e : (k ≡ next) × (Open ≡ Done)). absurd (let no = e.1 in cc)) (λ (o : (k ≢ next) × (mark_at marks k ≡ Done)). s.done k o.1) (mark_cases marks next k Open Done lm h);
       ordered = s.ordered;
       seen = seen-set old marks next Open lm (λ e. cc) s.seen;
       root_seen = root-set marks next root Open lm (λ e. cc) s.root_seen;

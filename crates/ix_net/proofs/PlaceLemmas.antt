@@ -1,15 +1,13 @@
 -- The first place in a list that passes a test, and the places of ports by their names.
-use Rattle.std.proofs.Common.{◌≡◌, ◌≢◌, ◌⊎◌, ℕ, ◌+◌, ◌<◌, ◌≤◌, ◌-◌, suc, zero, List, [], ◌∷◌, ◌++◌, Bool, true, false, cond, Option, Some, None, is_some, unwrap_or, length, map, get_or, take, arith, refl, ap, sym, ◌∙◌, subst, add-zero, inl, inr, All, AllPairs, Contains}
+use Rattle.std.proofs.Common.{◌≡◌, ◌≢◌, ℕ, ◌+◌, ◌<◌, ◌≤◌, ◌-◌, suc, zero, List, [], ◌∷◌, ◌++◌, Bool, true, false, cond, Option, Some, None, is_some, length, get_or, take, arith, refl, ap, sym, ◌∙◌, subst, AllPairs}
 use Rattle.std.proofs.lemmas.List.{take_more, length-take-le, length-map, get_or-map, get_or-take, take-map}
 use Rattle.std.proofs.lemmas.List.Quantifiers.{all_pairs_push}
 use Rattle.std.specs.List.{position_from}
-use Rattle.std.specs.Option.{option_and_then, option_map}
-use Rattle.std.specs.Prelude.{slice_get}
 use Rattle.std.specs.Str.{bytes_eq}
-use Rattle.std.proofs.lemmas.Bool.{false≢true, cases_Bool}
+use Rattle.std.proofs.lemmas.Bool.{false≢true}
 use Rattle.std.proofs.lemmas.Slice.Eq.{bytes_eq-Decides}
 use Rattle.ix_net.specs.declared.netlist.Port.{Port}
-use Rattle.ix_net.specs.Signals.{place_of, width_of}
+use Rattle.ix_net.specs.Signals.{place_of}
 use Rattle.ix_net.specs.Valid.{names}
 
 -- one more element behind the list
@@ -126,9 +124,9 @@ distinct-more ports i p l e fresh before =
     subst P (sym more)
     (all_pairs_push (λ x y. x ≢ y) (take i (names ports)) p.name before
     (λ k d lk same.
-        differs-from_None ports i k p.name d fresh
-        (let same_size : length (take i (names ports)) ≡ length (take i ports) = ap length cut ∙ length-map (take i ports) (λ (q : Port). q.name) in omega arith)
-        (ap (λ ns. get_or ns k d) (sym cut) ∙ same)))
+    differs-from_None ports i k p.name d fresh
+    (let same_size : length (take i (names ports)) ≡ length (take i ports) = ap length cut ∙ length-map (take i ports) (λ (q : Port). q.name) in omega arith)
+    (ap (λ ns. get_or ns k d) (sym cut) ∙ same)))
 
 -- a name that stands earlier too
 pub not_distinct :

@@ -1,6 +1,6 @@
 -- A relation on the numbers below n has a rank that rises along each step, or a loop.
-use Rattle.std.proofs.Common.{◌≡◌, ◌⊎◌, inl, inr, ⊎_elim, ℕ, ◌+◌, ◌*◌, ◌<◌, ◌≤◌, zero, suc, max, Bool, true, false, cond, ◌||◌, ◌&&◌, eqb, arith, refl, sym, ◌∙◌, ap, subst}
-use Rattle.std.proofs.lemmas.Bool.{cases_eq, cases_Bool, eqb-true, eq-eqb, ne_eqb, cond_both, or_cases, or_left, and_parts, and_from, false≢true}
+use Rattle.std.proofs.Common.{◌≡◌, ◌⊎◌, inl, inr, ⊎_elim, ℕ, ◌+◌, ◌*◌, ◌<◌, ◌≤◌, zero, suc, max, Bool, true, false, cond, ◌||◌, ◌&&◌, eqb, arith, refl, sym, ◌∙◌, ap}
+use Rattle.std.proofs.lemmas.Bool.{cases_eq, cases_Bool, eq-eqb, ne_eqb, cond_both, or_cases, or_left, and_parts, and_from, false≢true}
 use Rattle.ix_net.specs.Chain.{Chain, one, more}
 
 -- steps of a test
@@ -66,22 +66,22 @@ extend n e free h =
     record {
       rank = extended e h.rank n;
       rises = λ a b la lb s. ⊎_elim
-        (λ (ea : a ≡ n). ⊎_elim
-            (λ (eb : b ≡ n). absurd (false≢true (sym free ∙ ap (λ x. e n x) (sym eb) ∙ ap (λ x. e x b) (sym ea) ∙ s)))
-            (λ (nb : b ≡ n → ⊥).
-                (let s' : e n b ≡ true = ap (λ x. e x b) (sym ea) ∙ s in
-                let below = past-below e h.rank n n (h.rank b) (λ c lc t. h.rises c b lc (omega arith) (or_right_from (e c b) (e c n && e n b) (and_from (e c n) (e n b) t s'))) in
-                omega (arith, below, extended-at e h.rank n a ea, extended-below e h.rank n b nb)))
-            (cases_eq b n))
-        (λ (na : a ≡ n → ⊥). ⊎_elim
-            (λ (eb : b ≡ n).
-                (let s' : e a n ≡ true = ap (λ x. e a x) (sym eb) ∙ s in
-                omega (arith, past-above e h.rank n n a (omega arith) s', extended-below e h.rank n a na, extended-at e h.rank n b eb)))
-            (λ (nb : b ≡ n → ⊥).
-                (let less = h.rises a b (omega arith) (omega arith) (or_left (e a b) (e a n && e n b) s) in
-                omega (arith, less, extended-below e h.rank n a na, extended-below e h.rank n b nb)))
-            (cases_eq b n))
-        (cases_eq a n);
+          (λ (ea : a ≡ n). ⊎_elim
+          (λ (eb : b ≡ n). absurd (false≢true (sym free ∙ ap (λ x. e n x) (sym eb) ∙ ap (λ x. e x b) (sym ea) ∙ s)))
+          (λ (nb : b ≡ n → ⊥).
+          (let s' : e n b ≡ true = ap (λ x. e x b) (sym ea) ∙ s in
+          let below = past-below e h.rank n n (h.rank b) (λ c lc t. h.rises c b lc (omega arith) (or_right_from (e c b) (e c n && e n b) (and_from (e c n) (e n b) t s'))) in
+          omega (arith, below, extended-at e h.rank n a ea, extended-below e h.rank n b nb)))
+          (cases_eq b n))
+          (λ (na : a ≡ n → ⊥). ⊎_elim
+          (λ (eb : b ≡ n).
+          (let s' : e a n ≡ true = ap (λ x. e a x) (sym eb) ∙ s in
+          omega (arith, past-above e h.rank n n a (omega arith) s', extended-below e h.rank n a na, extended-at e h.rank n b eb)))
+          (λ (nb : b ≡ n → ⊥).
+          (let less = h.rises a b (omega arith) (omega arith) (or_left (e a b) (e a n && e n b) s) in
+          omega (arith, less, extended-below e h.rank n a na, extended-below e h.rank n b nb)))
+          (cases_eq b n))
+          (cases_eq a n);
     }
   where
     or_right_from : (x y : Bool) → y ≡ true → (x || y) ≡ true

@@ -1,6 +1,6 @@
 -- One step of a loop over a list whose elements are read by index.
 use Rattle.std.proofs.Common.{◌≡◌, ℕ, ◌+◌, ◌<◌, List, [], ◌∷◌, ◌++◌, length, map, take, get_or, ap, sym, ◌∙◌, subst, All}
-use Rattle.std.proofs.lemmas.List.{map_more, take_more}
+use Rattle.std.proofs.lemmas.List.{map_more}
 use Rattle.std.proofs.lemmas.List.Elements.{All-more}
 
 -- a fact of each element so far and of the next

@@ -1,10 +1,10 @@
 -- What a table of signals shows of a net.
-use Rattle.std.proofs.Common.{◌≡◌, ◌≢◌, ℕ, ◌+◌, ◌<◌, ◌-◌, zero, suc, List, [], ◌∷◌, Bool, true, false, Option, Some, None, Result, Ok, Err, IfOk, length, map, get_or, arith, refl, ap, sym, ◌∙◌, subst, All, AllPairs}
+use Rattle.std.proofs.Common.{◌≡◌, ◌≢◌, ℕ, ◌<◌, ◌-◌, zero, suc, List, [], ◌∷◌, true, Some, None, Result, Ok, Err, IfOk, length, map, get_or, arith, refl, ap, sym, ◌∙◌, subst, All, AllPairs}
 use Rattle.std.specs.Option.{option_and_then}
 use Rattle.std.specs.Prelude.{slice_get}
 use Rattle.std.specs.Str.{bytes_eq}
 use Rattle.std.proofs.lemmas.Bool.{false≢true}
-use Rattle.std.proofs.lemmas.List.{length-map, get_or-map, get_or_default}
+use Rattle.std.proofs.lemmas.List.{length-map, get_or-map}
 use Rattle.std.proofs.lemmas.List.Elements.{All-map}
 use Rattle.std.proofs.lemmas.Option.{slice_get-get_or}
 use Rattle.std.proofs.lemmas.Slice.Eq.{bytes_eq-Decides}
@@ -15,7 +15,7 @@ use Rattle.ix_net.specs.Name.{IsName}
 use Rattle.ix_net.specs.Signals.{signals, place_of, width_of}
 use Rattle.ix_net.specs.Valid.{IsWidth, names}
 use Rattle.ix_net.specs.Tables.{port_of, IsDeclared}
-use Rattle.ix_net.proofs.PlaceLemmas.{IsFirst, position_from-Some, position_from-None}
+use Rattle.ix_net.proofs.PlaceLemmas.{position_from-Some, position_from-None}
 
 -- the place of a name is within the list, and the port there has the name
 pub place_within : (ports : List Port) (name : List ℕ) (i : ℕ) → place_of ports name ≡ Some i → i < length ports

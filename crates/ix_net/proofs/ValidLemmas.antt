@@ -1,25 +1,24 @@
 -- Validity from what the code finds, and back.
-use Rattle.std.proofs.Common.{◌≡◌, ◌≢◌, ◌⊎◌, ⊎_elim, ℕ, ◌+◌, ◌-◌, ◌<◌, ◌≤◌, zero, suc, List, [], ◌∷◌, Bool, true, false, Option, Some, None, length, map, get_or, take, eqb, cond, arith, refl, ap, sym, ◌∙◌, subst, All, AllPairs, Contains}
+use Rattle.std.proofs.Common.{◌≡◌, ◌≢◌, ℕ, ◌+◌, ◌-◌, ◌<◌, ◌≤◌, zero, suc, List, [], ◌∷◌, true, Some, length, map, get_or, take, eqb, cond, arith, ap, sym, ◌∙◌, subst, All, AllPairs, Contains}
 use Rattle.std.specs.Prelude.{slice_get}
 use Rattle.std.specs.Option.{option_map}
 use Rattle.std.proofs.lemmas.Bool.{eq-eqb, eqb-true, cond_both}
 use Rattle.std.proofs.lemmas.List.{length-map, length-take, get_or-take, get_or_default}
-use Rattle.std.proofs.lemmas.List.Elements.{All-contains}
-use Rattle.std.proofs.lemmas.Option.{slice_get_within, get_or_from_slice_get, slice_get-map, same_Some}
+use Rattle.std.proofs.lemmas.Option.{get_or_from_slice_get, slice_get-map, same_Some}
 use Rattle.ix_net.specs.declared.netlist.Net.{Net}
 use Rattle.ix_net.specs.declared.netlist.Port.{Port}
 use Rattle.ix_net.specs.declared.netlist.Cell.{Cell}
 use Rattle.ix_net.specs.declared.netlist.Bank.{Bank}
 use Rattle.ix_net.specs.declared.gates.Gate.{Gate}
 use Rattle.ix_net.specs.Chain.{Chain, one, more}
-use Rattle.ix_net.specs.Order.{Reads, IsOrder, IsOrdered}
+use Rattle.ix_net.specs.Order.{Reads, IsOrder}
 use Rattle.ix_net.specs.Signals.{signals, cell_port, place_of, width_of, number_of}
 use Rattle.ix_net.specs.Tables.{IsDeclared}
 use Rattle.ix_net.specs.Valid.{Feeds, DependsOn, IsValid, names}
 use Rattle.ix_net.specs.Wiring.{cell_gate, latch_of, IsCellPort, EnablesFit, SourcesFit, IsWiring}
 use Rattle.ix_net.specs.declared.wires.Wiring.{Wiring}
 use Rattle.ix_net.specs.Forms.{Fits}
-use Rattle.ix_net.proofs.TableLemmas.{place_within, name_at_place, width_at_place, apart_tail}
+use Rattle.ix_net.proofs.TableLemmas.{name_at_place, width_at_place, apart_tail}
 use Rattle.ix_net.proofs.NetLemmas.{Apart, CellsFit, gates_of_net, chain_feeds, feeds_reads, signal_cell, place_of-at, slice_get_some, slice_get_from_contains, contains_from_slice_get}
 
 -- the first place of a number in an order; the length where it has none
@@ -171,7 +170,7 @@ refuse_outputs net ports inputs cells outputs ep ei ec eo never v =
     let C : ℕ → Type 0 = λ n. All (IsCellPort (signals net) (length net.inputs) n) outputs in
     let D : List Port → Type 0 = λ os. All (IsCellPort (signals net) (length net.inputs) (length net.cells)) os in
     let all : All (IsCellPort (signals net) (length net.inputs) (length net.cells)) net.outputs =
-        λ k o l. cell_port_from net (get_or net.outputs k o) (apart_of net v.distinct) (v.outputs_driven k o l) in
+    λ k o l. cell_port_from net (get_or net.outputs k o) (apart_of net v.distinct) (v.outputs_driven k o l) in
     never (subst A (sym ep) (subst B (sym ei) (subst C (sym ec) (subst D (sym eo) all))))
 
 pub refuse_loop :
@@ -206,14 +205,14 @@ wiring_from net w t i n outs outs' banks cells gates et ei en eo eo' eb ec eg d 
     let F2 : List Port → Type 0 = λ ps. All (λ (c : Cell). Fits (width_of ps) c.width c.form) net.cells in
     let O1 : ℕ → Type 0 = λ k. IsOrder k gates w.order.items in
     let O2 : List Gate → Type 0 = λ gs. IsOrder (length net.inputs) gs w.order.items in
-    let ordered : IsOrder (length net.inputs) w.gates.items w.order.items = subst O2 eg (subst O1 ei order) in
-    ( valid_from net w.order.items d (subst A eo apart) (subst D4 en (subst D3 ei (subst D2 et (subst D1 eo' driven)))) (subst E2 et (subst E1 eb enables)) (subst S2 et (subst S1 eb sources))
-        (subst F2 et (subst F1 ec fits)) (subst O2 made ordered)
-    , record {
+    let ordered : IsOrder (length net.inputs) w.gates.items w.order.items = subst O2 eg (subst O1 ei order) in (
+      valid_from net w.order.items d (subst A eo apart) (subst D4 en (subst D3 ei (subst D2 et (subst D1 eo' driven)))) (subst E2 et (subst E1 eb enables)) (subst S2 et (subst S1 eb sources))
+          (subst F2 et (subst F1 ec fits)) (subst O2 made ordered),
+      record {
         widths = wide ∙ ap (map (λ (p : Port). p.width)) et;
         gates = made;
         latches = latched ∙ ap (map (latch_of t)) eb ∙ ap (λ ps. map (latch_of ps) net.banks) et;
         outputs = placed ∙ ap (map (λ (p : Port). number_of t p.name)) eo' ∙ ap (λ ps. map (λ (p : Port). number_of ps p.name) net.outputs) et;
         order = ordered;
-      }
+      },
     )

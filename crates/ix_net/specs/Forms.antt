@@ -1,5 +1,5 @@
 -- Right sides of assignments (IEEE 1364-2005, 5.1, expressions). A pattern is its bits as an unsigned number.
-use Rattle.std.specs.Prelude.{ℕ, ◌≡◌, ◌+◌, ◌-◌, ◌*◌, ◌/◌, ◌%◌, ◌^◌, ◌≤◌, ◌<◌, List, [], ◌∷◌, Option, Some, Bool, true, false, ◌==◌, nat_lt, if◌then◌else◌, bit_and, bit_or, bit_xor, int_lt}
+use Rattle.std.specs.Prelude.{ℕ, ◌≡◌, ◌+◌, ◌-◌, ◌*◌, ◌/◌, ◌%◌, ◌^◌, ◌≤◌, ◌<◌, List, [], ◌∷◌, Option, Some, Bool, true, ◌==◌, nat_lt, if◌then◌else◌, bit_and, bit_or, bit_xor, int_lt}
 use Rattle.ix_bits.specs.Types.{number_of}
 use Rattle.ix_net.specs.declared.netlist.Form.{Form}
 use Rattle.ix_net.specs.declared.netlist.Form.TheVariants.{Hex, Copy, Add, Sub, Mul, And, Or, Xor, Not, Eq, Lt, LtSigned, Join, Range, Choose}

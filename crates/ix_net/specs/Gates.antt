@@ -1,5 +1,5 @@
 -- Right sides whose operands are numbers of signals: inputs, then cells, then banks.
-use Rattle.std.specs.Prelude.{ℕ, ◌≡◌, ◌+◌, ◌-◌, ◌*◌, ◌/◌, ◌%◌, ◌^◌, ◌≤◌, ◌<◌, List, [], ◌∷◌, Option, Some, Bool, true, false, ◌==◌, nat_lt, if◌then◌else◌, bit_and, bit_or, bit_xor}
+use Rattle.std.specs.Prelude.{ℕ, ◌+◌, ◌-◌, ◌*◌, ◌/◌, ◌%◌, ◌^◌, List, [], ◌∷◌, ◌==◌, nat_lt, if◌then◌else◌, bit_and, bit_or, bit_xor}
 use Rattle.ix_net.specs.declared.netlist.Form.{Form}
 use Rattle.ix_net.specs.declared.gates.Gate.{Gate}
 use Rattle.ix_net.specs.declared.netlist.Form.TheVariants as form

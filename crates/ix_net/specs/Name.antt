@@ -1,6 +1,6 @@
 -- Names of a netlist (IEEE 1364-2005, 3.7.1, simple identifiers without `$`; that a name has a digit or a `_`, and so
 -- differs from most keywords, is this project's choice).
-use Rattle.std.specs.Prelude.{ℕ, List, [], ◌∷◌, Bool, true, false, ◌||◌, ◌&&◌, ◌==◌, nat_le, IsTrue, All, Any, Contains, codes, ◌≡◌}
+use Rattle.std.specs.Prelude.{ℕ, List, [], ◌∷◌, Bool, ◌||◌, ◌&&◌, ◌==◌, nat_le, IsTrue, All, Any, Contains, codes}
 
 -- a letter or `_`
 abbrev pub is_letter : ℕ → Bool

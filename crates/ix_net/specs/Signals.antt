@@ -1,6 +1,6 @@
 -- The names that a net declares (IEEE 1364-2005, 3.2, nets and variables).
-use Rattle.std.specs.Prelude.{ℕ, List, [], ◌∷◌, ◌++◌, map, length, Option, slice_get, ◌+◌, unwrap_or}
-use Rattle.std.specs.Option.{option_map, option_and_then}
+use Rattle.std.specs.Prelude.{ℕ, List, ◌++◌, map, Option, slice_get, unwrap_or}
+use Rattle.std.specs.Option.{option_and_then}
 use Rattle.std.specs.List.{position_from}
 use Rattle.std.specs.Str.{bytes_eq}
 use Rattle.ix_net.specs.declared.netlist.Net.{Net}

@@ -1,6 +1,6 @@
 -- When a net is valid (IEEE 1364-2005, 6.1, continuous assignments, and 12.3, ports; that no name is driven twice and that
 -- no assignment depends on itself are this project's choice).
-use Rattle.std.specs.Prelude.{ℕ, ◌≡◌, ◌≢◌, ◌≤◌, List, [], ◌∷◌, map, All, AllPairs, Contains, Some}
+use Rattle.std.specs.Prelude.{ℕ, ◌≡◌, ◌≢◌, ◌≤◌, List, ◌∷◌, map, All, AllPairs, Contains, Some}
 use Rattle.ix_net.specs.declared.netlist.Net.{Net}
 use Rattle.ix_net.specs.declared.netlist.Port.{Port}
 use Rattle.ix_net.specs.declared.netlist.Cell.{Cell}

@@ -1,5 +1,5 @@
 -- What the names of a net stand for in one cycle (IEEE 1364-2005, 6.1: each assignment holds at all times).
-use Rattle.std.specs.Prelude.{ℕ, ◌≡◌, ◌<◌, ◌+◌, ◌^◌, List, [], ◌∷◌, ◌++◌, map, length, take, drop, slice_index, unwrap_or, All}
+use Rattle.std.specs.Prelude.{ℕ, ◌≡◌, ◌<◌, ◌+◌, ◌^◌, List, [], ◌∷◌, length, take, drop, slice_index, unwrap_or, All}
 use Rattle.std.specs.Option.{option_map}
 use Rattle.ix_net.specs.declared.netlist.Net.{Net}
 use Rattle.ix_net.specs.declared.netlist.Port.{Port}

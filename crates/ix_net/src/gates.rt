@@ -68,16 +68,28 @@ pub(crate) fn resolve(table: &Table, width: u8, form: &Form) -> Option<Gate>
         Form::Not(a) => Some(Gate::Not(table.of_width(a, width)?)),
         Form::Eq(a, b) => {
             let (a, b, _) = table.alike(a, b)?;
-            if width == 1 { Some(Gate::Eq(a, b)) } else { None }
+            if width == 1 {
+                Some(Gate::Eq(a, b))
+            } else {
+                None
+            }
         }
         Form::Lt(a, b) => {
             let (a, b, _) = table.alike(a, b)?;
-            if width == 1 { Some(Gate::Lt(a, b)) } else { None }
+            if width == 1 {
+                Some(Gate::Lt(a, b))
+            } else {
+                None
+            }
         }
         Form::LtSigned(a, b) => {
             let (a, b, of_both) = table.alike(a, b)?;
             if width == 1 {
-                Some(Gate::LtSigned { a, b, width: of_both })
+                Some(Gate::LtSigned {
+                    a,
+                    b,
+                    width: of_both,
+                })
             } else {
                 None
             }
@@ -86,7 +98,11 @@ pub(crate) fn resolve(table: &Table, width: u8, form: &Form) -> Option<Gate>
             let (high, of_high) = table.declared(a)?;
             let (low, of_low) = table.declared(b)?;
             if u16::from(of_high) + u16::from(of_low) == u16::from(width) {
-                Some(Gate::Join { high, low, width: of_low })
+                Some(Gate::Join {
+                    high,
+                    low,
+                    width: of_low,
+                })
             } else {
                 None
             }
@@ -94,7 +110,11 @@ pub(crate) fn resolve(table: &Table, width: u8, form: &Form) -> Option<Gate>
         Form::Range { source, hi, lo } => {
             let (place, of_source) = table.declared(source)?;
             if *lo <= *hi && *hi < of_source && hi - lo + 1 == width {
-                Some(Gate::Range { source: place, hi: *hi, lo: *lo })
+                Some(Gate::Range {
+                    source: place,
+                    hi: *hi,
+                    lo: *lo,
+                })
             } else {
                 None
             }

@@ -13,4 +13,3 @@ pub use gates::Gate;
 pub use laws::has_one_valuation;
 pub use netlist::{Bank, Cell, Form, Net, Port};
 pub use wires::{Latch, Wiring, is_valid, wire};
-

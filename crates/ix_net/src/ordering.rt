@@ -84,14 +84,29 @@ fn waits_for(gate: Gate, first: usize, marks: &[Mark]) -> Option<usize>
         Gate::Eq(a, b) => first_waiting(&[a, b], first, marks),
         Gate::Lt(a, b) => first_waiting(&[a, b], first, marks),
         Gate::LtSigned { a, b, width: _ } => first_waiting(&[a, b], first, marks),
-        Gate::Join { high, low, width: _ } => first_waiting(&[high, low], first, marks),
-        Gate::Range { source, hi: _, lo: _ } => first_waiting(&[source], first, marks),
+        Gate::Join {
+            high,
+            low,
+            width: _,
+        } => first_waiting(&[high, low], first, marks),
+        Gate::Range {
+            source,
+            hi: _,
+            lo: _,
+        } => first_waiting(&[source], first, marks),
         Gate::Choose(c, a, b) => first_waiting(&[c, a, b], first, marks),
     }
 }
 
 /// Puts a cell into the order, and before it all that it reads; false where a cell is found to depend on itself.
-fn visit(alloc: Global, root: usize, gates: &[Gate], first: usize, marks: &mut [Mark], order: &mut Vec<usize>) -> Result<bool, Memory>
+fn visit(
+    alloc: Global,
+    root: usize,
+    gates: &[Gate],
+    first: usize,
+    marks: &mut [Mark],
+    order: &mut Vec<usize>,
+) -> Result<bool, Memory>
     requires lengths { length marks.old ≡ length gates.now }
     requires root_new { root < length gates.now }
     requires resting { IsResting first gates.now marks.old order.old.items }
@@ -120,7 +135,11 @@ fn visit(alloc: Global, root: usize, gates: &[Gate], first: usize, marks: &mut [
 }
 
 /// An order of the cells in which each stands behind those that it reads; None where a cell depends on itself.
-pub(crate) fn order_of(alloc: Global, gates: &[Gate], first: usize) -> Result<Option<Vec<usize>>, Memory>
+pub(crate) fn order_of(
+    alloc: Global,
+    gates: &[Gate],
+    first: usize,
+) -> Result<Option<Vec<usize>>, Memory>
     ensures { IfOk result (λ o. MatchOption o ((k : ℕ) × Chain (Reads first gates.now) k k) (λ order. IsOrder first gates.now order.items)) }
 {
     let mut marks = vec![in alloc; Mark::New; gates.len()]?;

@@ -78,7 +78,10 @@ fn are_named(signals: &[Signal]) -> bool
 }
 
 /// The number of each signal by its name; None where two signals have one name.
-fn number<'a>(alloc: Global, signals: &[Signal<'a>]) -> Result<Option<BTreeMap<&'a str, usize>>, Memory>
+fn number<'a>(
+    alloc: Global,
+    signals: &[Signal<'a>],
+) -> Result<Option<BTreeMap<&'a str, usize>>, Memory>
     ensures { IfOk result (λ o. MatchOption o (AllPairs (λ x y. x ≢ y) (names (map port_of signals.now)) → ⊥) (λ m. AllPairs (λ x y. x ≢ y) (names (map port_of signals.now)) × Holds (map port_of signals.now) m)) }
 {
     let mut places = BTreeMap::new(alloc);

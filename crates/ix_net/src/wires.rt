@@ -79,7 +79,13 @@ fn driven(table: &Table, output: &Port, inputs: usize, cells: usize) -> Option<u
     Some(place)
 }
 
-fn outputs_of(alloc: Global, table: &Table, outputs: &[Port], inputs: usize, cells: usize) -> Result<Option<Vec<usize>>, Memory>
+fn outputs_of(
+    alloc: Global,
+    table: &Table,
+    outputs: &[Port],
+    inputs: usize,
+    cells: usize,
+) -> Result<Option<Vec<usize>>, Memory>
     ensures { IfOk result (λ o. MatchOption o (All (IsCellPort table.now inputs cells) outputs.now → ⊥) (λ v. All (IsCellPort table.now inputs cells) outputs.now × (v.items ≡ map (λ p. number_of table.now p.name) outputs.now))) }
 {
     let mut places = Vec::with_capacity(alloc, outputs.len())?;
@@ -103,7 +109,14 @@ pub fn wire(alloc: Global, net: &Net) -> Result<Option<Wiring>, Memory>
     if !are_distinct(alloc, net.outputs.as_slice())? {
         return Ok(None);
     }
-    let Some(outputs) = outputs_of(alloc, &table, net.outputs.as_slice(), inputs, net.cells.len())? else {
+    let Some(outputs) = outputs_of(
+        alloc,
+        &table,
+        net.outputs.as_slice(),
+        inputs,
+        net.cells.len(),
+    )?
+    else {
         return Ok(None);
     };
     let Some(latches) = latches_of(alloc, &table, net.banks.as_slice())? else {
@@ -116,7 +129,13 @@ pub fn wire(alloc: Global, net: &Net) -> Result<Option<Wiring>, Memory>
         return Ok(None);
     };
     let widths = table.widths(alloc)?;
-    Ok(Some(Wiring { widths, gates, order, latches, outputs }))
+    Ok(Some(Wiring {
+        widths,
+        gates,
+        order,
+        latches,
+        outputs,
+    }))
 }
 
 /// Whether a net is valid: its names follow the rule for names, nothing is driven twice, each operand is declared, the widths

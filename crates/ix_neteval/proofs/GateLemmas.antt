@@ -1,12 +1,11 @@
 -- Right sides by number: they depend on what they read alone, and fit the width of the target.
-use Rattle.std.proofs.Common.{◌≡◌, ℕ, ◌+◌, ◌-◌, ◌*◌, ◌/◌, ◌%◌, ◌^◌, ◌<◌, ◌≤◌, List, Bool, true, false, cond, nat_lt, eqb, get_or, arith, refl, ap, sym, ◌∙◌, subst}
+use Rattle.std.proofs.Common.{◌≡◌, ℕ, ◌+◌, ◌-◌, ◌*◌, ◌/◌, ◌^◌, ◌<◌, List, nat_lt, eqb, get_or, arith, refl}
 use Rattle.std.specs.List.{AllByRecursion}
-use Rattle.std.specs.Prelude.{bit_and, bit_or, bit_xor}
 use Rattle.std.proofs.lemmas.Bool.{cond_both}
 use Rattle.std.proofs.lemmas.Nat.{pow_pos, or_lt, xor_lt, and_le_l, mod_below}
 use Rattle.ix_net.specs.declared.gates.Gate.{Gate}
 use Rattle.ix_net.specs.declared.gates.Gate.TheVariants.{Hex, Copy, Add, Sub, Mul, And, Or, Xor, Not, Eq, Lt, LtSigned, Join, Range, Choose}
-use Rattle.ix_net.specs.Forms.{bit_of, signed_lt}
+use Rattle.ix_net.specs.Forms.{signed_lt}
 use Rattle.ix_net.specs.Gates.{reads_of, gate_result}
 use Rattle.ix_net.proofs.FormLemmas.{bit_fits, join_fits}
 use Rattle.ix_neteval.specs.Wired.{GateFits, HasPattern}

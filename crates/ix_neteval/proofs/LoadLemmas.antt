@@ -1,5 +1,5 @@
 -- The values with the inputs in front and the banks at the end.
-use Rattle.std.proofs.Common.{◌≡◌, ◌⊎◌, ⊎_elim, ℕ, ◌+◌, ◌-◌, ◌<◌, ◌≤◌, ◌^◌, zero, suc, List, [], ◌∷◌, ◌++◌, Some, length, map, get_or, set, take, drop, arith, refl, ap, sym, ◌∙◌, subst}
+use Rattle.std.proofs.Common.{◌≡◌, ⊎_elim, ℕ, ◌+◌, ◌-◌, ◌<◌, ◌≤◌, ◌^◌, List, [], ◌∷◌, ◌++◌, Some, length, map, get_or, set, take, drop, arith, ap, sym, ◌∙◌, subst}
 use Rattle.std.specs.Prelude.{slice_get}
 use Rattle.std.proofs.lemmas.Bool.{cases_lt}
 use Rattle.std.proofs.lemmas.Grind.{same_number_lists}
@@ -38,28 +38,28 @@ loaded_fits widths inputs banks old new m fit lm size wide fit_banks e =
     let r : FitWidths widths (take m front ++ banks) = record {
       size = length-append (take m front) banks ∙ omega arith;
       fit = λ i w h.
-        (let lw : i < length widths = slice_get_within widths i w h in
-        let Q : ℕ → Type 0 = λ x. x < 2 ^ w in
-        ⊎_elim
-        (λ (li : i < m).
-            (let at : get_or (take m front ++ banks) i 0 ≡ get_or front i 0 = get_or_append_left (take m front) banks 0 i (omega arith) ∙ get_or-take m front i 0 li in
-            ⊎_elim
-            (λ (ln : i < n).
-                (let b : Bits = get_or inputs i (first_of inputs i ln) in
-                let raw : get_or front i 0 ≡ b.raw = get_or_append_left raws (drop n old) 0 i (omega arith) ∙ get_or-map (λ (b : Bits). b.raw) inputs i (first_of inputs i ln) 0 ln in
-                let width : b.width ≡ w = sym (get_or-map (λ (b : Bits). b.width) inputs i (first_of inputs i ln) 0 ln) ∙ ap (λ ws. get_or ws i 0) wide ∙ get_or-take n widths i 0 ln ∙ get_or_from_slice_get widths i w 0 h in
-                let B : ℕ → Type 0 = λ v. b.raw < 2 ^ v in
-                subst Q (sym (at ∙ raw)) (subst B width b.in_width)))
-            (λ (gn : n ≤ i).
-                (let there : get_or front i 0 ≡ get_or old i 0 =
-                    get_or-append_right raws (drop n old) n i 0 size_raws gn ∙ get_or-drop n old (i - n) 0 ∙ ap (λ j. get_or old j 0) (omega arith) in
-                subst Q (sym (at ∙ there)) (fit.fit i w h)))
-            (cases_lt i n)))
-        (λ (gm : m ≤ i).
-            (let at : get_or (take m front ++ banks) i 0 ≡ get_or banks (i - m) 0 = get_or-append_right (take m front) banks m i 0 size_taken gm in
-            let there : slice_get (drop m widths) (i - m) ≡ Some w = slice_get-drop m widths i w gm h in
-            subst Q (sym at) (fit_banks.fit (i - m) w there)))
-        (cases_lt i m));
+          (let lw : i < length widths = slice_get_within widths i w h in
+          let Q : ℕ → Type 0 = λ x. x < 2 ^ w in
+          ⊎_elim
+          (λ (li : i < m).
+          (let at : get_or (take m front ++ banks) i 0 ≡ get_or front i 0 = get_or_append_left (take m front) banks 0 i (omega arith) ∙ get_or-take m front i 0 li in
+          ⊎_elim
+          (λ (ln : i < n).
+          (let b : Bits = get_or inputs i (first_of inputs i ln) in
+          let raw : get_or front i 0 ≡ b.raw = get_or_append_left raws (drop n old) 0 i (omega arith) ∙ get_or-map (λ (b : Bits). b.raw) inputs i (first_of inputs i ln) 0 ln in
+          let width : b.width ≡ w = sym (get_or-map (λ (b : Bits). b.width) inputs i (first_of inputs i ln) 0 ln) ∙ ap (λ ws. get_or ws i 0) wide ∙ get_or-take n widths i 0 ln ∙ get_or_from_slice_get widths i w 0 h in
+          let B : ℕ → Type 0 = λ v. b.raw < 2 ^ v in
+          subst Q (sym (at ∙ raw)) (subst B width b.in_width)))
+          (λ (gn : n ≤ i).
+          (let there : get_or front i 0 ≡ get_or old i 0 =
+          get_or-append_right raws (drop n old) n i 0 size_raws gn ∙ get_or-drop n old (i - n) 0 ∙ ap (λ j. get_or old j 0) (omega arith) in
+          subst Q (sym (at ∙ there)) (fit.fit i w h)))
+          (cases_lt i n)))
+          (λ (gm : m ≤ i).
+          (let at : get_or (take m front ++ banks) i 0 ≡ get_or banks (i - m) 0 = get_or-append_right (take m front) banks m i 0 size_taken gm in
+          let there : slice_get (drop m widths) (i - m) ≡ Some w = slice_get-drop m widths i w gm h in
+          subst Q (sym at) (fit_banks.fit (i - m) w there)))
+          (cases_lt i m));
     } in
     subst P (sym e) r
   where

@@ -1,14 +1,14 @@
 -- A run over the cells in an order in which each stands behind those that it reads.
-use Rattle.std.proofs.Common.{◌≡◌, ◌≢◌, ◌⊎◌, ⊎_elim, inl, inr, ℕ, ◌+◌, ◌-◌, ◌<◌, ◌≤◌, ◌^◌, List, Bool, true, false, Some, length, get_or, set, take, eqb, arith, refl, ap, sym, ◌∙◌, subst, All, Contains, length-set}
-use Rattle.std.specs.List.{AllByRecursion, list_any}
+use Rattle.std.proofs.Common.{◌≡◌, ◌≢◌, ◌⊎◌, ⊎_elim, inl, inr, ℕ, ◌+◌, ◌<◌, ◌≤◌, ◌^◌, List, true, false, Some, length, get_or, set, take, eqb, arith, refl, ap, sym, ◌∙◌, subst, Contains, length-set}
+use Rattle.std.specs.List.{list_any}
 use Rattle.std.specs.Prelude.{slice_get}
 use Rattle.std.proofs.lemmas.Bool.{cases_eq, cases_Bool, false≢true}
-use Rattle.std.proofs.lemmas.List.{get_or-set_same, get_or-set_other, get_or_default, set-get_or, length-take, get_or-take, take-take, take_all}
+use Rattle.std.proofs.lemmas.List.{get_or-set_same, get_or-set_other, get_or_default, set-get_or, length-take, get_or-take}
 use Rattle.std.proofs.lemmas.List.Elements.{recursion_from_All}
 use Rattle.std.proofs.lemmas.Option.{slice_get-get_or, slice_get_within, get_or_from_slice_get}
 use Rattle.ix_net.specs.declared.gates.Gate.{Gate}
 use Rattle.ix_net.specs.Gates.{reads_of, gate_result}
-use Rattle.ix_net.specs.Order.{Reads, IsOrder, gate_at}
+use Rattle.ix_net.specs.Order.{Reads, gate_at}
 use Rattle.ix_net.proofs.OneValuation.{list_any-eqb, list_any-Contains}
 use Rattle.ix_net.proofs.OrderLemmas.{Contains-more, Contains-whole}
 use Rattle.ix_neteval.specs.Wired.{GateFits, HasPattern, FitWidths, AreWired, GateHolds, KeepsOthers}
@@ -59,14 +59,14 @@ fit-set widths values p w x fit h l =
     record {
       size = length-set values p x ∙ fit.size;
       fit = λ i v hi. ⊎_elim
-        (λ (e : i ≡ p).
-            (let same : v ≡ w = sym (get_or_from_slice_get widths i v 0 hi) ∙ ap (λ j. get_or widths j 0) e ∙ get_or_from_slice_get widths p w 0 h in
-            let at : get_or (set values p x) i 0 ≡ x = ap (λ j. get_or (set values p x) j 0) e ∙ get_or-set_same values p x 0 lp in
-            let P : ℕ → Type 0 = λ y. y < 2 ^ v in
-            let Q : ℕ → Type 0 = λ u. x < 2 ^ u in
-            subst P (sym at) (subst Q (sym same) l)))
-        (λ (ne : i ≡ p → ⊥). (let P : ℕ → Type 0 = λ y. y < 2 ^ v in subst P (sym (get_or-set_other values p i x 0 ne)) (fit.fit i v hi)))
-        (cases_eq i p);
+          (λ (e : i ≡ p).
+          (let same : v ≡ w = sym (get_or_from_slice_get widths i v 0 hi) ∙ ap (λ j. get_or widths j 0) e ∙ get_or_from_slice_get widths p w 0 h in
+          let at : get_or (set values p x) i 0 ≡ x = ap (λ j. get_or (set values p x) j 0) e ∙ get_or-set_same values p x 0 lp in
+          let P : ℕ → Type 0 = λ y. y < 2 ^ v in
+          let Q : ℕ → Type 0 = λ u. x < 2 ^ u in
+          subst P (sym at) (subst Q (sym same) l)))
+          (λ (ne : i ≡ p → ⊥). (let P : ℕ → Type 0 = λ y. y < 2 ^ v in subst P (sym (get_or-set_other values p i x 0 ne)) (fit.fit i v hi)))
+          (cases_eq i p);
     }
 
 -- a gate that does not read what was written keeps its value
@@ -77,9 +77,9 @@ unread first gates values k cell x w lk lc never =
     gate_result-same (λ i. get_or values i 0) (λ i. get_or (set values (first + cell) x) i 0) w (gate_at gates k)
     (recursion_from_All (λ i. get_or values i 0 ≡ get_or (set values (first + cell) x) i 0) (reads_of (gate_at gates k))
     (λ j d l.
-        (let i = get_or (reads_of (gate_at gates k)) j d in
-        sym (get_or-set_other values (first + cell) i x 0
-            (λ e. never (record { source = lc; reader = lk; reads = (j, l, get_or_default (reads_of (gate_at gates k)) j (first + cell) d l ∙ e) }))))))
+    (let i = get_or (reads_of (gate_at gates k)) j d in
+    sym (get_or-set_other values (first + cell) i x 0
+    (λ e. never (record { source = lc; reader = lk; reads = (j, l, get_or_default (reads_of (gate_at gates k)) j (first + cell) d l ∙ e) }))))))
 
 -- an earlier part of a list
 contains_longer : (order : List ℕ) (q i c : ℕ) → q ≤ i → Contains (take q order) c → Contains (take i order) c
@@ -108,30 +108,30 @@ running_step first gates order widths old values i x w l e r =
     record {
       fit = fit-set widths values p (get_or widths p 0) x r.fit (width_read first gates order widths w cell lc) fits;
       hold = λ k h. ⊎_elim
-        (λ (done : Contains (take i order) cell).
-            (let here : GateHolds first gates widths values cell = r.hold cell done in
-            let same : set values p x ≡ values = ap (set values p) (e ∙ sym here) ∙ set-get_or values p 0 in
-            let H : List ℕ → Type 0 = λ vs. GateHolds first gates widths vs k in
-            subst H (sym same)
-            (⊎_elim (λ (c : Contains (take i order) k). r.hold k c) (λ (ek : cell ≡ k). let K : ℕ → Type 0 = λ n. GateHolds first gates widths values n in subst K ek here) (Contains-more order i 0 k l h))))
-        (λ (undone : Contains (take i order) cell → ⊥). ⊎_elim
-            (λ (c : Contains (take i order) k).
-                (let q = c.0 in
-                let short : length (take i order) ≤ i = omega (arith, length-take i order) in
-                let lq : q < i = omega (arith, c.1) in
-                let at : get_or order q 0 ≡ k = get_or_default order q 0 k (omega arith) ∙ sym (get_or-take i order q k lq) ∙ c.2 in
-                let K : ℕ → Type 0 = λ n. n < length gates in
-                let lk : k < length gates = subst K at (cell_within first gates order widths w q (omega arith)) in
-                let R : ℕ → Type 0 = λ n. Reads first gates cell n in
-                let never : Reads first gates cell k → ⊥ = λ rd. undone (contains_longer order q i cell (omega arith) (w.ordered.ordered.behind q cell (omega arith) (subst R (sym at) rd))) in
-                let other : first + k ≢ p = λ ep. undone (let C : ℕ → Type 0 = λ n. Contains (take i order) n in let ek : k ≡ cell = omega arith in subst C ek c) in
-                get_or-set_other values p (first + k) x 0 other ∙ r.hold k c ∙ unread first gates values k cell x (get_or widths (first + k) 0) lk lc never))
-            (λ (ek : cell ≡ k).
-                (let never : Reads first gates cell cell → ⊥ = λ rd. undone (w.ordered.ordered.behind i cell l rd) in
-                let K : ℕ → Type 0 = λ n. GateHolds first gates widths (set values p x) n in
-                subst K ek (get_or-set_same values p x 0 lp ∙ e ∙ unread first gates values cell cell x (get_or widths p 0) lc lc never)))
-            (Contains-more order i 0 k l h))
-        (contains_cases (take i order) cell);
+          (λ (done : Contains (take i order) cell).
+          (let here : GateHolds first gates widths values cell = r.hold cell done in
+          let same : set values p x ≡ values = ap (set values p) (e ∙ sym here) ∙ set-get_or values p 0 in
+          let H : List ℕ → Type 0 = λ vs. GateHolds first gates widths vs k in
+          subst H (sym same)
+          (⊎_elim (λ (c : Contains (take i order) k). r.hold k c) (λ (ek : cell ≡ k). let K : ℕ → Type 0 = λ n. GateHolds first gates widths values n in subst K ek here) (Contains-more order i 0 k l h))))
+          (λ (undone : Contains (take i order) cell → ⊥). ⊎_elim
+          (λ (c : Contains (take i order) k).
+          (let q = c.0 in
+          let short : length (take i order) ≤ i = omega (arith, length-take i order) in
+          let lq : q < i = omega (arith, c.1) in
+          let at : get_or order q 0 ≡ k = get_or_default order q 0 k (omega arith) ∙ sym (get_or-take i order q k lq) ∙ c.2 in
+          let K : ℕ → Type 0 = λ n. n < length gates in
+          let lk : k < length gates = subst K at (cell_within first gates order widths w q (omega arith)) in
+          let R : ℕ → Type 0 = λ n. Reads first gates cell n in
+          let never : Reads first gates cell k → ⊥ = λ rd. undone (contains_longer order q i cell (omega arith) (w.ordered.ordered.behind q cell (omega arith) (subst R (sym at) rd))) in
+          let other : first + k ≢ p = λ ep. undone (let C : ℕ → Type 0 = λ n. Contains (take i order) n in let ek : k ≡ cell = omega arith in subst C ek c) in
+          get_or-set_other values p (first + k) x 0 other ∙ r.hold k c ∙ unread first gates values k cell x (get_or widths (first + k) 0) lk lc never))
+          (λ (ek : cell ≡ k).
+          (let never : Reads first gates cell cell → ⊥ = λ rd. undone (w.ordered.ordered.behind i cell l rd) in
+          let K : ℕ → Type 0 = λ n. GateHolds first gates widths (set values p x) n in
+          subst K ek (get_or-set_same values p x 0 lp ∙ e ∙ unread first gates values cell cell x (get_or widths p 0) lc lc never)))
+          (Contains-more order i 0 k l h))
+          (contains_cases (take i order) cell);
       others = record {
         before = λ j lj. get_or-set_other values p j x 0 (λ ej. omega arith) ∙ r.others.before j lj;
         behind = λ j gj. get_or-set_other values p j x 0 (λ ej. omega arith) ∙ r.others.behind j gj;

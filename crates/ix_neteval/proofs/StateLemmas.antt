@@ -1,14 +1,13 @@
 -- A valid net by name and by number.
-use Rattle.std.proofs.Common.{◌≡◌, ◌≢◌, ℕ, ◌+◌, ◌-◌, ◌<◌, ◌≤◌, ◌^◌, ◌==◌, zero, suc, List, [], ◌∷◌, ◌++◌, Bool, true, false, cond, eqb, Option, Some, None, unwrap_or, length, map, get_or, take, drop, replicate, arith, refl, ap, sym, ◌∙◌, subst, All, AllPairs, Contains}
-use Rattle.std.specs.List.{AllByRecursion}
-use Rattle.std.specs.Option.{option_and_then, option_map}
+use Rattle.std.proofs.Common.{◌≡◌, ℕ, ◌+◌, ◌<◌, ◌^◌, List, ◌++◌, eqb, Option, Some, None, unwrap_or, length, map, get_or, take, drop, replicate, arith, ap, sym, ◌∙◌, subst, All, Contains}
+use Rattle.std.specs.Option.{option_and_then}
 use Rattle.std.specs.Prelude.{slice_get}
 use Rattle.std.proofs.lemmas.Bool.{cond_both}
 use Rattle.std.proofs.lemmas.Grind.{same_number_lists}
-use Rattle.std.proofs.lemmas.List.{length-map, length-append, length-drop, map-append, get_or-map, get_or-replicate, get_or_default, take_at, drop_at, append_assoc, length-replicate}
+use Rattle.std.proofs.lemmas.List.{length-map, map-append, get_or-map, get_or-replicate, get_or_default, take_at, drop_at, append_assoc, length-replicate}
 use Rattle.std.proofs.lemmas.List.Elements.{All-contains, recursion_from_All}
 use Rattle.std.proofs.lemmas.Nat.{pow_pos}
-use Rattle.std.proofs.lemmas.Option.{slice_get-get_or, slice_get_within, get_or_from_slice_get, same_Some, slice_get-map}
+use Rattle.std.proofs.lemmas.Option.{slice_get-get_or, slice_get_within, get_or_from_slice_get, same_Some}
 use Rattle.ix_net.specs.declared.netlist.Net.{Net}
 use Rattle.ix_net.specs.declared.netlist.Port.{Port}
 use Rattle.ix_net.specs.declared.netlist.Cell.{Cell}
@@ -18,21 +17,20 @@ use Rattle.ix_net.specs.declared.netlist.Form.TheVariants.{Hex, Copy, Add, Sub, 
 use Rattle.ix_net.specs.declared.gates.Gate.{Gate}
 use Rattle.ix_net.specs.declared.wires.Latch.{Latch}
 use Rattle.ix_net.specs.declared.wires.Wiring.{Wiring}
-use Rattle.ix_net.specs.Forms.{operands, Fits, result_of}
+use Rattle.ix_net.specs.Forms.{operands, Fits}
 use Rattle.ix_net.specs.Gates.{gate_of, gate_result}
 use Rattle.ix_net.specs.Order.{IsOrder, gate_at}
 use Rattle.ix_net.specs.Run.{next_bank, next_banks}
 use Rattle.ix_net.specs.Signals.{signals, cell_port, bank_port, place_of, width_of, number_of, bits_of}
 use Rattle.ix_net.specs.Valid.{IsValid, IsWidth}
-use Rattle.ix_net.specs.Valuation.{FitPorts, IsValuation, Settles, value_of, right_side, inputs_of, banks_of}
-use Rattle.ix_net.specs.Wiring.{IsWiring, IsCellPort, cell_gate, latch_of}
+use Rattle.ix_net.specs.Valuation.{FitPorts, Settles, value_of, right_side}
+use Rattle.ix_net.specs.Wiring.{IsWiring, cell_gate, latch_of}
 use Rattle.ix_net.proofs.FitLemmas.{fit_length, fit_at, fit_from, value_at_place, value_of_cell, value_fits}
 use Rattle.ix_net.proofs.FormLemmas.{gate_result-gate_of, result_of-same}
-use Rattle.ix_net.proofs.NetLemmas.{Apart, gates_of_net, slice_get_some, slice_get_mapped, slice_get_from_contains, contains_from_slice_get, signal_cell, signal_bank, signals_length, front_length, place_of-at, placed_from_width, operand_placed, number_from_place, gate_at_cell, cell_fits}
+use Rattle.ix_net.proofs.NetLemmas.{Apart, gates_of_net, slice_get_some, slice_get_mapped, contains_from_slice_get, signal_cell, signal_bank, signals_length, front_length, place_of-at, placed_from_width, operand_placed, number_from_place, gate_at_cell, cell_fits}
 use Rattle.ix_net.proofs.TableLemmas.{place_within, width_at_place}
 use Rattle.ix_net.proofs.ValidLemmas.{apart_of, cell_port_from}
-use Rattle.ix_neteval.specs.State.{IsState}
-use Rattle.ix_neteval.specs.Wired.{Alike, GateFits, FitWidths, AreWired, GateHolds, latched}
+use Rattle.ix_neteval.specs.Wired.{GateFits, FitWidths, AreWired, GateHolds, latched}
 
 -- widths of ports
 abbrev pub widths_of : List Port → List ℕ
@@ -109,11 +107,11 @@ wired_net net order valid h =
       room = omega (arith, signals_length net, length-map (signals net) (λ (p : Port). p.width));
       wide = λ i w g. (let p = port_of_width (signals net) i w g in subst IsWidth p.2 (All-contains (λ (p : Port). IsWidth p.width) (signals net) p.0 valid.widths (contains_from_slice_get (signals net) i p.0 p.1)));
       gates_fit = λ k w l g.
-        (let c = slice_get_some net.cells k (omega arith) in
-        let fits = gate_fits_of (signals net) c.0.width c.0.form (cell_fits net k c.0 valid.cells_fit c.1) in
-        let P : ℕ → Type 0 = λ v. GateFits (HasWidth (signals net)) v (gate_at (gates_of_net net) k) in
-        let Q : Gate → Type 0 = λ x. GateFits (HasWidth (signals net)) c.0.width x in
-        subst P (cell_width net k w c.0 c.1 g) (subst Q (sym (gate_at_cell net k c.0 c.1)) fits));
+          (let c = slice_get_some net.cells k (omega arith) in
+          let fits = gate_fits_of (signals net) c.0.width c.0.form (cell_fits net k c.0 valid.cells_fit c.1) in
+          let P : ℕ → Type 0 = λ v. GateFits (HasWidth (signals net)) v (gate_at (gates_of_net net) k) in
+          let Q : Gate → Type 0 = λ x. GateFits (HasWidth (signals net)) c.0.width x in
+          subst P (cell_width net k w c.0 c.1 g) (subst Q (sym (gate_at_cell net k c.0 c.1)) fits));
     }
 
 pub wired_from : (net : Net) (w : Wiring) → IsValid net → IsWiring net w → AreWired (length net.inputs) w.gates.items w.order.items w.widths.items
@@ -142,10 +140,10 @@ right_side_by_number net values k c valid hk =
     gate_result-gate_of (λ i. get_or values i 0) (number_of (signals net)) (bits_of (signals net)) c.width c.form
     ∙ result_of-same (λ n. get_or values (number_of (signals net) n) 0) (value_of net values) (bits_of (signals net)) c.width c.form
     (recursion_from_All (λ n. get_or values (number_of (signals net) n) 0 ≡ value_of net values n) (operands c.form) (λ j d l.
-        (let n : List ℕ = get_or (operands c.form) j d in
-        let within : Contains (operands c.form) n = (j, l, get_or_default (operands c.form) j n d l) in
-        let p = operand_placed (signals net) c.width c.form (cell_fits net k c valid.cells_fit hk) n within in
-        ap (λ i. get_or values i 0) (number_from_place (signals net) n p.0 p.1) ∙ sym (value_at_place net values n p.0 p.1))))
+    (let n : List ℕ = get_or (operands c.form) j d in
+    let within : Contains (operands c.form) n = (j, l, get_or_default (operands c.form) j n d l) in
+    let p = operand_placed (signals net) c.width c.form (cell_fits net k c valid.cells_fit hk) n within in
+    ap (λ i. get_or values i 0) (number_from_place (signals net) n p.0 p.1) ∙ sym (value_at_place net values n p.0 p.1))))
 
 -- values that hold by number are a valuation
 settles_net :
@@ -159,14 +157,14 @@ settles_net net inputs banks values valid fit hold front back =
       valuation = record {
         fit = fit_ports (signals net) values fit;
         holds = λ k d l.
-          (let c : Cell = get_or net.cells k d in
-          let hk : slice_get net.cells k ≡ Some c = slice_get-get_or net.cells k d l in
-          let width : get_or (widths_of (signals net)) (length net.inputs + k) 0 ≡ c.width =
-              get_or_from_slice_get (widths_of (signals net)) (length net.inputs + k) c.width 0 (slice_get_mapped (λ (p : Port). p.width) (signals net) (length net.inputs + k) (cell_port c) (signal_cell net k c hk)) in
-          value_of_cell net apart values k c hk ∙ hold k (omega arith)
-          ∙ ap (λ w. gate_result (λ i. get_or values i 0) w (gate_at (gates_of_net net) k)) width
-          ∙ ap (gate_result (λ i. get_or values i 0) c.width) (gate_at_cell net k c hk)
-          ∙ right_side_by_number net values k c valid hk);
+            (let c : Cell = get_or net.cells k d in
+            let hk : slice_get net.cells k ≡ Some c = slice_get-get_or net.cells k d l in
+            let width : get_or (widths_of (signals net)) (length net.inputs + k) 0 ≡ c.width =
+            get_or_from_slice_get (widths_of (signals net)) (length net.inputs + k) c.width 0 (slice_get_mapped (λ (p : Port). p.width) (signals net) (length net.inputs + k) (cell_port c) (signal_cell net k c hk)) in
+            value_of_cell net apart values k c hk ∙ hold k (omega arith)
+            ∙ ap (λ w. gate_result (λ i. get_or values i 0) w (gate_at (gates_of_net net) k)) width
+            ∙ ap (gate_result (λ i. get_or values i 0) c.width) (gate_at_cell net k c hk)
+            ∙ right_side_by_number net values k c valid hk);
       };
       inputs_same = front;
       banks_same = back;
@@ -204,19 +202,21 @@ pub zeros_fit : (ports : List Port) (n : ℕ) → n ≡ length ports → FitPort
 zeros_fit ports n e =
     fit_from ports (replicate n 0) (length-replicate n 0 ∙ e)
     (λ i p g.
-        (let l : i < length ports = slice_get_within ports i p g in
-        let l' : i < n = omega arith in
-        let P : ℕ → Type 0 = λ x. x < 2 ^ p.width in
-        subst P (sym (get_or-replicate n i 0 0 l')) (pow_pos p.width)))
+    (let l : i < length ports = slice_get_within ports i p g in
+    let l' : i < n = omega arith in
+    let P : ℕ → Type 0 = λ x. x < 2 ^ p.width in
+    subst P (sym (get_or-replicate n i 0 0 l')) (pow_pos p.width)))
 
 -- the banks after an edge
 bank_width : (net : Net) → Apart net → (k : ℕ) (b : Bank) → slice_get net.banks k ≡ Some b
     → (place_of (signals net) b.target ≡ Some (length net.inputs + length net.cells + k)) × (width_of (signals net) b.target ≡ Some b.width)
 bank_width net apart k b h =
     let s : slice_get (signals net) (length net.inputs + length net.cells + k) ≡ Some (bank_port b) = signal_bank net k b h in
-    let at : place_of (signals net) b.target ≡ Some (length net.inputs + length net.cells + k) = place_of-at (signals net) apart (length net.inputs + length net.cells + k) (bank_port b) s in
-    (at, width_at_place (signals net) b.target (length net.inputs + length net.cells + k) (bank_port b) at
-    ∙ ap (λ (p : Port). Some p.width) (get_or_from_slice_get (signals net) (length net.inputs + length net.cells + k) (bank_port b) (bank_port b) s))
+    let at : place_of (signals net) b.target ≡ Some (length net.inputs + length net.cells + k) = place_of-at (signals net) apart (length net.inputs + length net.cells + k) (bank_port b) s in (
+      at,
+      width_at_place (signals net) b.target (length net.inputs + length net.cells + k) (bank_port b) at
+          ∙ ap (λ (p : Port). Some p.width) (get_or_from_slice_get (signals net) (length net.inputs + length net.cells + k) (bank_port b) (bank_port b) s),
+    )
 
 pub enable_width : (net : Net) (k : ℕ) (b : Bank) → IsValid net → slice_get net.banks k ≡ Some b → width_of (signals net) b.enable ≡ Some 1
 enable_width net k b valid h = All-contains (λ (b : Bank). width_of (signals net) b.enable ≡ Some 1) net.banks b valid.enables (contains_from_slice_get net.banks k b h)
@@ -230,17 +230,17 @@ next_banks_fit net values valid fit =
     let size : length (map bank_port net.banks) ≡ length net.banks = length-map net.banks bank_port in
     fit_from (map bank_port net.banks) (next_banks net values) (length-map net.banks (next_bank net values) ∙ sym size)
     (λ i p g.
-        (let l : i < length net.banks = (let lp = slice_get_within (map bank_port net.banks) i p g in omega arith) in
-        let b = slice_get_some net.banks i l in
-        let same : bank_port b.0 ≡ p = same_Some (bank_port b.0) p (sym (slice_get_mapped bank_port net.banks i b.0 b.1) ∙ g) in
-        let at : get_or (next_banks net values) i 0 ≡ next_bank net values b.0 = get_or-map (next_bank net values) net.banks i b.0 0 l ∙ ap (next_bank net values) (get_or_from_slice_get net.banks i b.0 b.0 b.1) in
-        let P : ℕ → Type 0 = λ x. x < 2 ^ p.width in
-        let Q : Port → Type 0 = λ q. next_bank net values b.0 < 2 ^ q.width in
-        let below : next_bank net values b.0 < 2 ^ b.0.width =
-            cond_both (eqb (value_of net values b.0.enable) 1) (value_of net values b.0.source) (value_of net values b.0.target) (λ x. x < 2 ^ b.0.width)
-            (λ t. value_fits net values fit b.0.source b.0.width (source_width net i b.0 valid b.1))
-            (λ t. value_fits net values fit b.0.target b.0.width (bank_width net apart i b.0 b.1).1) in
-        subst P (sym at) (subst Q same below)))
+    (let l : i < length net.banks = (let lp = slice_get_within (map bank_port net.banks) i p g in omega arith) in
+    let b = slice_get_some net.banks i l in
+    let same : bank_port b.0 ≡ p = same_Some (bank_port b.0) p (sym (slice_get_mapped bank_port net.banks i b.0 b.1) ∙ g) in
+    let at : get_or (next_banks net values) i 0 ≡ next_bank net values b.0 = get_or-map (next_bank net values) net.banks i b.0 0 l ∙ ap (next_bank net values) (get_or_from_slice_get net.banks i b.0 b.0 b.1) in
+    let P : ℕ → Type 0 = λ x. x < 2 ^ p.width in
+    let Q : Port → Type 0 = λ q. next_bank net values b.0 < 2 ^ q.width in
+    let below : next_bank net values b.0 < 2 ^ b.0.width =
+    cond_both (eqb (value_of net values b.0.enable) 1) (value_of net values b.0.source) (value_of net values b.0.target) (λ x. x < 2 ^ b.0.width)
+    (λ t. value_fits net values fit b.0.source b.0.width (source_width net i b.0 valid b.1))
+    (λ t. value_fits net values fit b.0.target b.0.width (bank_width net apart i b.0 b.1).1) in
+    subst P (sym at) (subst Q same below)))
 
 pub clocked :
     (net : Net) (latches : List Latch) (own : ℕ) (values banks : List ℕ) → IsValid net → latches ≡ map (latch_of (signals net)) net.banks → own ≡ length net.inputs + length net.cells
@@ -251,16 +251,16 @@ clocked net latches own values banks valid el eo size h =
     let size' : length (next_banks net values) ≡ length net.banks = length-map net.banks (next_bank net values) in
     same_number_lists banks (next_banks net values) (size ∙ sym size')
     (λ k lk.
-        (let l : k < length net.banks = omega arith in
-        let b = slice_get_some net.banks k l in
-        let latch : slice_get latches k ≡ Some (latch_of (signals net) b.0) = ap (λ ls. slice_get ls k) el ∙ slice_get_mapped (latch_of (signals net)) net.banks k b.0 b.1 in
-        let at : get_or (next_banks net values) k 0 ≡ next_bank net values b.0 = get_or-map (next_bank net values) net.banks k b.0 0 l ∙ ap (next_bank net values) (get_or_from_slice_get net.banks k b.0 b.0 b.1) in
-        let e : value_of net values b.0.enable ≡ get_or values (number_of (signals net) b.0.enable) 0 = value_at_number net values b.0.enable 1 (enable_width net k b.0 valid b.1) in
-        let s : value_of net values b.0.source ≡ get_or values (number_of (signals net) b.0.source) 0 = value_at_number net values b.0.source b.0.width (source_width net k b.0 valid b.1) in
-        let t : value_of net values b.0.target ≡ get_or values (own + k) 0 =
-            value_at_place net values b.0.target (length net.inputs + length net.cells + k) (bank_width net apart k b.0 b.1).0 ∙ ap (λ n. get_or values (n + k) 0) (sym eo) in
-        let same : next_bank net values b.0 ≡ latched values (own + k) (latch_of (signals net) b.0) = cc (e, s, t) in
-        h k (latch_of (signals net) b.0) latch ∙ sym same ∙ sym at))
+    (let l : k < length net.banks = omega arith in
+    let b = slice_get_some net.banks k l in
+    let latch : slice_get latches k ≡ Some (latch_of (signals net) b.0) = ap (λ ls. slice_get ls k) el ∙ slice_get_mapped (latch_of (signals net)) net.banks k b.0 b.1 in
+    let at : get_or (next_banks net values) k 0 ≡ next_bank net values b.0 = get_or-map (next_bank net values) net.banks k b.0 0 l ∙ ap (next_bank net values) (get_or_from_slice_get net.banks k b.0 b.0 b.1) in
+    let e : value_of net values b.0.enable ≡ get_or values (number_of (signals net) b.0.enable) 0 = value_at_number net values b.0.enable 1 (enable_width net k b.0 valid b.1) in
+    let s : value_of net values b.0.source ≡ get_or values (number_of (signals net) b.0.source) 0 = value_at_number net values b.0.source b.0.width (source_width net k b.0 valid b.1) in
+    let t : value_of net values b.0.target ≡ get_or values (own + k) 0 =
+    value_at_place net values b.0.target (length net.inputs + length net.cells + k) (bank_width net apart k b.0 b.1).0 ∙ ap (λ n. get_or values (n + k) 0) (sym eo) in
+    let same : next_bank net values b.0 ≡ latched values (own + k) (latch_of (signals net) b.0) = cc (e, s, t) in
+    h k (latch_of (signals net) b.0) latch ∙ sym same ∙ sym at))
 
 pub latch_within :
     (net : Net) (latches : List Latch) (values : List ℕ) → IsValid net → FitPorts (signals net) values → latches ≡ map (latch_of (signals net)) net.banks
@@ -270,7 +270,7 @@ latch_within net latches values valid fit e k d lk =
     let l : k < length net.banks = omega (arith, ap length e) in
     let b = slice_get_some net.banks k l in
     let at : latch_of (signals net) b.0 ≡ get_or latches k d =
-        sym (get_or_from_slice_get latches k (latch_of (signals net) b.0) d (ap (λ ls. slice_get ls k) e ∙ slice_get_mapped (latch_of (signals net)) net.banks k b.0 b.1)) in
+    sym (get_or_from_slice_get latches k (latch_of (signals net) b.0) d (ap (λ ls. slice_get ls k) e ∙ slice_get_mapped (latch_of (signals net)) net.banks k b.0 b.1)) in
     let P : Latch → Type 0 = λ x. (x.enable < length values) × (x.source < length values) in
     subst P at (number_within net values b.0.enable 1 fit (enable_width net k b.0 valid b.1), number_within net values b.0.source b.0.width fit (source_width net k b.0 valid b.1))
 

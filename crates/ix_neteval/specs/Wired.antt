@@ -1,5 +1,5 @@
 -- Nets by number, as the simulator runs them. Signal i is the i-th of what the net declares; cell k is signal first + k.
-use Rattle.std.specs.Prelude.{ℕ, ◌≡◌, ◌+◌, ◌-◌, ◌<◌, ◌≤◌, ◌^◌, ◌==◌, List, [], ◌∷◌, Some, length, slice_get, slice_index, if◌then◌else◌}
+use Rattle.std.specs.Prelude.{ℕ, ◌≡◌, ◌+◌, ◌-◌, ◌<◌, ◌≤◌, ◌^◌, ◌==◌, List, Some, length, slice_get, slice_index, if◌then◌else◌}
 use Rattle.ix_net.specs.declared.gates.Gate.{Gate}
 use Rattle.ix_net.specs.declared.gates.Gate.TheVariants.{Hex, Copy, Add, Sub, Mul, And, Or, Xor, Not, Eq, Lt, LtSigned, Join, Range, Choose}
 use Rattle.ix_net.specs.declared.wires.Latch.{Latch}

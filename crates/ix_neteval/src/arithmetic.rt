@@ -31,7 +31,11 @@ pub(crate) fn sub(a: u128, b: u128, width: u8) -> u128
     requires b_fits { b < 2 ^ width }
     ensures { result ≡ (a + (2 ^ width - b)) % 2 ^ width }
 {
-    if b <= a { a - b } else { mask(width) - (b - a - 1) }
+    if b <= a {
+        a - b
+    } else {
+        mask(width) - (b - a - 1)
+    }
 }
 
 /// The product modulo `2^width`.
@@ -62,7 +66,11 @@ pub(crate) fn is_signed_lt(a: u128, b: u128, width: u8) -> bool
     ensures { result ≡ signed_lt width a b }
 {
     let half = 1u128 << (width - 1);
-    if (a < half) == (b < half) { a < b } else { b < half }
+    if (a < half) == (b < half) {
+        a < b
+    } else {
+        b < half
+    }
 }
 
 /// `high` on top of `low`, which has a width.

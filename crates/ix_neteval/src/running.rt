@@ -29,18 +29,18 @@ fn gate_value(gate: Gate, width: u8, values: &[u128]) -> u128
         Gate::LtSigned { a, b, width } => u128::from(is_signed_lt(values[a], values[b], width)),
         Gate::Join { high, low, width } => join(values[high], values[low], width),
         Gate::Range { source, hi, lo } => bits(values[source], hi, lo),
-        Gate::Choose(c, a, b) => {
-            if values[c] == 0 {
-                values[b]
-            } else {
-                values[a]
-            }
-        }
+        Gate::Choose(c, a, b) => { if values[c] == 0 { values[b] } else { values[a] } }
     }
 }
 
 /// Gives each cell the value of its right side, in an order in which each stands behind those that it reads.
-pub(crate) fn run_gates(order: &[usize], gates: &[Gate], widths: &[u8], first: usize, values: &mut [u128])
+pub(crate) fn run_gates(
+    order: &[usize],
+    gates: &[Gate],
+    widths: &[u8],
+    first: usize,
+    values: &mut [u128],
+)
     requires wired { AreWired first gates.now order.now widths.now }
     requires fit { FitWidths widths.now values.old }
     ensures fit { FitWidths widths.now values.new }

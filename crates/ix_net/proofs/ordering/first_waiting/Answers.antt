@@ -1,4 +1,4 @@
-use Rattle.std.proofs.Common.{◌≡◌, ◌+◌, ⊎_elim, Contains, take, arith}
+use Rattle.std.proofs.Common.{◌+◌, ⊎_elim}
 use Rattle.ix_net.proofs.OrderLemmas.{Contains-more, Contains-whole}
 use Rattle.ix_net.proofs.ordering.first_waiting.Goals as goal
 

@@ -1,4 +1,4 @@
-use Rattle.std.proofs.Common.{◌≡◌, ◌≢◌, ◌∙◌, ℕ, ◌<◌, ◌+◌, List, ◌++◌, length, take, drop, Contains, arith, refl, ap, sym, subst, below_more}
+use Rattle.std.proofs.Common.{◌≡◌, ◌≢◌, ◌∙◌, ℕ, ◌<◌, ◌+◌, List, ◌++◌, length, take, drop, arith, refl, ap, sym, subst, below_more}
 use Rattle.std.proofs.lemmas.Bool.{MatchBool-at_true}
 use Rattle.std.proofs.lemmas.List.{take_at}
 use Rattle.ix_net.specs.declared.gates.Gate.{Gate}
@@ -40,5 +40,5 @@ returns c =
     record {
       ordered = c.loop-root.invariant.resting.ordered;
       whole = λ k l. c.loop-root.invariant.resting.done k
-        (done_from (mark_at c.loop-root.marks.items k) (c.loop-root.invariant.seen k (omega (arith, c.loop-root-test.false))) (c.loop-root.invariant.resting.shut k));
+          (done_from (mark_at c.loop-root.marks.items k) (c.loop-root.invariant.seen k (omega (arith, c.loop-root-test.false))) (c.loop-root.invariant.resting.shut k));
     }

@@ -7,5 +7,5 @@ abbrev pub invariant-loop-root : goal.invariant-loop-root
 invariant-loop-root l = record {
   size : length l.marks.items ≡ length l.gates;
   resting : IsResting l.first l.gates l.marks.items l.order.items;
-  seen : (k : ℕ) → k < l.root → mark_at l.marks.items k ≢ New
+  seen : (k : ℕ) → k < l.root → mark_at l.marks.items k ≢ New;
 }

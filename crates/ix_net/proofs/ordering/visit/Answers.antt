@@ -1,12 +1,10 @@
-use Rattle.std.proofs.Common.{◌≡◌, ◌≢◌, ◌∙◌, ℕ, ◌+◌, ◌<◌, List, ◌∷◌, ◌++◌, [], length, set, sym, ap, subst, arith, length-set, Contains}
+use Rattle.std.proofs.Common.{◌≡◌, ◌∙◌, ℕ, List, ◌∷◌, ◌++◌, [], length, set, sym, ap, subst, arith, length-set}
 use Rattle.std.proofs.lemmas.Bool.{false≢true}
 use Rattle.std.proofs.lemmas.List.{nil_from_length}
-use Rattle.ix_net.specs.declared.gates.Gate.{Gate}
 use Rattle.ix_net.specs.declared.ordering.Mark.{Mark}
 use Rattle.ix_net.specs.declared.ordering.Mark.TheVariants.{New, Open, Done}
-use Rattle.ix_net.specs.Gates.{reads_of}
-use Rattle.ix_net.specs.Order.{Reads, IsResting, gate_at, mark_at}
-use Rattle.ix_net.proofs.OrderLemmas.{IsSearching, searching_first, searching_done, searching_on, searching_loop, searching_end, new_count, new_count-open, new_count-done, new_from, last_in}
+use Rattle.ix_net.specs.Order.{Reads, mark_at}
+use Rattle.ix_net.proofs.OrderLemmas.{IsSearching, searching_first, searching_done, searching_on, searching_loop, searching_end, new_count-open, new_count-done, new_from, last_in}
 use Rattle.ix_net.proofs.ordering.visit.Goals as goal
 
 pub loop-cell-init : goal.loop-cell-init
@@ -48,7 +46,7 @@ loop-cell-preserved c =
     let w = c.in-Some-waits_for.ensures in
     let r : Reads c.args.first c.args.gates.now c.in-Some-waits_for.next c.in-Some.cell = record { source = omega (arith, w.0); reader = last_in c.args.gates.now c.pop.new.self.items c.in-Some.cell s.cells; reads = w.1 } in
     let long : c.push-in-Some-waits_for-2.new.self.items ≡ (c.pop.new.self.items ++ c.in-Some.cell ∷ []) ++ c.in-Some-waits_for.next ∷ [] =
-        c.in_ok-push-in-Some-waits_for-2.ensures.items ∙ ap (λ xs. xs ++ c.in-Some-waits_for.next ∷ []) c.in_ok-push-in-Some-waits_for.ensures.items in
+    c.in_ok-push-in-Some-waits_for-2.ensures.items ∙ ap (λ xs. xs ++ c.in-Some-waits_for.next ∷ []) c.in_ok-push-in-Some-waits_for.ensures.items in
     let Q : List ℕ → Type 0 = λ path. IsSearching c.args.first c.args.gates.now c.args.marks.now (set c.loop-cell.marks c.in-Some-waits_for.next Open) c.loop-cell.order.items path c.args.root in
     subst Q (sym long)
     (searching_on c.args.first c.args.gates.now c.args.marks.now c.loop-cell.marks c.loop-cell.order.items c.pop.new.self.items c.args.root c.in-Some.cell c.in-Some-waits_for.next size s r w.2)

@@ -1,4 +1,4 @@
-use Rattle.std.proofs.Common.{take, arith, rules}
+use Rattle.std.proofs.Common.{arith, rules}
 use Rattle.std.proofs.lemmas.List.{take_all}
 use Rattle.std.proofs.lemmas.List.Elements.{All-more, All-same}
 use Rattle.std.proofs.Common.{sym}
@@ -12,7 +12,7 @@ loop-signal-preserved c =
     (c.is_name.ensures.0 c.if-not-is_name.false, record { some = c.if-signal-lt1.false; most = c.if-signal-gt128.false })
 
 pub returns : goal.returns
-returns c =
-    ( λ _. All-same (λ s. IsName s.name.now × IsWidth s.width) c.args.signals.now _ (sym (take_all c.loop-signal.signal-index c.args.signals.now (omega arith))) c.loop-signal.invariant
-    , search rules
-    )
+returns c = (
+  λ _. All-same (λ s. IsName s.name.now × IsWidth s.width) c.args.signals.now _ (sym (take_all c.loop-signal.signal-index c.args.signals.now (omega arith))) c.loop-signal.invariant,
+  search rules,
+)

@@ -1,4 +1,4 @@
-use Rattle.std.proofs.Common.{◌≡◌, ◌≢◌, ◌<◌, ℕ, get_or, map, [], List, Option, Some, None, Bool, true, false, is_some, sym, ◌∙◌, length, take, subst, ap, arith, AllPairs, ◌+◌}
+use Rattle.std.proofs.Common.{◌≡◌, ◌≢◌, ◌<◌, ℕ, get_or, map, [], List, Option, Some, None, true, false, is_some, sym, ◌∙◌, length, take, subst, arith, AllPairs}
 use Rattle.std.specs.BTreeMap.{BTreeMap, get_by}
 use Rattle.std.specs.Cmp.Lexicographic.{slice_cmp}
 use Rattle.std.specs.Ordering.{nat_cmp}
@@ -7,7 +7,6 @@ use Rattle.std.proofs.lemmas.Map.Text.{btree_map_updates_str}
 use denote.Ref.{Bor}
 use Rattle.ix_net.specs.declared.tables.Signal.{Signal}
 use Rattle.ix_net.specs.declared.netlist.Port.{Port}
-use Rattle.ix_net.specs.Signals.{place_of}
 use Rattle.ix_net.specs.Valid.{names}
 use Rattle.ix_net.specs.Tables.{port_of, Holds}
 use Rattle.ix_net.proofs.PlaceLemmas.{place_of-updated, distinct-more, not_distinct}
@@ -43,8 +42,8 @@ loop-place-preserved c =
     let fresh : found c.loop-place.places p.name ≡ None = sym c.in_ok-insert.ensures.old ∙ is_none c.in_ok-insert.field-0 (sym c.is_some.ensures ∙ c.if-is_some.false) in
     record {
       held =
-        place_of-updated (map port_of xs) i p (found c.loop-place.places) (found c.insert.new.self) within at c.loop-place.invariant.held
-        (btree_map_updates_str p.name c.loop-place.places c.insert.new.self (Some i) c.in_ok-insert.ensures.updates) fresh;
+          place_of-updated (map port_of xs) i p (found c.loop-place.places) (found c.insert.new.self) within at c.loop-place.invariant.held
+          (btree_map_updates_str p.name c.loop-place.places c.insert.new.self (Some i) c.in_ok-insert.ensures.updates) fresh;
       distinct = distinct-more (map port_of xs) i p within at (sym (c.loop-place.invariant.held p.name) ∙ fresh) c.loop-place.invariant.distinct;
     }
 

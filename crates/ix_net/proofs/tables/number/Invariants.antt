@@ -6,5 +6,5 @@ use Rattle.ix_net.proofs.tables.number.Given as goal
 abbrev pub invariant-loop-place : goal.invariant-loop-place
 invariant-loop-place l = record {
   held : Holds (take l.place (map port_of l.signals)) l.places;
-  distinct : AllPairs (λ x y. x ≢ y) (take l.place (names (map port_of l.signals)))
+  distinct : AllPairs (λ x y. x ≢ y) (take l.place (names (map port_of l.signals)));
 }

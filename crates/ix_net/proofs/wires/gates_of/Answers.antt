@@ -12,5 +12,5 @@ loop-cell-preserved c =
     record {
       fit = all_step (λ (c' : Cell). Fits (width_of c.args.table.now) c'.width c'.form) c.args.cells.now i x c.loop-cell-test.true c.cell-item.is c.loop-cell.invariant.fit c.in-Some.ensures.0;
       made = map_step (cell_gate c.args.table.now) c.args.cells.now i x c.loop-cell.gates.items c.push.new.self.items c.in-Some.gate c.loop-cell-test.true c.cell-item.is c.loop-cell.invariant.made
-        c.in_ok-push-in-Some.ensures.items c.in-Some.ensures.1;
+          c.in_ok-push-in-Some.ensures.items c.in-Some.ensures.1;
     }

@@ -8,5 +8,5 @@ use Rattle.ix_net.proofs.wires.gates_of.Given as goal
 abbrev pub invariant-loop-cell : goal.invariant-loop-cell
 invariant-loop-cell l = record {
   fit : All (λ (c : Cell). Fits (width_of l.table) c.width c.form) (take l.cell-index l.cells);
-  made : l.gates.items ≡ map (cell_gate l.table) (take l.cell-index l.cells)
+  made : l.gates.items ≡ map (cell_gate l.table) (take l.cell-index l.cells);
 }

@@ -6,5 +6,5 @@ abbrev pub invariant-loop-bank : goal.invariant-loop-bank
 invariant-loop-bank l = record {
   enables : EnablesFit l.table (take l.bank-index l.banks);
   sources : SourcesFit l.table (take l.bank-index l.banks);
-  made : l.latches.items ≡ map (latch_of l.table) (take l.bank-index l.banks)
+  made : l.latches.items ≡ map (latch_of l.table) (take l.bank-index l.banks);
 }

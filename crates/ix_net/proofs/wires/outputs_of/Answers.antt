@@ -11,5 +11,5 @@ loop-output-preserved c =
     record {
       fit = all_step (IsCellPort c.args.table.now c.args.inputs c.args.cells) c.args.outputs.now i x c.loop-output-test.true c.output-item.is c.loop-output.invariant.fit c.in-Some.ensures.0;
       made = map_step (λ (p : Port). number_of c.args.table.now p.name) c.args.outputs.now i x c.loop-output.places.items c.push.new.self.items c.in-Some.place c.loop-output-test.true c.output-item.is c.loop-output.invariant.made
-        c.in_ok-push-in-Some.ensures.items c.in-Some.ensures.1;
+          c.in_ok-push-in-Some.ensures.items c.in-Some.ensures.1;
     }

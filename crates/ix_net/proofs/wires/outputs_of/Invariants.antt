@@ -7,5 +7,5 @@ use Rattle.ix_net.proofs.wires.outputs_of.Given as goal
 abbrev pub invariant-loop-output : goal.invariant-loop-output
 invariant-loop-output l = record {
   fit : All (IsCellPort l.table l.inputs l.cells) (take l.output-index l.outputs);
-  made : l.places.items ≡ map (λ (p : Port). number_of l.table p.name) (take l.output-index l.outputs)
+  made : l.places.items ≡ map (λ (p : Port). number_of l.table p.name) (take l.output-index l.outputs);
 }

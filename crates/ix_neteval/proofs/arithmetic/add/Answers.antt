@@ -1,4 +1,4 @@
-use Rattle.std.proofs.Common.{◌+◌, ◌*◌}
+use Rattle.std.proofs.Common.{◌+◌}
 use Rattle.ix_neteval.proofs.Masks.{masked_wide}
 use Rattle.ix_neteval.proofs.arithmetic.add.Goals as goal
 

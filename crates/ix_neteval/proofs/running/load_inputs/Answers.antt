@@ -1,4 +1,4 @@
-use Rattle.std.proofs.Common.{ap, ◌∙◌, set, ◌≡◌}
+use Rattle.std.proofs.Common.{ap, ◌∙◌, set}
 use Rattle.ix_bits.specs.declared.number.Bits.{Bits}
 use Rattle.ix_neteval.proofs.LoadLemmas.{load_step}
 use Rattle.ix_neteval.proofs.running.load_inputs.Goals as goal

@@ -16,7 +16,7 @@ run_gates-requires-clause-fit c =
     let em : length inputs + c.len.result ≡ m = omega (arith, c.len.ensures, c.args.wiring.now.gates.ok.0) in
     let raws : List ℕ = map (λ (b : Bits). b.raw) inputs in
     let made : c.load_banks.new.values ≡ take m (raws ++ drop (length inputs) old) ++ banks =
-        c.load_banks.ensures ∙ ap (λ k. take k c.load_inputs.new.values ++ banks) em ∙ ap (λ vs. take m vs ++ banks) c.load_inputs.ensures in
+    c.load_banks.ensures ∙ ap (λ k. take k c.load_inputs.new.values ++ banks) em ∙ ap (λ vs. take m vs ++ banks) c.load_inputs.ensures in
     let size : m + length banks ≡ length old = omega (arith, c.requires.banks_fit.size, length-drop m widths, c.requires.wired.room, c.requires.fit.size) in
     let P : List ℕ → Type 0 = λ ws. FitWidths ws c.load_banks.new.values in
     subst P (sym c.deref-3.ensures.value)
@@ -32,7 +32,7 @@ returns-clause-inputs c =
     let em : length inputs + c.len.result ≡ m = omega (arith, c.len.ensures, c.args.wiring.now.gates.ok.0) in
     let raws : List ℕ = map (λ (b : Bits). b.raw) inputs in
     let made : c.load_banks.new.values ≡ take m (raws ++ drop (length inputs) old) ++ banks =
-        c.load_banks.ensures ∙ ap (λ k. take k c.load_inputs.new.values ++ banks) em ∙ ap (λ vs. take m vs ++ banks) c.load_inputs.ensures in
+    c.load_banks.ensures ∙ ap (λ k. take k c.load_inputs.new.values ++ banks) em ∙ ap (λ vs. take m vs ++ banks) c.load_inputs.ensures in
     let size_raws : length raws ≡ length inputs = length-map inputs (λ (b : Bits). b.raw) in
     let room : m ≤ length (raws ++ drop (length inputs) old) = omega (arith, length-append raws (drop (length inputs) old), length-drop (length inputs) old, c.requires.wired.room, c.requires.fit.size) in
     let front : take (length inputs) c.load_banks.new.values ≡ raws = ap (take (length inputs)) made ∙ loaded_front raws (drop (length inputs) old) banks (length inputs) m size_raws (omega arith) room in
@@ -52,7 +52,7 @@ returns-clause-banks c =
     let em : length inputs + c.len.result ≡ m = omega (arith, c.len.ensures, c.args.wiring.now.gates.ok.0) in
     let raws : List ℕ = map (λ (b : Bits). b.raw) inputs in
     let made : c.load_banks.new.values ≡ take m (raws ++ drop (length inputs) old) ++ banks =
-        c.load_banks.ensures ∙ ap (λ k. take k c.load_inputs.new.values ++ banks) em ∙ ap (λ vs. take m vs ++ banks) c.load_inputs.ensures in
+    c.load_banks.ensures ∙ ap (λ k. take k c.load_inputs.new.values ++ banks) em ∙ ap (λ vs. take m vs ++ banks) c.load_inputs.ensures in
     let size_raws : length raws ≡ length inputs = length-map inputs (λ (b : Bits). b.raw) in
     let room : m ≤ length (raws ++ drop (length inputs) old) = omega (arith, length-append raws (drop (length inputs) old), length-drop (length inputs) old, c.requires.wired.room, c.requires.fit.size) in
     let K : List Gate → Type 0 = λ gs. KeepsOthers (length inputs) (length gs) c.load_banks.new.values c.run_gates.new.values in

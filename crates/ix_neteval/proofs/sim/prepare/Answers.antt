@@ -14,12 +14,12 @@ pub invariant_of-result : goal.invariant_of-result
 invariant_of-result c =
     let net : Net = c.args.net.now in
     let found : IsValid net × IsWiring net c.in-Some.wiring =
-        MatchOption-at_some (IsValid net → ⊥) (λ w. IsValid net × IsWiring net w) c.in-Some.wiring c.in-Some.is c.in_ok-wiring.ensures in
+    MatchOption-at_some (IsValid net → ⊥) (λ w. IsValid net × IsWiring net w) c.in-Some.wiring c.in-Some.is c.in_ok-wiring.ensures in
     let zeros : c.in_ok-banks-in-Some.banks.items ≡ replicate c.len.result 0 = search rules in
     let zeros' : c.in_ok-values-in-Some.values.items ≡ replicate c.len-in-Some.result 0 = search rules in
     let size : c.len.result ≡ length (map bank_port net.banks) = c.len.ensures ∙ sym (length-map net.banks bank_port) in
     let size' : c.len-in-Some.result ≡ length (signals net) =
-        omega (arith, c.len-in-Some.ensures, c.in-Some.wiring.widths.ok.0, ap length found.1.widths, length-map (signals net) (λ (p : Port). p.width)) in
+    omega (arith, c.len-in-Some.ensures, c.in-Some.wiring.widths.ok.0, ap length found.1.widths, length-map (signals net) (λ (p : Port). p.width)) in
     let P : List ℕ → Type 0 = λ vs. FitPorts (map bank_port net.banks) vs in
     let Q : List ℕ → Type 0 = λ vs. FitPorts (signals net) vs in
     record {

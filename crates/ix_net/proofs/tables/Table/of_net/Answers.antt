@@ -1,16 +1,13 @@
-use Rattle.std.proofs.Common.{◌≡◌, ◌≢◌, ◌∙◌, ℕ, List, ◌∷◌, Bool, true, false, Option, Some, None, is_some, map, sym, ap, subst, All, AllPairs, MatchOption}
-use Rattle.std.specs.BTreeMap.{BTreeMap, get_by}
-use Rattle.std.specs.Cmp.Lexicographic.{slice_cmp}
-use Rattle.std.specs.Ordering.{nat_cmp}
+use Rattle.std.proofs.Common.{◌≡◌, ◌≢◌, ◌∙◌, ℕ, List, true, false, Option, Some, None, is_some, map, sym, ap, subst, All, AllPairs}
+use Rattle.std.specs.BTreeMap.{BTreeMap}
 use Rattle.std.proofs.lemmas.Bool.{false≢true}
 use Rattle.std.proofs.lemmas.Option.{MatchOption-at_some, MatchOption-at_none}
 use denote.Ref.{Bor}
-use Rattle.ix_net.specs.declared.netlist.Port.{Port}
 use Rattle.ix_net.specs.declared.tables.Signal.{Signal}
 use Rattle.ix_net.specs.Name.{IsName}
-use Rattle.ix_net.specs.Signals.{place_of, signals}
+use Rattle.ix_net.specs.Signals.{place_of}
 use Rattle.ix_net.specs.Valid.{names}
-use Rattle.ix_net.specs.Tables.{port_of, IsDeclared, Holds}
+use Rattle.ix_net.specs.Tables.{port_of, Holds}
 use Rattle.ix_net.proofs.TableLemmas.{IsGood, declared_from, good_from, apart_from, apart_tail, not_apart_from_Some}
 use Rattle.ix_net.proofs.tables.Table.of_net.Goals as goal
 

@@ -1,18 +1,14 @@
-use Rattle.std.proofs.Common.{◌≡◌, ◌∙◌, ◌+◌, ◌++◌, ℕ, List, Some, length, map, take, drop, get_or, subst, sym, ap, arith, rules, All}
+use Rattle.std.proofs.Common.{◌≡◌, ◌∙◌, ◌+◌, ◌++◌, ℕ, List, length, map, take, drop, subst, sym, ap, arith}
 use Rattle.std.proofs.lemmas.List.{length-map, take_at}
-use Rattle.std.specs.Prelude.{slice_get}
 use Rattle.ix_net.specs.declared.netlist.Net.{Net}
-use Rattle.ix_net.specs.declared.netlist.Port.{Port}
 use Rattle.ix_net.specs.declared.wires.Wiring.{Wiring}
-use Rattle.ix_net.specs.declared.wires.Latch.{Latch}
 use Rattle.ix_net.specs.Run.{next_banks}
 use Rattle.ix_net.specs.Signals.{signals, bank_port}
 use Rattle.ix_net.specs.Valuation.{FitPorts}
 use Rattle.ix_net.specs.Wiring.{IsWiring, latch_of}
 use Rattle.ix_net.proofs.FitLemmas.{fit_length}
 use Rattle.ix_net.proofs.NetLemmas.{signals_length}
-use Rattle.ix_neteval.specs.State.{State, IsState}
-use Rattle.ix_neteval.specs.Wired.{latched}
+use Rattle.ix_neteval.specs.State.{State}
 use Rattle.ix_neteval.proofs.StateLemmas.{next_banks_fit, clocked, latch_within}
 use Rattle.ix_neteval.proofs.sim.Sim.clock.Goals as goal
 
@@ -30,8 +26,16 @@ clock_banks-requires-clause-lengths c =
 pub clock_banks-requires-clause-room : goal.clock_banks-requires-clause-room
 clock_banks-requires-clause-room c =
     let net : Net = c.self.inside.net.now in
-    omega (arith, c.len.ensures, c.len-2.ensures, ap length c.deref.ensures.value, ap length c.deref-2.ensures.value, latch_count net c.self.inside.wiring c.self.invariant.wired,
-        fit_length (signals net) c.self.inside.values.items c.self.invariant.values_fit, signals_length net)
+    omega (
+      arith,
+      c.len.ensures,
+      c.len-2.ensures,
+      ap length c.deref.ensures.value,
+      ap length c.deref-2.ensures.value,
+      latch_count net c.self.inside.wiring c.self.invariant.wired,
+      fit_length (signals net) c.self.inside.values.items c.self.invariant.values_fit,
+      signals_length net,
+    )
 
 pub clock_banks-requires-clause-in_range : goal.clock_banks-requires-clause-in_range
 clock_banks-requires-clause-in_range c =
@@ -46,11 +50,11 @@ invariant_of-self c =
     let old : List ℕ = c.self.inside.banks.items in
     let values : List ℕ = c.self.inside.values.items in
     let whole : take c.self.inside.banks.len (new ++ drop (length new) old) ≡ new =
-        take_at new (drop (length new) old) c.self.inside.banks.len (omega (arith, c.clock_banks.auto.banks, ap length c.deref_mut.ensures.value, c.self.inside.banks.ok.0)) in
+    take_at new (drop (length new) old) c.self.inside.banks.len (omega (arith, c.clock_banks.auto.banks, ap length c.deref_mut.ensures.value, c.self.inside.banks.ok.0)) in
     let size : length new ≡ length net.banks = omega (arith, c.clock_banks.auto.banks, ap length c.deref_mut.ensures.value, bank_count net old c.self.invariant.banks_fit) in
     let made : new ≡ next_banks net values =
-        clocked net c.deref.result.now (c.len.result + c.len-2.result) c.deref-2.result.now new c.self.invariant.valid (c.deref.ensures.value ∙ c.self.invariant.wired.latches)
-        (omega (arith, c.len.ensures, c.len-2.ensures)) size c.clock_banks.ensures ∙ ap (next_banks net) c.deref-2.ensures.value in
+    clocked net c.deref.result.now (c.len.result + c.len-2.result) c.deref-2.result.now new c.self.invariant.valid (c.deref.ensures.value ∙ c.self.invariant.wired.latches)
+    (omega (arith, c.len.ensures, c.len-2.ensures)) size c.clock_banks.ensures ∙ ap (next_banks net) c.deref-2.ensures.value in
     let P : List ℕ → Type 0 = λ bs. FitPorts (map bank_port net.banks) bs in
     record {
       valid = c.self.invariant.valid;
@@ -66,9 +70,9 @@ returns-clause-banks c =
     let old : List ℕ = c.self.inside.banks.items in
     let values : List ℕ = c.self.inside.values.items in
     let whole : take c.self.inside.banks.len (new ++ drop (length new) old) ≡ new =
-        take_at new (drop (length new) old) c.self.inside.banks.len (omega (arith, c.clock_banks.auto.banks, ap length c.deref_mut.ensures.value, c.self.inside.banks.ok.0)) in
+    take_at new (drop (length new) old) c.self.inside.banks.len (omega (arith, c.clock_banks.auto.banks, ap length c.deref_mut.ensures.value, c.self.inside.banks.ok.0)) in
     let size : length new ≡ length net.banks = omega (arith, c.clock_banks.auto.banks, ap length c.deref_mut.ensures.value, bank_count net old c.self.invariant.banks_fit) in
     let made : new ≡ next_banks net values =
-        clocked net c.deref.result.now (c.len.result + c.len-2.result) c.deref-2.result.now new c.self.invariant.valid (c.deref.ensures.value ∙ c.self.invariant.wired.latches)
-        (omega (arith, c.len.ensures, c.len-2.ensures)) size c.clock_banks.ensures ∙ ap (next_banks net) c.deref-2.ensures.value in
+    clocked net c.deref.result.now (c.len.result + c.len-2.result) c.deref-2.result.now new c.self.invariant.valid (c.deref.ensures.value ∙ c.self.invariant.wired.latches)
+    (omega (arith, c.len.ensures, c.len-2.ensures)) size c.clock_banks.ensures ∙ ap (next_banks net) c.deref-2.ensures.value in
     whole ∙ made ∙ ap (λ (s : State). next_banks s.net s.values) c.self.view_is

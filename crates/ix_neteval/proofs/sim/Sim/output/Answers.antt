@@ -1,6 +1,6 @@
-use Rattle.std.proofs.Common.{◌≡◌, ◌∙◌, ◌<◌, ◌≤◌, ◌^◌, ℕ, List, Some, length, get_or, subst, sym, ap, arith}
+use Rattle.std.proofs.Common.{◌≡◌, ◌∙◌, ◌<◌, ◌^◌, ℕ, Some, length, get_or, subst, sym, ap, arith}
 use Rattle.std.specs.Prelude.{slice_get}
-use Rattle.std.proofs.lemmas.Option.{same_Some, get_or_from_slice_get}
+use Rattle.std.proofs.lemmas.Option.{get_or_from_slice_get}
 use Rattle.ix_net.specs.declared.netlist.Net.{Net}
 use Rattle.ix_net.specs.declared.netlist.Port.{Port}
 use Rattle.ix_net.specs.Signals.{signals, number_of}
@@ -33,7 +33,7 @@ invariant_of-result c =
     let read = output_value net c.args.k o.0 c.self.inside.values.items c.index.result.now c.index-2.result.now c.self.invariant.valid c.self.invariant.values_fit o.1 at c.index-2.ensures in
     let wide = output_width net c.args.k o.0 c.self.invariant.valid o.1 in
     let same : get_or c.as_slice.result.now c.args.k c.index-as_slice-k.result ≡ o.0 =
-        ap (λ os. get_or os c.args.k c.index-as_slice-k.result) c.as_slice.ensures ∙ get_or_from_slice_get net.outputs c.args.k o.0 c.index-as_slice-k.result o.1 in
+    ap (λ os. get_or os c.args.k c.index-as_slice-k.result) c.as_slice.ensures ∙ get_or_from_slice_get net.outputs c.args.k o.0 c.index-as_slice-k.result o.1 in
     let W : Port → Type 0 = λ p. IsWidth p.width in
     let F : Port → Type 0 = λ p. c.index-2.result.now < 2 ^ p.width in
     let width = subst W (sym same) wide.1 in

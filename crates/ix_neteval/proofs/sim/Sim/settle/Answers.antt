@@ -1,4 +1,4 @@
-use Rattle.std.proofs.Common.{◌≡◌, ◌∙◌, ◌+◌, ◌++◌, ℕ, List, length, map, take, drop, subst, sym, ap, arith, rules}
+use Rattle.std.proofs.Common.{◌≡◌, ◌∙◌, ◌+◌, ◌++◌, ℕ, List, length, map, take, drop, subst, sym, ap, arith}
 use Rattle.std.proofs.lemmas.List.{length-map, take_at}
 use Rattle.ix_bits.specs.declared.number.Bits.{Bits}
 use Rattle.ix_net.specs.declared.netlist.Net.{Net}
@@ -7,7 +7,7 @@ use Rattle.ix_net.specs.declared.wires.Wiring.{Wiring}
 use Rattle.ix_net.specs.Signals.{signals, bank_port}
 use Rattle.ix_net.specs.Valuation.{FitPorts, Settles}
 use Rattle.ix_net.specs.Wiring.{IsWiring, cell_gate}
-use Rattle.ix_neteval.specs.State.{State, IsState}
+use Rattle.ix_neteval.specs.State.{State}
 use Rattle.ix_neteval.specs.Wired.{AreWired, FitWidths}
 use Rattle.ix_neteval.proofs.StateLemmas.{fit_widths, fit_ports, wired_from, settles_from, bank_widths, input_widths, widths_of}
 use Rattle.ix_neteval.proofs.sim.Sim.settle.Goals as goal
@@ -60,7 +60,7 @@ invariant_of-self c =
     let new : List ℕ = c.settle_values.new.values in
     let old : List ℕ = c.self.inside.values.items in
     let whole : take c.self.inside.values.len (new ++ drop (length new) old) ≡ new =
-        take_at new (drop (length new) old) c.self.inside.values.len (omega (arith, c.settle_values.auto.values, ap length c.deref_mut.ensures.value, c.self.inside.values.ok.0)) in
+    take_at new (drop (length new) old) c.self.inside.values.len (omega (arith, c.settle_values.auto.values, ap length c.deref_mut.ensures.value, c.self.inside.values.ok.0)) in
     let P : List ℕ → Type 0 = λ ws. FitWidths ws new in
     let Q : List ℕ → Type 0 = λ vs. FitPorts (signals net) vs in
     record {
@@ -81,10 +81,10 @@ returns-clause-settled c =
     let eb : c.args.self.now.banks ≡ c.self.inside.banks.items = sym (ap (λ (s : State). s.banks) c.self.view_is) in
     let e : length c.args.inputs.now ≡ length net.inputs = input_count c.args.inputs.now c.args.self.now net en c.requires in
     let whole : take c.self.inside.values.len (new ++ drop (length new) old) ≡ new =
-        take_at new (drop (length new) old) c.self.inside.values.len (omega (arith, c.settle_values.auto.values, ap length c.deref_mut.ensures.value, c.self.inside.values.ok.0)) in
+    take_at new (drop (length new) old) c.self.inside.values.len (omega (arith, c.settle_values.auto.values, ap length c.deref_mut.ensures.value, c.self.inside.values.ok.0)) in
     let done : Settles net raws c.self.inside.banks.items new =
-        settles_from net w (length c.args.inputs.now) raws c.self.inside.banks.items new c.self.invariant.valid c.self.invariant.wired e
-        c.settle_values.ensures.fit c.settle_values.ensures.hold c.settle_values.ensures.inputs (c.settle_values.ensures.banks ∙ c.deref.ensures.value) in
+    settles_from net w (length c.args.inputs.now) raws c.self.inside.banks.items new c.self.invariant.valid c.self.invariant.wired e
+    c.settle_values.ensures.fit c.settle_values.ensures.hold c.settle_values.ensures.inputs (c.settle_values.ensures.banks ∙ c.deref.ensures.value) in
     let P : List ℕ → Type 0 = λ vs. Settles net raws c.self.inside.banks.items vs in
     let Q : List ℕ → Type 0 = λ bs. Settles net raws bs (take c.self.inside.values.len (new ++ drop (length new) old)) in
     let R : Net → Type 0 = λ n. Settles n raws c.args.self.now.banks (take c.self.inside.values.len (new ++ drop (length new) old)) in
