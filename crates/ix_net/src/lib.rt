@@ -7,6 +7,8 @@ mod laws;
 mod netlist;
 mod ordering;
 mod tables;
+#[cfg(test)]
+mod tests;
 mod wires;
 
 pub use gates::Gate;

@@ -4,5 +4,7 @@
 mod arithmetic;
 mod running;
 mod sim;
+#[cfg(test)]
+mod tests;
 
 pub use sim::{Sim, prepare};

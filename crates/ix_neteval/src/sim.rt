@@ -1,4 +1,4 @@
-ghost use Rattle.std.specs.Prelude.{◌≡◌, ◌<◌, ℕ, Some, IfOk, length, map, replicate, slice_get};
+ghost use Rattle.std.specs.Prelude.{◌≡◌, ◌<◌, ℕ, Some, IfOk, IsTrue, ◌↔◌, length, map, replicate, slice_get};
 ghost use Rattle.ix_net.specs.declared.netlist.Port.{Port};
 ghost use Rattle.ix_net.specs.Run.{first_banks, next_banks};
 ghost use Rattle.ix_net.specs.Signals.{signals};
@@ -7,7 +7,7 @@ ghost use Rattle.ix_net.specs.Valuation.{Settles, value_of};
 
 use crate::running::{clock_banks, settle_values};
 use ix_bits::{Bits, Memory};
-use ix_net::{Net, Wiring, wire};
+use ix_net::{Net, Port, Wiring, wire};
 use std::alloc::Global;
 use std::marker::Model;
 
@@ -51,7 +51,29 @@ pub fn prepare<'a>(alloc: Global, net: &'a Net) -> Result<Sim<'a>, Memory>
     }
 }
 
+/// Whether the patterns have the widths of the ports, one for each.
+fn are_of_widths(inputs: &[Bits], ports: &[Port]) -> bool
+    ensures { IsTrue result ↔ (map (λ b. b.width) inputs.now ≡ map (λ p. p.width) ports.now) }
+{
+    if inputs.len() != ports.len() {
+        return false;
+    }
+    for i in 0..inputs.len() {
+        if inputs[i].width != ports[i].width {
+            return false;
+        }
+    }
+    true
+}
+
 impl<'a> Sim<'a> {
+    /// Whether these are one pattern of the right width for each input, as `settle` requires.
+    pub fn accepts(&self, inputs: &[Bits]) -> bool
+        ensures { IsTrue result ↔ (map (λ b. b.width) inputs.now ≡ map (λ p. p.width) self.now.net.inputs) }
+    {
+        are_of_widths(inputs, self.net.inputs.as_slice())
+    }
+
     /// Gives each name its value in a cycle with these inputs, one pattern of the right width for each input.
     pub fn settle(&mut self, inputs: &[Bits])
         requires { map (λ b. b.width) inputs.now ≡ map (λ p. p.width) self.old.net.inputs }
