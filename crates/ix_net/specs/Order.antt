@@ -4,6 +4,7 @@ use Rattle.ix_net.specs.declared.gates.Gate.{Gate}
 use Rattle.ix_net.specs.declared.gates.Gate.TheVariants.{Hex}
 use Rattle.ix_net.specs.declared.ordering.Mark.{Mark}
 use Rattle.ix_net.specs.declared.ordering.Mark.TheVariants.{New, Open, Done}
+use Rattle.ix_net.specs.Chain.{Chain}
 use Rattle.ix_net.specs.Gates.{reads_of}
 
 -- the right side of a cell
@@ -30,6 +31,18 @@ pub record IsOrder (first : ℕ) (gates : List Gate) (order : List ℕ) : Type 0
 abbrev pub mark_at : List Mark → ℕ → Mark
 mark_at marks k = slice_index_or marks k New
 
+-- a cell depends on itself
+abbrev pub HasLoop : ℕ → List Gate → Type 0
+HasLoop first gates = (k : ℕ) × Chain (Reads first gates) k k
+
+-- cell k is one of these and is not done
+abbrev pub Waits : (ℕ → Type 0) → List Mark → ℕ → Type 0
+Waits Is marks k = (k < length marks) × Is k × (mark_at marks k ≢ Done)
+
+-- all of these cells are done
+abbrev pub AreDone : (ℕ → Type 0) → List Mark → Type 0
+AreDone Is marks = (k : ℕ) → k < length marks → Is k → mark_at marks k ≡ Done
+
 -- between two searches no cell is open, and those that are done stand in the order
 pub record IsResting (first : ℕ) (gates : List Gate) (marks : List Mark) (order : List ℕ) : Type 0 where
   pub shut : (k : ℕ) → mark_at marks k ≢ Open
@@ -39,3 +52,7 @@ pub record IsResting (first : ℕ) (gates : List Gate) (marks : List Mark) (orde
 -- what is not new stays so
 abbrev pub StaysSeen : List Mark → List Mark → Type 0
 StaysSeen old new = (k : ℕ) → mark_at old k ≢ New → mark_at new k ≢ New
+
+-- a search from a root ends with the root seen
+abbrev pub Visits : ℕ → List Gate → List Mark → List Mark → List ℕ → ℕ → Type 0
+Visits first gates old new order root = IsResting first gates new order × StaysSeen old new × (mark_at new root ≢ New)

@@ -8,6 +8,7 @@ use Rattle.ix_net.specs.declared.gates.Gate.{Gate}
 use Rattle.ix_net.specs.declared.wires.Latch.{Latch}
 use Rattle.ix_net.specs.declared.wires.Wiring.{Wiring}
 use Rattle.ix_net.specs.Signals.{signals, place_of, width_of, number_of, bits_of}
+use Rattle.ix_net.specs.Forms.{Fits}
 use Rattle.ix_net.specs.Gates.{gate_of}
 use Rattle.ix_net.specs.Order.{IsOrder}
 
@@ -18,6 +19,14 @@ cell_gate ports c = gate_of (number_of ports) (bits_of ports) c.form
 -- the names of a bank by number
 abbrev pub latch_of : List Port → Bank → Latch
 latch_of ports b = record { enable = number_of ports b.enable; source = number_of ports b.source }
+
+-- each operand of these cells is declared, and the widths agree
+abbrev pub FormsFit : List Port → List Cell → Type 0
+FormsFit ports cells = All (λ (c : Cell). Fits (width_of ports) c.width c.form) cells
+
+-- the enable and the source of a bank are declared with their widths
+abbrev pub BankFits : List Port → Bank → Type 0
+BankFits ports b = (width_of ports b.enable ≡ Some 1) × (width_of ports b.source ≡ Some b.width)
 
 abbrev pub EnablesFit : List Port → List Bank → Type 0
 EnablesFit ports banks = All (λ (b : Bank). width_of ports b.enable ≡ Some 1) banks
@@ -33,10 +42,14 @@ pub record IsCellPort (ports : List Port) (inputs cells : ℕ) (o : Port) : Type
   pub behind_inputs : inputs ≤ place
   pub before_banks : place < inputs + cells
 
+-- the numbers of outputs
+abbrev pub outputs_at : List Port → List Port → List ℕ
+outputs_at ports outputs = map (λ (o : Port). number_of ports o.name) outputs
+
 -- the wiring of a net
 pub record IsWiring (net : Net) (w : Wiring) : Type 0 where
   pub widths : w.widths.items ≡ map (λ (p : Port). p.width) (signals net)
   pub gates : w.gates.items ≡ map (cell_gate (signals net)) net.cells
   pub latches : w.latches.items ≡ map (latch_of (signals net)) net.banks
-  pub outputs : w.outputs.items ≡ map (λ (o : Port). number_of (signals net) o.name) net.outputs
+  pub outputs : w.outputs.items ≡ outputs_at (signals net) net.outputs
   pub order : IsOrder (length net.inputs) w.gates.items w.order.items

@@ -1,7 +1,6 @@
-ghost use Rattle.std.specs.Prelude.{◌≡◌, ◌≢◌, ℕ, ◌+◌, ◌<◌, ◌^◌, length, Contains, IfOk, MatchOption, MatchBool, IsTrue, ◌↔◌};
-ghost use Rattle.ix_net.specs.Chain.{Chain};
+ghost use Rattle.std.specs.Prelude.{◌≡◌, ◌+◌, ◌<◌, ◌↔◌, IsTrue, length, Contains, IfOk, MatchOption, MatchBool};
 ghost use Rattle.ix_net.specs.Gates.{reads_of};
-ghost use Rattle.ix_net.specs.Order.{Reads, IsOrder, IsOrdered, IsResting, StaysSeen, mark_at};
+ghost use Rattle.ix_net.specs.Order.{IsOrder, IsResting, Waits, AreDone, Visits, HasLoop};
 
 use crate::gates::Gate;
 use ix_bits::Memory;
@@ -39,7 +38,7 @@ fn is_open(mark: Mark) -> bool
 
 /// The signal as a cell, where it is one that is not done.
 fn waiting_cell(signal: usize, first: usize, marks: &[Mark]) -> Option<usize>
-    ensures { MatchOption result ((k : ℕ) → k < length marks.now → signal ≡ first + k → mark_at marks.now k ≡ Mark.Done) (λ k. (k < length marks.now) × (signal ≡ first + k) × (mark_at marks.now k ≢ Mark.Done)) }
+    ensures { MatchOption result (AreDone (λ k. signal ≡ first + k) marks.now) (Waits (λ k. signal ≡ first + k) marks.now) }
 {
     if signal < first {
         return None;
@@ -57,7 +56,10 @@ fn waiting_cell(signal: usize, first: usize, marks: &[Mark]) -> Option<usize>
 
 /// The first of the signals that is a cell which is not done.
 fn first_waiting(signals: &[usize], first: usize, marks: &[Mark]) -> Option<usize>
-    ensures { MatchOption result ((k : ℕ) → k < length marks.now → Contains signals.now (first + k) → mark_at marks.now k ≡ Mark.Done) (λ k. (k < length marks.now) × Contains signals.now (first + k) × (mark_at marks.now k ≢ Mark.Done)) }
+    ensures {
+        MatchOption result (AreDone (λ k. Contains signals.now (first + k)) marks.now)
+        (Waits (λ k. Contains signals.now (first + k)) marks.now)
+    }
 {
     for signal in signals {
         if let Some(cell) = waiting_cell(*signal, first, marks) {
@@ -69,7 +71,10 @@ fn first_waiting(signals: &[usize], first: usize, marks: &[Mark]) -> Option<usiz
 
 /// A cell that a gate reads and that is not done.
 fn waits_for(gate: Gate, first: usize, marks: &[Mark]) -> Option<usize>
-    ensures { MatchOption result ((k : ℕ) → k < length marks.now → Contains (reads_of gate) (first + k) → mark_at marks.now k ≡ Mark.Done) (λ k. (k < length marks.now) × Contains (reads_of gate) (first + k) × (mark_at marks.now k ≢ Mark.Done)) }
+    ensures {
+        MatchOption result (AreDone (λ k. Contains (reads_of gate) (first + k)) marks.now)
+        (Waits (λ k. Contains (reads_of gate) (first + k)) marks.now)
+    }
 {
     match gate {
         Gate::Hex(_) => None,
@@ -110,7 +115,10 @@ fn visit(
     requires lengths { length marks.old ≡ length gates.now }
     requires root_new { root < length gates.now }
     requires resting { IsResting first gates.now marks.old order.old.items }
-    ensures { IfOk result (λ done. MatchBool done (IsResting first gates.now marks.new order.new.items × StaysSeen marks.old marks.new × (mark_at marks.new root ≢ Mark.New)) ((k : ℕ) × Chain (Reads first gates.now) k k)) }
+    ensures {
+        IfOk result (λ done.
+            MatchBool done (Visits first gates.now marks.old marks.new order.new.items root) (HasLoop first gates.now))
+    }
 {
     let mut path = Vec::new(alloc);
     path.push(root)?;
@@ -140,7 +148,7 @@ pub(crate) fn order_of(
     gates: &[Gate],
     first: usize,
 ) -> Result<Option<Vec<usize>>, Memory>
-    ensures { IfOk result (λ o. MatchOption o ((k : ℕ) × Chain (Reads first gates.now) k k) (λ order. IsOrder first gates.now order.items)) }
+    ensures { IfOk result (λ o. MatchOption o (HasLoop first gates.now) (λ order. IsOrder first gates.now order.items)) }
 {
     let mut marks = vec![in alloc; Mark::New; gates.len()]?;
     let mut order = Vec::with_capacity(alloc, gates.len())?;

@@ -1,8 +1,6 @@
-ghost use Rattle.std.specs.Prelude.{◌≡◌, ◌≢◌, ◌++◌, ◌↔◌, [], Some, None, IsTrue, OnOk, IfOk, MatchOption, map, All, AllPairs, length};
-ghost use Rattle.ix_net.specs.Signals.{cell_port, bank_port, signals, place_of, width_of};
-ghost use Rattle.ix_net.specs.Name.{IsName};
-ghost use Rattle.ix_net.specs.Valid.{names, IsWidth};
-ghost use Rattle.ix_net.specs.Tables.{port_of, IsDeclared, Holds};
+ghost use Rattle.std.specs.Prelude.{◌≡◌, ◌++◌, ◌↔◌, IsTrue, OnOk, IfOk, MatchOption, map, All};
+ghost use Rattle.ix_net.specs.Signals.{cell_port, bank_port, signals};
+ghost use Rattle.ix_net.specs.Tables.{port_of, IsGood, AreApart, Numbers};
 
 use crate::keywords::is_name;
 use crate::netlist::{Bank, Cell, Net, Port};
@@ -67,7 +65,7 @@ fn signals_of<'a>(alloc: Global, net: &'a Net) -> Result<Vec<Signal<'a>>, Memory
 
 /// Whether each name follows the rule for names and each width is 1 to 128.
 fn are_named(signals: &[Signal]) -> bool
-    ensures { IsTrue result ↔ All (λ s. IsName s.name.now × IsWidth s.width) signals.now }
+    ensures { IsTrue result ↔ All IsGood signals.now }
 {
     for signal in signals {
         if !is_name(signal.name) || signal.width < 1 || 128 < signal.width {
@@ -82,7 +80,9 @@ fn number<'a>(
     alloc: Global,
     signals: &[Signal<'a>],
 ) -> Result<Option<BTreeMap<&'a str, usize>>, Memory>
-    ensures { IfOk result (λ o. MatchOption o (AllPairs (λ x y. x ≢ y) (names (map port_of signals.now)) → ⊥) (λ m. AllPairs (λ x y. x ≢ y) (names (map port_of signals.now)) × Holds (map port_of signals.now) m)) }
+    ensures {
+        IfOk result (λ o. MatchOption o (AreApart (map port_of signals.now) → ⊥) (Numbers (map port_of signals.now)))
+    }
 {
     let mut places = BTreeMap::new(alloc);
     for (place, signal) in signals.iter().enumerate() {
@@ -105,7 +105,7 @@ fn widths_of(alloc: Global, signals: &[Signal]) -> Result<Vec<u8>, Memory>
 
 /// Whether no two ports have one name.
 pub(crate) fn are_distinct(alloc: Global, ports: &[Port]) -> Result<bool, Memory>
-    ensures { IfOk result (λ r. IsTrue r ↔ AllPairs (λ x y. x ≢ y) (names ports.now)) }
+    ensures { IfOk result (λ r. IsTrue r ↔ AreApart ports.now) }
 {
     let mut signals = Vec::new(alloc);
     add_ports(&mut signals, ports)?;
@@ -139,11 +139,14 @@ impl<'a> Table<'a> {
     ghost use Rattle.std.specs.Prelude.{◌≡◌, Some, None, MatchOption, IfOk, map, slice_get};
     ghost use Rattle.ix_net.specs.Signals.{signals, place_of, width_of};
     ghost use Rattle.ix_net.specs.Forms.{ShareWidth};
-    ghost use Rattle.ix_net.specs.Tables.{IsDeclared};
+    ghost use Rattle.ix_net.specs.Tables.{IsDeclared, IsAt, HaveWidth, AreAt};
 
     /// The table of a net; None where the net breaks a rule on names or widths of what it declares.
     pub fn of_net(alloc: Global, net: &'a Net) -> Result<Option<Table<'a>>, Memory>
-        ensures { IfOk result (λ o. MatchOption o (IsDeclared net.now → ⊥) (λ t. IsDeclared net.now × (t ≡ signals net.now))) }
+        ensures {
+            IfOk result (λ o.
+                MatchOption o (IsDeclared net.now → ⊥) (λ t. IsDeclared net.now × (t ≡ signals net.now)))
+        }
     {
         let signals = signals_of(alloc, net)?;
         if !is_name(net.name.as_str()) {
@@ -170,7 +173,7 @@ impl<'a> Table<'a> {
 
     /// The number and the width of a name.
     pub fn declared(&self, name: &Name) -> Option<(usize, u8)>
-        ensures { MatchOption result (width_of self.now name.now ≡ None) (λ r. (place_of self.now name.now ≡ Some r.0) × (width_of self.now name.now ≡ Some r.1)) }
+        ensures { MatchOption result (width_of self.now name.now ≡ None) (λ r. IsAt self.now name.now r.0 r.1) }
     {
         let place = self.find(name)?;
         Some((place, self.signals[place].width))
@@ -178,7 +181,9 @@ impl<'a> Table<'a> {
 
     /// The number of a name of this width.
     pub fn of_width(&self, name: &Name, width: u8) -> Option<usize>
-        ensures { MatchOption result (width_of self.now name.now ≡ Some width → ⊥) (λ i. (place_of self.now name.now ≡ Some i) × (width_of self.now name.now ≡ Some width)) }
+        ensures {
+            MatchOption result (width_of self.now name.now ≡ Some width → ⊥) (λ i. IsAt self.now name.now i width)
+        }
     {
         let (place, found) = self.declared(name)?;
         if found == width { Some(place) } else { None }
@@ -186,7 +191,10 @@ impl<'a> Table<'a> {
 
     /// The numbers of two names of this width.
     pub fn pair(&self, a: &Name, b: &Name, width: u8) -> Option<(usize, usize)>
-        ensures { MatchOption result ((width_of self.now a.now ≡ Some width) × (width_of self.now b.now ≡ Some width) → ⊥) (λ r. (place_of self.now a.now ≡ Some r.0) × (width_of self.now a.now ≡ Some width) × (place_of self.now b.now ≡ Some r.1) × (width_of self.now b.now ≡ Some width)) }
+        ensures {
+            MatchOption result (HaveWidth self.now a.now b.now width → ⊥)
+            (λ r. AreAt self.now a.now b.now r.0 r.1 width)
+        }
     {
         let first = self.of_width(a, width)?;
         let second = self.of_width(b, width)?;
@@ -195,7 +203,10 @@ impl<'a> Table<'a> {
 
     /// The numbers of two names of one width, and that width.
     pub fn alike(&self, a: &Name, b: &Name) -> Option<(usize, usize, u8)>
-        ensures { MatchOption result (ShareWidth (width_of self.now a.now) (width_of self.now b.now) → ⊥) (λ r. (place_of self.now a.now ≡ Some r.0) × (width_of self.now a.now ≡ Some r.2) × (place_of self.now b.now ≡ Some r.1) × (width_of self.now b.now ≡ Some r.2)) }
+        ensures {
+            MatchOption result (ShareWidth (width_of self.now a.now) (width_of self.now b.now) → ⊥)
+            (λ r. AreAt self.now a.now b.now r.0 r.1 r.2)
+        }
     {
         let (first, width) = self.declared(a)?;
         let second = self.of_width(b, width)?;

@@ -1,9 +1,8 @@
-ghost use Rattle.std.specs.Prelude.{◌≡◌, ◌≢◌, ℕ, ◌+◌, ◌<◌, ◌≤◌, ◌↔◌, Some, IsTrue, IfOk, MatchOption, All, AllPairs, Contains, map, length};
-ghost use Rattle.ix_net.specs.Signals.{signals, width_of, number_of, cell_port};
-ghost use Rattle.ix_net.specs.Forms.{Fits};
-ghost use Rattle.ix_net.specs.Valid.{IsValid, names};
-ghost use Rattle.ix_net.specs.Wiring.{cell_gate, latch_of, IsWiring, IsCellPort, EnablesFit, SourcesFit};
-ghost use Rattle.ix_net.specs.Tables.{IsDeclared};
+ghost use Rattle.std.specs.Prelude.{◌≡◌, ◌↔◌, IsTrue, IfOk, MatchOption, All, map};
+ghost use Rattle.ix_net.specs.Signals.{signals, number_of};
+ghost use Rattle.ix_net.specs.Valid.{IsValid};
+ghost use Rattle.ix_net.specs.Wiring.{cell_gate, latch_of, outputs_at, IsWiring, IsCellPort};
+ghost use Rattle.ix_net.specs.Wiring.{FormsFit, BankFits, EnablesFit, SourcesFit};
 
 use crate::gates::{Gate, resolve};
 use crate::netlist::{Bank, Cell, Net, Port};
@@ -35,7 +34,11 @@ pub struct Wiring {
 }
 
 fn gates_of(alloc: Global, table: &Table, cells: &[Cell]) -> Result<Option<Vec<Gate>>, Memory>
-    ensures { IfOk result (λ o. MatchOption o (All (λ c. Fits (width_of table.now) c.width c.form) cells.now → ⊥) (λ v. All (λ c. Fits (width_of table.now) c.width c.form) cells.now × (v.items ≡ map (cell_gate table.now) cells.now))) }
+    ensures {
+        IfOk result (λ o.
+            MatchOption o (FormsFit table.now cells.now → ⊥)
+            (λ v. FormsFit table.now cells.now × (v.items ≡ map (cell_gate table.now) cells.now)))
+    }
 {
     let mut gates = Vec::with_capacity(alloc, cells.len())?;
     for cell in cells {
@@ -48,7 +51,10 @@ fn gates_of(alloc: Global, table: &Table, cells: &[Cell]) -> Result<Option<Vec<G
 }
 
 fn resolve_bank(table: &Table, bank: &Bank) -> Option<Latch>
-    ensures { MatchOption result ((width_of table.now bank.now.enable ≡ Some 1) × (width_of table.now bank.now.source ≡ Some bank.now.width) → ⊥) (λ r. (width_of table.now bank.now.enable ≡ Some 1) × (width_of table.now bank.now.source ≡ Some bank.now.width) × (r ≡ latch_of table.now bank.now)) }
+    ensures {
+        MatchOption result (BankFits table.now bank.now → ⊥)
+        (λ r. BankFits table.now bank.now × (r ≡ latch_of table.now bank.now))
+    }
 {
     let enable = table.of_width(&bank.enable, 1)?;
     let source = table.of_width(&bank.source, bank.width)?;
@@ -56,7 +62,11 @@ fn resolve_bank(table: &Table, bank: &Bank) -> Option<Latch>
 }
 
 fn latches_of(alloc: Global, table: &Table, banks: &[Bank]) -> Result<Option<Vec<Latch>>, Memory>
-    ensures { IfOk result (λ o. MatchOption o (EnablesFit table.now banks.now × SourcesFit table.now banks.now → ⊥) (λ v. EnablesFit table.now banks.now × SourcesFit table.now banks.now × (v.items ≡ map (latch_of table.now) banks.now))) }
+    ensures {
+        IfOk result (λ o.
+            MatchOption o (EnablesFit table.now banks.now × SourcesFit table.now banks.now → ⊥)
+            (λ v. EnablesFit table.now banks.now × SourcesFit table.now banks.now × (v.items ≡ map (latch_of table.now) banks.now)))
+    }
 {
     let mut latches = Vec::with_capacity(alloc, banks.len())?;
     for bank in banks {
@@ -70,7 +80,10 @@ fn latches_of(alloc: Global, table: &Table, banks: &[Bank]) -> Result<Option<Vec
 
 /// The number of an output that is the target of a cell with its width, where `inputs` signals stand before the cells.
 fn driven(table: &Table, output: &Port, inputs: usize, cells: usize) -> Option<usize>
-    ensures { MatchOption result (IsCellPort table.now inputs cells output.now → ⊥) (λ i. IsCellPort table.now inputs cells output.now × (i ≡ number_of table.now output.now.name)) }
+    ensures {
+        MatchOption result (IsCellPort table.now inputs cells output.now → ⊥)
+        (λ i. IsCellPort table.now inputs cells output.now × (i ≡ number_of table.now output.now.name))
+    }
 {
     let place = table.of_width(&output.name, output.width)?;
     if place < inputs || place - inputs >= cells {
@@ -86,7 +99,11 @@ fn outputs_of(
     inputs: usize,
     cells: usize,
 ) -> Result<Option<Vec<usize>>, Memory>
-    ensures { IfOk result (λ o. MatchOption o (All (IsCellPort table.now inputs cells) outputs.now → ⊥) (λ v. All (IsCellPort table.now inputs cells) outputs.now × (v.items ≡ map (λ p. number_of table.now p.name) outputs.now))) }
+    ensures {
+        IfOk result (λ o.
+            MatchOption o (All (IsCellPort table.now inputs cells) outputs.now → ⊥)
+            (λ v. All (IsCellPort table.now inputs cells) outputs.now × (v.items ≡ outputs_at table.now outputs.now)))
+    }
 {
     let mut places = Vec::with_capacity(alloc, outputs.len())?;
     for output in outputs {
@@ -100,7 +117,9 @@ fn outputs_of(
 
 /// A net by number, with an order of its cells; None exactly where the net is not valid.
 pub fn wire(alloc: Global, net: &Net) -> Result<Option<Wiring>, Memory>
-    ensures { IfOk result (λ o. MatchOption o (IsValid net.now → ⊥) (λ wiring. IsValid net.now × IsWiring net.now wiring)) }
+    ensures {
+        IfOk result (λ o. MatchOption o (IsValid net.now → ⊥) (λ w. IsValid net.now × IsWiring net.now w))
+    }
 {
     let Some(table) = Table::of_net(alloc, net)? else {
         return Ok(None);
@@ -138,8 +157,8 @@ pub fn wire(alloc: Global, net: &Net) -> Result<Option<Wiring>, Memory>
     }))
 }
 
-/// Whether a net is valid: its names follow the rule for names, nothing is driven twice, each operand is declared, the widths
-/// agree, and no cell depends on itself without a bank.
+/// Whether a net is valid: its names follow the rule for names, nothing is driven twice, each operand is declared, the
+/// widths agree, and no cell depends on itself without a bank.
 pub fn is_valid(alloc: Global, net: &Net) -> Result<bool, Memory>
     ensures { IfOk result (λ valid. IsTrue valid ↔ IsValid net.now) }
 {

@@ -1,5 +1,6 @@
 -- Nets by number, as the simulator runs them. Signal i is the i-th of what the net declares; cell k is signal first + k.
-use Rattle.std.specs.Prelude.{ℕ, ◌≡◌, ◌+◌, ◌-◌, ◌<◌, ◌≤◌, ◌^◌, ◌==◌, List, Some, length, slice_get, slice_index, if◌then◌else◌}
+use Rattle.std.specs.Prelude.{ℕ, ◌≡◌, ◌+◌, ◌-◌, ◌<◌, ◌≤◌, ◌^◌, ◌==◌, List, Some, length, map, slice_get, slice_index, if◌then◌else◌, All}
+use Rattle.ix_bits.specs.declared.number.Bits.{Bits}
 use Rattle.ix_net.specs.declared.gates.Gate.{Gate}
 use Rattle.ix_net.specs.declared.gates.Gate.TheVariants.{Hex, Copy, Add, Sub, Mul, And, Or, Xor, Not, Eq, Lt, LtSigned, Join, Range, Choose}
 use Rattle.ix_net.specs.declared.wires.Latch.{Latch}
@@ -55,6 +56,18 @@ GateHolds first gates widths values k = slice_index values (first + k) ≡ gate_
 pub record KeepsOthers (first cells : ℕ) (old new : List ℕ) : Type 0 where
   pub before : (i : ℕ) → i < first → slice_index new i ≡ slice_index old i
   pub behind : (i : ℕ) → first + cells ≤ i → slice_index new i ≡ slice_index old i
+
+-- the widths of patterns
+abbrev pub pattern_widths : List Bits → List ℕ
+pattern_widths inputs = map (λ (b : Bits). b.width) inputs
+
+-- patterns as numbers
+abbrev pub pattern_values : List Bits → List ℕ
+pattern_values inputs = map (λ (b : Bits). b.raw) inputs
+
+-- the latches name signals
+abbrev pub AreWithin : ℕ → List Latch → Type 0
+AreWithin signals latches = All (λ (l : Latch). (l.enable < signals) × (l.source < signals)) latches
 
 -- a bank after an edge: the value of its source where that of its enable is 1, else its own, which stands at `from`
 abbrev pub latched : List ℕ → ℕ → Latch → ℕ

@@ -1,7 +1,8 @@
-ghost use Rattle.std.specs.Prelude.{◌≡◌, ◌+◌, ◌<◌, ◌≤◌, ◌++◌, ℕ, Some, All, length, map, take, drop, slice_get, slice_index};
+ghost use Rattle.std.specs.Prelude.{◌≡◌, ◌+◌, ◌<◌, ◌≤◌, ◌++◌, ℕ, Some, length, take, drop, slice_get, slice_index};
 ghost use Rattle.ix_net.specs.declared.wires.Latch.{Latch};
 ghost use Rattle.ix_net.specs.Gates.{gate_result};
-ghost use Rattle.ix_neteval.specs.Wired.{GateFits, HasPattern, FitWidths, AreWired, GateHolds, KeepsOthers, latched};
+ghost use Rattle.ix_neteval.specs.Wired.{GateFits, HasPattern, FitWidths, AreWired, GateHolds, KeepsOthers};
+ghost use Rattle.ix_neteval.specs.Wired.{pattern_widths, pattern_values, AreWithin, latched};
 
 use crate::arithmetic::{add, bits, is_signed_lt, join, mul, not, sub};
 use ix_bits::Bits;
@@ -56,7 +57,7 @@ pub(crate) fn run_gates(
 /// Puts the patterns of the inputs in front.
 fn load_inputs(values: &mut [u128], inputs: &[Bits])
     requires { length inputs.now ≤ length values.old }
-    ensures { values.new ≡ map (λ b. b.raw) inputs.now ++ drop (length inputs.now) values.old }
+    ensures { values.new ≡ pattern_values inputs.now ++ drop (length inputs.now) values.old }
 {
     for (i, input) in inputs.iter().enumerate() {
         values[i] = input.raw;
@@ -73,13 +74,20 @@ fn load_banks(values: &mut [u128], from: usize, banks: &[u128])
 
 /// Gives each signal its value for these inputs and banks.
 pub(crate) fn settle_values(wiring: &Wiring, inputs: &[Bits], banks: &[u128], values: &mut [u128])
-    requires wired { AreWired (length inputs.now) wiring.now.gates.items wiring.now.order.items wiring.now.widths.items }
+    requires wired {
+        AreWired (length inputs.now) wiring.now.gates.items wiring.now.order.items wiring.now.widths.items
+    }
     requires fit { FitWidths wiring.now.widths.items values.old }
-    requires inputs_fit { map (λ b. b.width) inputs.now ≡ take (length inputs.now) wiring.now.widths.items }
-    requires banks_fit { FitWidths (drop (length inputs.now + length wiring.now.gates.items) wiring.now.widths.items) banks.now }
+    requires inputs_fit { pattern_widths inputs.now ≡ take (length inputs.now) wiring.now.widths.items }
+    requires banks_fit {
+        FitWidths (drop (length inputs.now + length wiring.now.gates.items) wiring.now.widths.items) banks.now
+    }
     ensures fit { FitWidths wiring.now.widths.items values.new }
-    ensures hold { (k : ℕ) → k < length wiring.now.gates.items → GateHolds (length inputs.now) wiring.now.gates.items wiring.now.widths.items values.new k }
-    ensures inputs { take (length inputs.now) values.new ≡ map (λ b. b.raw) inputs.now }
+    ensures hold {
+        (k : ℕ) → k < length wiring.now.gates.items →
+        GateHolds (length inputs.now) wiring.now.gates.items wiring.now.widths.items values.new k
+    }
+    ensures inputs { take (length inputs.now) values.new ≡ pattern_values inputs.now }
     ensures banks { drop (length inputs.now + length wiring.now.gates.items) values.new ≡ banks.now }
 {
     let first = inputs.len();
@@ -88,12 +96,16 @@ pub(crate) fn settle_values(wiring: &Wiring, inputs: &[Bits], banks: &[u128], va
     run_gates(&wiring.order, &wiring.gates, &wiring.widths, first, values);
 }
 
-/// Moves each bank to the value of its source where that of its enable is 1, else to its own, which stands from `own` on.
+/// Moves each bank to the value of its source where that of its enable is 1, else to its own, which stands from `own`
+/// on.
 pub(crate) fn clock_banks(latches: &[Latch], own: usize, values: &[u128], banks: &mut [u128])
     requires lengths { length latches.now ≡ length banks.old }
     requires room { own + length latches.now ≤ length values.now }
-    requires in_range { All (λ l. (l.enable < length values.now) × (l.source < length values.now)) latches.now }
-    ensures { (k : ℕ) (l : Latch) → slice_get latches.now k ≡ Some l → slice_index banks.new k ≡ latched values.now (own + k) l }
+    requires in_range { AreWithin (length values.now) latches.now }
+    ensures {
+        (k : ℕ) (l : Latch) → slice_get latches.now k ≡ Some l →
+        slice_index banks.new k ≡ latched values.now (own + k) l
+    }
 {
     for (i, latch) in latches.iter().enumerate() {
         banks[i] = if values[latch.enable] == 1 {

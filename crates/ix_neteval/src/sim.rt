@@ -1,9 +1,10 @@
-ghost use Rattle.std.specs.Prelude.{◌≡◌, ◌<◌, ℕ, Some, IfOk, IsTrue, ◌↔◌, length, map, replicate, slice_get};
+ghost use Rattle.std.specs.Prelude.{◌≡◌, ◌<◌, ◌↔◌, Some, IfOk, IsTrue, length, map, slice_get};
 ghost use Rattle.ix_net.specs.declared.netlist.Port.{Port};
-ghost use Rattle.ix_net.specs.Run.{first_banks, next_banks};
-ghost use Rattle.ix_net.specs.Signals.{signals};
+ghost use Rattle.ix_net.specs.Run.{next_banks};
 ghost use Rattle.ix_net.specs.Valid.{IsValid};
 ghost use Rattle.ix_net.specs.Valuation.{Settles, value_of};
+ghost use Rattle.ix_neteval.specs.State.{first_state};
+ghost use Rattle.ix_neteval.specs.Wired.{pattern_widths, pattern_values};
 
 use crate::running::{clock_banks, settle_values};
 use ix_bits::{Bits, Memory};
@@ -11,8 +12,8 @@ use ix_net::{Net, Port, Wiring, wire};
 use std::alloc::Global;
 use std::marker::Model;
 
-/// A net as it runs. Contracts see the net, the values of its banks, and the values of its signals (inputs, cells, banks) as
-/// they were last settled.
+/// A net as it runs. Contracts see the net, the values of its banks, and the values of its signals (inputs, cells,
+/// banks) as they were last settled.
 #[derive(Drop)]
 pub struct Sim<'a> {
     net: &'a Net,
@@ -34,7 +35,7 @@ impl<'a> Model for Sim<'a> {
 /// Makes a net ready to run, with all banks 0.
 pub fn prepare<'a>(alloc: Global, net: &'a Net) -> Result<Sim<'a>, Memory>
     requires { IsValid net.now }
-    ensures { IfOk result (λ s. (s.net ≡ net.now) × (s.banks ≡ first_banks net.now) × (s.values ≡ replicate (length (signals net.now)) 0)) }
+    ensures { IfOk result (λ s. s ≡ first_state net.now) }
 {
     match wire(alloc, net)? {
         Some(wiring) => {
@@ -53,7 +54,7 @@ pub fn prepare<'a>(alloc: Global, net: &'a Net) -> Result<Sim<'a>, Memory>
 
 /// Whether the patterns have the widths of the ports, one for each.
 fn are_of_widths(inputs: &[Bits], ports: &[Port]) -> bool
-    ensures { IsTrue result ↔ (map (λ b. b.width) inputs.now ≡ map (λ p. p.width) ports.now) }
+    ensures { IsTrue result ↔ (pattern_widths inputs.now ≡ map (λ p. p.width) ports.now) }
 {
     if inputs.len() != ports.len() {
         return false;
@@ -69,17 +70,17 @@ fn are_of_widths(inputs: &[Bits], ports: &[Port]) -> bool
 impl<'a> Sim<'a> {
     /// Whether these are one pattern of the right width for each input, as `settle` requires.
     pub fn accepts(&self, inputs: &[Bits]) -> bool
-        ensures { IsTrue result ↔ (map (λ b. b.width) inputs.now ≡ map (λ p. p.width) self.now.net.inputs) }
+        ensures { IsTrue result ↔ (pattern_widths inputs.now ≡ map (λ p. p.width) self.now.net.inputs) }
     {
         are_of_widths(inputs, self.net.inputs.as_slice())
     }
 
     /// Gives each name its value in a cycle with these inputs, one pattern of the right width for each input.
     pub fn settle(&mut self, inputs: &[Bits])
-        requires { map (λ b. b.width) inputs.now ≡ map (λ p. p.width) self.old.net.inputs }
+        requires { pattern_widths inputs.now ≡ map (λ p. p.width) self.old.net.inputs }
         ensures same_net { self.new.net ≡ self.old.net }
         ensures same_banks { self.new.banks ≡ self.old.banks }
-        ensures settled { Settles self.old.net (map (λ b. b.raw) inputs.now) self.old.banks self.new.values }
+        ensures settled { Settles self.old.net (pattern_values inputs.now) self.old.banks self.new.values }
     {
         settle_values(&self.wiring, inputs, &self.banks, &mut self.values);
     }
@@ -87,7 +88,10 @@ impl<'a> Sim<'a> {
     /// The value of output `k` as it was last settled; 0 before that.
     pub fn output(&self, k: u32) -> Bits
         requires { k < length self.now.net.outputs }
-        ensures value { (o : Port) → slice_get self.now.net.outputs k ≡ Some o → result.raw ≡ value_of self.now.net self.now.values o.name }
+        ensures value {
+            (o : Port) → slice_get self.now.net.outputs k ≡ Some o →
+            result.raw ≡ value_of self.now.net self.now.values o.name
+        }
         ensures width { (o : Port) → slice_get self.now.net.outputs k ≡ Some o → result.width ≡ o.width }
     {
         Bits {
@@ -96,8 +100,8 @@ impl<'a> Sim<'a> {
         }
     }
 
-    /// The edge of the clock: each bank takes the value that its source had when the net was last settled where its enable was
-    /// 1, and else keeps its own.
+    /// The edge of the clock: each bank takes the value that its source had when the net was last settled where its
+    /// enable was 1, and else keeps the one that it had then.
     pub fn clock(&mut self)
         ensures same_net { self.new.net ≡ self.old.net }
         ensures same_values { self.new.values ≡ self.old.values }
