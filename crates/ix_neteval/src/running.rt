@@ -74,19 +74,13 @@ fn load_banks(values: &mut [u128], from: usize, banks: &[u128])
 
 /// Gives each signal its value for these inputs and banks.
 pub(crate) fn settle_values(wiring: &Wiring, inputs: &[Bits], banks: &[u128], values: &mut [u128])
-    requires wired {
-        AreWired (length inputs.now) wiring.now.gates.items wiring.now.order.items wiring.now.widths.items
-    }
+    requires wired { AreWired (length inputs.now) wiring.now.gates.items wiring.now.order.items wiring.now.widths.items }
     requires fit { FitWidths wiring.now.widths.items values.old }
     requires inputs_fit { pattern_widths inputs.now ≡ take (length inputs.now) wiring.now.widths.items }
-    requires banks_fit {
-        FitWidths (drop (length inputs.now + length wiring.now.gates.items) wiring.now.widths.items) banks.now
-    }
+    requires banks_fit { FitWidths (drop (length inputs.now + length wiring.now.gates.items) wiring.now.widths.items) banks.now }
     ensures fit { FitWidths wiring.now.widths.items values.new }
-    ensures hold {
-        (k : ℕ) → k < length wiring.now.gates.items →
-        GateHolds (length inputs.now) wiring.now.gates.items wiring.now.widths.items values.new k
-    }
+    ensures hold { (k : ℕ) → k < length wiring.now.gates.items →
+        GateHolds (length inputs.now) wiring.now.gates.items wiring.now.widths.items values.new k }
     ensures inputs { take (length inputs.now) values.new ≡ pattern_values inputs.now }
     ensures banks { drop (length inputs.now + length wiring.now.gates.items) values.new ≡ banks.now }
 {
@@ -102,10 +96,8 @@ pub(crate) fn clock_banks(latches: &[Latch], own: usize, values: &[u128], banks:
     requires lengths { length latches.now ≡ length banks.old }
     requires room { own + length latches.now ≤ length values.now }
     requires in_range { AreWithin (length values.now) latches.now }
-    ensures {
-        (k : ℕ) (l : Latch) → slice_get latches.now k ≡ Some l →
-        slice_index banks.new k ≡ latched values.now (own + k) l
-    }
+    ensures { (k : ℕ) (l : Latch) → slice_get latches.now k ≡ Some l →
+        slice_index banks.new k ≡ latched values.now (own + k) l }
 {
     for (i, latch) in latches.iter().enumerate() {
         banks[i] = if values[latch.enable] == 1 {

@@ -88,10 +88,8 @@ impl<'a> Sim<'a> {
     /// The value of output `k` as it was last settled; 0 before that.
     pub fn output(&self, k: u32) -> Bits
         requires { k < length self.now.net.outputs }
-        ensures value {
-            (o : Port) → slice_get self.now.net.outputs k ≡ Some o →
-            result.raw ≡ value_of self.now.net self.now.values o.name
-        }
+        ensures value { (o : Port) → slice_get self.now.net.outputs k ≡ Some o →
+            result.raw ≡ value_of self.now.net self.now.values o.name }
         ensures width { (o : Port) → slice_get self.now.net.outputs k ≡ Some o → result.width ≡ o.width }
     {
         Bits {

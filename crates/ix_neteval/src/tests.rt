@@ -1,7 +1,7 @@
-ghost use Rattle.std.specs.Prelude.{◌≡◌, ◌≤◌, length};
+ghost use Rattle.std.specs.Prelude.{◌≡◌, ◌≤◌, length, IfOk};
 
 use crate::sim::{Sim, prepare};
-use ix_bits::{Bits, List, Name};
+use ix_bits::{Bits, List, Memory, Name};
 use ix_net::{Bank, Cell, Form, Net, Port, is_valid};
 use std::alloc::Global;
 use std::process::Abort;
@@ -48,22 +48,57 @@ fn settle(rt: &impl Abort, sim: &mut Sim, inputs: &[Bits])
     sim.settle(inputs);
 }
 
-/// A net of one cell `n0` over the inputs `a0` and `b0` of a width and `c0` of one bit.
-fn net_of(alloc: Global, width: u8, form: Form, target: u8) -> Result<Net, Fail> {
-    let inputs = vec![in alloc;
-        port(alloc, "a0", width)?,
-        port(alloc, "b0", width)?,
-        port(alloc, "c0", 1)?,
-    ]?;
-    let cells = vec![in alloc; cell(alloc, "n0", target, form)?]?;
-    let outputs = vec![in alloc; port(alloc, "n0", target)?]?;
+/// The inputs `a0` and `b0` of a width and `c0` of one bit.
+fn operands(alloc: Global, width: u8) -> Result<Vec<Port>, Fail> {
+    let mut ports = Vec::new(alloc);
+    ports.push(port(alloc, "a0", width)?)?;
+    ports.push(port(alloc, "b0", width)?)?;
+    ports.push(port(alloc, "c0", 1)?)?;
+    Ok(ports)
+}
+
+fn one_port(alloc: Global, text: &str, width: u8) -> Result<Vec<Port>, Fail>
+    requires { length text.now ≤ 80 }
+{
+    let mut ports = Vec::new(alloc);
+    ports.push(port(alloc, text, width)?)?;
+    Ok(ports)
+}
+
+/// A net with no bank.
+fn plain(
+    alloc: Global,
+    inputs: Vec<Port>,
+    cells: Vec<Cell>,
+    outputs: Vec<Port>,
+) -> Result<Net, Fail> {
+    let name = name(alloc, "m_0")?;
     Ok(Net {
-        name: name(alloc, "m_0")?,
+        name,
         inputs: List::from_vec(inputs),
         cells: List::from_vec(cells),
         banks: List::new(alloc),
         outputs: List::from_vec(outputs),
     })
+}
+
+/// A net of one cell `n0` over these operands.
+fn net_of(alloc: Global, width: u8, form: Form, target: u8) -> Result<Net, Fail> {
+    let mut cells = Vec::new(alloc);
+    cells.push(cell(alloc, "n0", target, form)?)?;
+    let inputs = operands(alloc, width)?;
+    let outputs = one_port(alloc, "n0", target)?;
+    plain(alloc, inputs, cells, outputs)
+}
+
+/// A valid net, ready to run, with this many outputs; want of memory stands for a net that is not.
+fn ready<'a>(alloc: Global, net: &'a Net, outputs: usize) -> Result<Sim<'a>, Memory>
+    ensures { IfOk result (λ s. length s.net.outputs ≡ outputs) }
+{
+    if !is_valid(alloc, net)? || net.outputs.len() != outputs {
+        return Err(Memory);
+    }
+    prepare(alloc, net)
 }
 
 /// Right side `k` in the order of `Form`, over `a0`, `b0` and `c0`; a range is the top bit.
@@ -107,9 +142,7 @@ fn value_of(
     b: u128,
 ) -> Result<u128, Fail> {
     let net = net_of(alloc, width, form_of(rt, alloc, k, width)?, target)?;
-    assert!(rt; is_valid(alloc, &net)?);
-    assert!(rt; net.outputs.len() == 1);
-    let mut sim = prepare(alloc, &net)?;
+    let mut sim = ready(alloc, &net, 1)?;
     let inputs = [bits(rt, a, width), bits(rt, b, width), bits(rt, 1, 1)];
     settle(rt, &mut sim, &inputs);
     let found = sim.output(0);
@@ -174,57 +207,41 @@ fn chain(rt: &impl Abort, alloc: Global, count: u32) -> Result<Net, Fail> {
     }
     let last = format!(in alloc; "n{count}")?;
     assert!(rt; last.len() <= 80);
-    let inputs = vec![in alloc; port(alloc, "n0", 8)?]?;
-    let outputs = vec![in alloc; port(alloc, last.as_str(), 8)?]?;
-    Ok(Net {
-        name: name(alloc, "chain_0")?,
-        inputs: List::from_vec(inputs),
-        cells: List::from_vec(cells),
-        banks: List::new(alloc),
-        outputs: List::from_vec(outputs),
-    })
+    let inputs = one_port(alloc, "n0", 8)?;
+    let outputs = one_port(alloc, last.as_str(), 8)?;
+    plain(alloc, inputs, cells, outputs)
 }
 
 #[test]
 fn a_chain_in_reverse_order(rt: HostRuntime) -> Result<(), Fail> {
     let alloc = rt.alloc();
     let net = chain(&rt, alloc, 1000)?;
-    assert!(rt; is_valid(alloc, &net)?);
-    assert!(rt; net.outputs.len() == 1);
-    let mut sim = prepare(alloc, &net)?;
+    let mut sim = ready(alloc, &net, 1)?;
     settle(&rt, &mut sim, &[bits(&rt, 0xa5, 8)]);
     assert_eq!(rt; sim.output(0).raw, 0xa5);
     Ok(())
 }
 
-/// A sum of two inputs of 32 bits, held in a bank: the module of an instruction that adds two registers on five stages.
-fn adder(alloc: Global) -> Result<Net, Fail> {
-    let inputs = vec![in alloc;
-        port(alloc, "en1", 1)?,
-        port(alloc, "in0", 32)?,
-        port(alloc, "in1", 32)?,
-    ]?;
-    let n0 = cell(alloc, "n0", 1, Form::Hex(Bits { raw: 0, width: 1 }))?;
-    let n1 = cell(
-        alloc,
-        "n1",
-        33,
-        Form::Join(name(alloc, "n0")?, name(alloc, "in0")?),
-    )?;
-    let n2 = cell(
-        alloc,
-        "n2",
-        33,
-        Form::Join(name(alloc, "n0")?, name(alloc, "in1")?),
-    )?;
-    let n3 = cell(
-        alloc,
-        "n3",
-        33,
-        Form::Add(name(alloc, "n1")?, name(alloc, "n2")?),
-    )?;
+fn join(alloc: Global, text: &str, high: &str, low: &str) -> Result<Cell, Fail>
+    requires text { length text.now ≤ 80 }
+    requires high { length high.now ≤ 80 }
+    requires low { length low.now ≤ 80 }
+{
+    let high = name(alloc, high)?;
+    let low = name(alloc, low)?;
+    cell(alloc, text, 33, Form::Join(high, low))
+}
+
+fn adder_cells(alloc: Global) -> Result<Vec<Cell>, Fail> {
+    let mut cells = Vec::new(alloc);
+    cells.push(cell(alloc, "n0", 1, Form::Hex(Bits { raw: 0, width: 1 }))?)?;
+    cells.push(join(alloc, "n1", "n0", "in0")?)?;
+    cells.push(join(alloc, "n2", "n0", "in1")?)?;
+    let a = name(alloc, "n1")?;
+    let b = name(alloc, "n2")?;
+    cells.push(cell(alloc, "n3", 33, Form::Add(a, b))?)?;
     let source = name(alloc, "n3")?;
-    let n4 = cell(
+    cells.push(cell(
         alloc,
         "n4",
         32,
@@ -233,20 +250,51 @@ fn adder(alloc: Global) -> Result<Net, Fail> {
             hi: 31,
             lo: 0,
         },
-    )?;
-    let sum = cell(alloc, "out4_v", 32, Form::Copy(name(alloc, "r0")?))?;
-    let one = cell(alloc, "out4_c", 1, Form::Hex(Bits { raw: 1, width: 1 }))?;
-    let cells = vec![in alloc; n0, n1, n2, n3, n4, sum, one]?;
-    let r0 = Bank {
-        target: name(alloc, "r0")?,
+    )?)?;
+    let held = name(alloc, "r0")?;
+    cells.push(cell(alloc, "out4_v", 32, Form::Copy(held))?)?;
+    cells.push(cell(alloc, "out4_c", 1, Form::Hex(Bits { raw: 1, width: 1 }))?)?;
+    Ok(cells)
+}
+
+fn adder_inputs(alloc: Global) -> Result<Vec<Port>, Fail> {
+    let mut ports = Vec::new(alloc);
+    ports.push(port(alloc, "en1", 1)?)?;
+    ports.push(port(alloc, "in0", 32)?)?;
+    ports.push(port(alloc, "in1", 32)?)?;
+    Ok(ports)
+}
+
+fn adder_outputs(alloc: Global) -> Result<Vec<Port>, Fail> {
+    let mut ports = Vec::new(alloc);
+    ports.push(port(alloc, "out4_v", 32)?)?;
+    ports.push(port(alloc, "out4_c", 1)?)?;
+    Ok(ports)
+}
+
+fn adder_banks(alloc: Global) -> Result<Vec<Bank>, Fail> {
+    let target = name(alloc, "r0")?;
+    let enable = name(alloc, "en1")?;
+    let source = name(alloc, "n4")?;
+    let mut banks = Vec::new(alloc);
+    banks.push(Bank {
+        target,
         width: 32,
-        enable: name(alloc, "en1")?,
-        source: name(alloc, "n4")?,
-    };
-    let banks = vec![in alloc; r0]?;
-    let outputs = vec![in alloc; port(alloc, "out4_v", 32)?, port(alloc, "out4_c", 1)?]?;
+        enable,
+        source,
+    })?;
+    Ok(banks)
+}
+
+/// A sum of two inputs of 32 bits, held in a bank: the module of an instruction that adds two registers on five stages.
+fn adder(alloc: Global) -> Result<Net, Fail> {
+    let name = name(alloc, "ixt_addx")?;
+    let inputs = adder_inputs(alloc)?;
+    let cells = adder_cells(alloc)?;
+    let banks = adder_banks(alloc)?;
+    let outputs = adder_outputs(alloc)?;
     Ok(Net {
-        name: name(alloc, "ixt_addx")?,
+        name,
         inputs: List::from_vec(inputs),
         cells: List::from_vec(cells),
         banks: List::from_vec(banks),
@@ -261,9 +309,7 @@ fn add_in_cycles(
     cycles: &[(u128, u128, u128)],
 ) -> Result<(u128, u128), Fail> {
     let net = adder(alloc)?;
-    assert!(rt; is_valid(alloc, &net)?);
-    assert!(rt; net.outputs.len() == 2);
-    let mut sim = prepare(alloc, &net)?;
+    let mut sim = ready(alloc, &net, 2)?;
     for (enable, a, b) in cycles {
         settle(
             rt,
