@@ -9,6 +9,9 @@ use std::alloc::Global;
 use std::collections::BTreeMap;
 use std::marker::Model;
 
+/// The greatest width, in bits.
+const WIDEST: u8 = 128;
+
 /// A name that a net declares, with its width.
 #[derive(Clone, Copy)]
 pub(crate) struct Signal<'a> {
@@ -68,7 +71,7 @@ fn are_named(signals: &[Signal]) -> bool
     ensures { IsTrue result ↔ All IsGood signals.now }
 {
     for signal in signals {
-        if !is_name(signal.name) || signal.width < 1 || 128 < signal.width {
+        if !is_name(signal.name) || signal.width < 1 || signal.width > WIDEST {
             return false;
         }
     }

@@ -9,7 +9,7 @@ use Rattle.ix_net.proofs.tables.are_named.Goals as goal
 pub loop-signal-preserved : goal.loop-signal-preserved
 loop-signal-preserved c =
     All-more (λ s. IsName s.name.now × IsWidth s.width) c.args.signals.now c.loop-signal.signal-index _ c.loop-signal-test.true c.loop-signal.invariant
-    (c.is_name.ensures.0 c.if-not-is_name.false, record { some = c.if-signal-lt1.false; most = c.if-signal-gt128.false })
+    (c.is_name.ensures.0 c.if-not-is_name.false, record { some = c.if-signal-lt1.false; most = c.if-signal-gt-WIDEST.false })
 
 pub returns : goal.returns
 returns c = (
