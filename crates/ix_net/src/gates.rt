@@ -31,10 +31,8 @@ pub enum Gate {
 /// A right side with numbers for names; None where an operand is not declared or the widths do not agree with that of
 /// the target.
 pub(crate) fn resolve(table: &Table, width: u8, form: &Form) -> Option<Gate>
-    ensures {
-        MatchOption result (Fits (width_of table.now) width form.now → ⊥)
-        (λ g. Fits (width_of table.now) width form.now × (g ≡ gate_of (number_of table.now) (bits_of table.now) form.now))
-    }
+    ensures { MatchOption result (Fits (width_of table.now) width form.now → ⊥)
+        (λ g. Fits (width_of table.now) width form.now × (g ≡ gate_of (number_of table.now) (bits_of table.now) form.now)) }
 {
     match form {
         Form::Hex(number) => {

@@ -56,10 +56,8 @@ fn waiting_cell(signal: usize, first: usize, marks: &[Mark]) -> Option<usize>
 
 /// The first of the signals that is a cell which is not done.
 fn first_waiting(signals: &[usize], first: usize, marks: &[Mark]) -> Option<usize>
-    ensures {
-        MatchOption result (AreDone (λ k. Contains signals.now (first + k)) marks.now)
-        (Waits (λ k. Contains signals.now (first + k)) marks.now)
-    }
+    ensures { MatchOption result (AreDone (λ k. Contains signals.now (first + k)) marks.now)
+        (Waits (λ k. Contains signals.now (first + k)) marks.now) }
 {
     for signal in signals {
         if let Some(cell) = waiting_cell(*signal, first, marks) {
@@ -71,10 +69,8 @@ fn first_waiting(signals: &[usize], first: usize, marks: &[Mark]) -> Option<usiz
 
 /// A cell that a gate reads and that is not done.
 fn waits_for(gate: Gate, first: usize, marks: &[Mark]) -> Option<usize>
-    ensures {
-        MatchOption result (AreDone (λ k. Contains (reads_of gate) (first + k)) marks.now)
-        (Waits (λ k. Contains (reads_of gate) (first + k)) marks.now)
-    }
+    ensures { MatchOption result (AreDone (λ k. Contains (reads_of gate) (first + k)) marks.now)
+        (Waits (λ k. Contains (reads_of gate) (first + k)) marks.now) }
 {
     match gate {
         Gate::Hex(_) => None,
@@ -115,10 +111,8 @@ fn visit(
     requires lengths { length marks.old ≡ length gates.now }
     requires root_new { root < length gates.now }
     requires resting { IsResting first gates.now marks.old order.old.items }
-    ensures {
-        IfOk result (λ done.
-            MatchBool done (Visits first gates.now marks.old marks.new order.new.items root) (HasLoop first gates.now))
-    }
+    ensures { IfOk result (λ done.
+        MatchBool done (Visits first gates.now marks.old marks.new order.new.items root) (HasLoop first gates.now)) }
 {
     let mut path = Vec::new(alloc);
     path.push(root)?;

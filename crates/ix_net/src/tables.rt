@@ -83,9 +83,7 @@ fn number<'a>(
     alloc: Global,
     signals: &[Signal<'a>],
 ) -> Result<Option<BTreeMap<&'a str, usize>>, Memory>
-    ensures {
-        IfOk result (λ o. MatchOption o (AreApart (map port_of signals.now) → ⊥) (Numbers (map port_of signals.now)))
-    }
+    ensures { IfOk result (λ o. MatchOption o (AreApart (map port_of signals.now) → ⊥) (Numbers (map port_of signals.now))) }
 {
     let mut places = BTreeMap::new(alloc);
     for (place, signal) in signals.iter().enumerate() {
@@ -146,10 +144,8 @@ impl<'a> Table<'a> {
 
     /// The table of a net; None where the net breaks a rule on names or widths of what it declares.
     pub fn of_net(alloc: Global, net: &'a Net) -> Result<Option<Table<'a>>, Memory>
-        ensures {
-            IfOk result (λ o.
-                MatchOption o (IsDeclared net.now → ⊥) (λ t. IsDeclared net.now × (t ≡ signals net.now)))
-        }
+        ensures { IfOk result (λ o.
+            MatchOption o (IsDeclared net.now → ⊥) (λ t. IsDeclared net.now × (t ≡ signals net.now))) }
     {
         let signals = signals_of(alloc, net)?;
         if !is_name(net.name.as_str()) {
@@ -184,9 +180,7 @@ impl<'a> Table<'a> {
 
     /// The number of a name of this width.
     pub fn of_width(&self, name: &Name, width: u8) -> Option<usize>
-        ensures {
-            MatchOption result (width_of self.now name.now ≡ Some width → ⊥) (λ i. IsAt self.now name.now i width)
-        }
+        ensures { MatchOption result (width_of self.now name.now ≡ Some width → ⊥) (λ i. IsAt self.now name.now i width) }
     {
         let (place, found) = self.declared(name)?;
         if found == width { Some(place) } else { None }
@@ -194,10 +188,8 @@ impl<'a> Table<'a> {
 
     /// The numbers of two names of this width.
     pub fn pair(&self, a: &Name, b: &Name, width: u8) -> Option<(usize, usize)>
-        ensures {
-            MatchOption result (HaveWidth self.now a.now b.now width → ⊥)
-            (λ r. AreAt self.now a.now b.now r.0 r.1 width)
-        }
+        ensures { MatchOption result (HaveWidth self.now a.now b.now width → ⊥)
+            (λ r. AreAt self.now a.now b.now r.0 r.1 width) }
     {
         let first = self.of_width(a, width)?;
         let second = self.of_width(b, width)?;
@@ -206,10 +198,8 @@ impl<'a> Table<'a> {
 
     /// The numbers of two names of one width, and that width.
     pub fn alike(&self, a: &Name, b: &Name) -> Option<(usize, usize, u8)>
-        ensures {
-            MatchOption result (ShareWidth (width_of self.now a.now) (width_of self.now b.now) → ⊥)
-            (λ r. AreAt self.now a.now b.now r.0 r.1 r.2)
-        }
+        ensures { MatchOption result (ShareWidth (width_of self.now a.now) (width_of self.now b.now) → ⊥)
+            (λ r. AreAt self.now a.now b.now r.0 r.1 r.2) }
     {
         let (first, width) = self.declared(a)?;
         let second = self.of_width(b, width)?;

@@ -34,11 +34,9 @@ pub struct Wiring {
 }
 
 fn gates_of(alloc: Global, table: &Table, cells: &[Cell]) -> Result<Option<Vec<Gate>>, Memory>
-    ensures {
-        IfOk result (λ o.
-            MatchOption o (FormsFit table.now cells.now → ⊥)
-            (λ v. FormsFit table.now cells.now × (v.items ≡ map (cell_gate table.now) cells.now)))
-    }
+    ensures { IfOk result (λ o.
+        MatchOption o (FormsFit table.now cells.now → ⊥)
+        (λ v. FormsFit table.now cells.now × (v.items ≡ map (cell_gate table.now) cells.now))) }
 {
     let mut gates = Vec::with_capacity(alloc, cells.len())?;
     for cell in cells {
@@ -51,10 +49,8 @@ fn gates_of(alloc: Global, table: &Table, cells: &[Cell]) -> Result<Option<Vec<G
 }
 
 fn resolve_bank(table: &Table, bank: &Bank) -> Option<Latch>
-    ensures {
-        MatchOption result (BankFits table.now bank.now → ⊥)
-        (λ r. BankFits table.now bank.now × (r ≡ latch_of table.now bank.now))
-    }
+    ensures { MatchOption result (BankFits table.now bank.now → ⊥)
+        (λ r. BankFits table.now bank.now × (r ≡ latch_of table.now bank.now)) }
 {
     let enable = table.of_width(&bank.enable, 1)?;
     let source = table.of_width(&bank.source, bank.width)?;
@@ -62,11 +58,9 @@ fn resolve_bank(table: &Table, bank: &Bank) -> Option<Latch>
 }
 
 fn latches_of(alloc: Global, table: &Table, banks: &[Bank]) -> Result<Option<Vec<Latch>>, Memory>
-    ensures {
-        IfOk result (λ o.
-            MatchOption o (EnablesFit table.now banks.now × SourcesFit table.now banks.now → ⊥)
-            (λ v. EnablesFit table.now banks.now × SourcesFit table.now banks.now × (v.items ≡ map (latch_of table.now) banks.now)))
-    }
+    ensures { IfOk result (λ o.
+        MatchOption o (EnablesFit table.now banks.now × SourcesFit table.now banks.now → ⊥)
+        (λ v. EnablesFit table.now banks.now × SourcesFit table.now banks.now × (v.items ≡ map (latch_of table.now) banks.now))) }
 {
     let mut latches = Vec::with_capacity(alloc, banks.len())?;
     for bank in banks {
@@ -80,10 +74,8 @@ fn latches_of(alloc: Global, table: &Table, banks: &[Bank]) -> Result<Option<Vec
 
 /// The number of an output that is the target of a cell with its width, where `inputs` signals stand before the cells.
 fn driven(table: &Table, output: &Port, inputs: usize, cells: usize) -> Option<usize>
-    ensures {
-        MatchOption result (IsCellPort table.now inputs cells output.now → ⊥)
-        (λ i. IsCellPort table.now inputs cells output.now × (i ≡ number_of table.now output.now.name))
-    }
+    ensures { MatchOption result (IsCellPort table.now inputs cells output.now → ⊥)
+        (λ i. IsCellPort table.now inputs cells output.now × (i ≡ number_of table.now output.now.name)) }
 {
     let place = table.of_width(&output.name, output.width)?;
     if place < inputs || place - inputs >= cells {
@@ -99,11 +91,9 @@ fn outputs_of(
     inputs: usize,
     cells: usize,
 ) -> Result<Option<Vec<usize>>, Memory>
-    ensures {
-        IfOk result (λ o.
-            MatchOption o (All (IsCellPort table.now inputs cells) outputs.now → ⊥)
-            (λ v. All (IsCellPort table.now inputs cells) outputs.now × (v.items ≡ outputs_at table.now outputs.now)))
-    }
+    ensures { IfOk result (λ o.
+        MatchOption o (All (IsCellPort table.now inputs cells) outputs.now → ⊥)
+        (λ v. All (IsCellPort table.now inputs cells) outputs.now × (v.items ≡ outputs_at table.now outputs.now))) }
 {
     let mut places = Vec::with_capacity(alloc, outputs.len())?;
     for output in outputs {
@@ -117,9 +107,7 @@ fn outputs_of(
 
 /// A net by number, with an order of its cells; None exactly where the net is not valid.
 pub fn wire(alloc: Global, net: &Net) -> Result<Option<Wiring>, Memory>
-    ensures {
-        IfOk result (λ o. MatchOption o (IsValid net.now → ⊥) (λ w. IsValid net.now × IsWiring net.now w))
-    }
+    ensures { IfOk result (λ o. MatchOption o (IsValid net.now → ⊥) (λ w. IsValid net.now × IsWiring net.now w)) }
 {
     let Some(table) = Table::of_net(alloc, net)? else {
         return Ok(None);
