@@ -1,0 +1,11 @@
+pub mod NameLemmas
+pub mod PlaceLemmas
+pub mod TableLemmas
+pub mod OrderLemmas
+pub mod StepLemmas
+pub mod NetLemmas
+pub mod ValidLemmas
+pub mod Rank
+pub mod FormLemmas
+pub mod FitLemmas
+pub mod OneValuation

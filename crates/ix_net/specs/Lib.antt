@@ -1,0 +1,12 @@
+pub mod Name
+pub mod Signals
+pub mod Forms
+pub mod Chain
+pub mod Valid
+pub mod Valuation
+pub mod Run
+pub mod Laws
+pub mod Gates
+pub mod Tables
+pub mod Order
+pub mod Wiring

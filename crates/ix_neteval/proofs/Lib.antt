@@ -1,0 +1,5 @@
+pub mod Masks
+pub mod GateLemmas
+pub mod RunLemmas
+pub mod LoadLemmas
+pub mod StateLemmas

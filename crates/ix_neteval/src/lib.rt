@@ -1,0 +1,10 @@
+//! The simulator of netlists: the values of a valid net in one cycle after another (IEEE 1364-2005).
+#![tactic(auto)]
+
+mod arithmetic;
+mod running;
+mod sim;
+#[cfg(test)]
+mod tests;
+
+pub use sim::{Sim, prepare};
