@@ -1,8 +1,8 @@
 -- What follows digits, byte by byte.
-use Rattle.std.proofs.Common.{◌≡◌, ℕ, suc, ◌+◌, ◌*◌, ◌^◌, ◌<◌, ◌≤◌, List, [], ◌∷◌, length, drop, get_or, Bool, true, false, Option, Some, None, refl, ap, sym, ◌∙◌, subst, arith, drop-cons, length-drop, add-one}
-use Rattle.ix_tree.specs.Lexing.{digit_value, IsRun, run_end, run_digit, run_gap, IsDigits, digits}
+use Rattle.std.proofs.Common.{◌≡◌, ℕ, ◌+◌, ◌*◌, ◌^◌, ◌<◌, ◌≤◌, List, [], ◌∷◌, length, drop, get_or, Bool, true, false, Some, None, refl, ap, sym, ◌∙◌, subst, arith, drop-cons, length-drop, add-one}
+use Rattle.ix_tree.specs.Lexing.{digit_value, IsRun, run_end, run_digit, run_gap}
 use Rattle.ix_tree.proofs.Lexemes.{no_gap}
-use Rattle.ix_lex.specs.Numbers.{IsTail, tail_run, tail_gap, Continues, NoTail, NoRun, NoDigits}
+use Rattle.ix_lex.specs.Numbers.{IsTail, tail_run, tail_gap, Continues, NoTail, NoRun}
 
 -- ---- one byte
 pub after_gap : (base a : ℕ) → Continues base false a 95 true a

@@ -1,13 +1,12 @@
 -- Literals with and without a width.
-use Rattle.std.proofs.Common.{◌≡◌, ℕ, zero, suc, ◌+◌, ◌^◌, ◌<◌, ◌≤◌, List, [], ◌∷◌, ◌++◌, length, take, drop, get_or, Bool, true, false, Option, Some, None, refl, ap, sym, ◌∙◌, subst, arith, drop-cons, add-one}
+use Rattle.std.proofs.Common.{◌≡◌, ℕ, zero, suc, ◌+◌, ◌^◌, ◌<◌, ◌≤◌, List, [], ◌∷◌, ◌++◌, length, take, drop, get_or, true, false, Some, None, refl, ap, sym, ◌∙◌, subst, arith, drop-cons, add-one}
 use Rattle.std.specs.List.{list_all}
 use Rattle.std.proofs.Math.Pow.{pow_mono}
 use Rattle.std.proofs.lemmas.List.{append_cancel_left, take-append-drop}
-use Rattle.ix_bits.specs.declared.number.Ty.{Ty}
 use Rattle.ix_bits.specs.declared.number.Bits.{Bits}
 use Rattle.ix_tree.specs.declared.token.TokenKind.{TokenKind}
 use Rattle.ix_tree.specs.declared.token.TokenKind.TheVariants.{Unsized, Sized}
-use Rattle.ix_tree.specs.Lexing.{digit_value, base_of, IsRun, run_end, IsDigits, digits, IsUnsized, IsSized, IsNumber, decimal, hexadecimal, binary, sized}
+use Rattle.ix_tree.specs.Lexing.{digit_value, base_of, IsRun, run_end, IsDigits, digits, IsNumber, decimal, hexadecimal, binary, sized}
 use Rattle.ix_tree.proofs.Lexemes.{fronts, digits_plain, digits_unique, has_tick}
 use Rattle.ix_lex.specs.Numbers.{NoDigits, IsWidth, NoWidth, IsUnsizedKind, IsSizedKind, NoNumber, NoRun, not_tick}
 

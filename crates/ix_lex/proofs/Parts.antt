@@ -1,5 +1,5 @@
 -- From what the scanning functions find to a part of the text, or to none.
-use Rattle.std.proofs.Common.{◌≡◌, ℕ, zero, suc, ◌+◌, ◌<◌, ◌≤◌, List, [], ◌∷◌, ◌++◌, length, take, drop, get_or, Bool, true, false, Option, Some, None, refl, ap, sym, ◌∙◌, subst, append_assoc, arith, drop-cons, length-drop, add-one}
+use Rattle.std.proofs.Common.{◌≡◌, ℕ, zero, suc, ◌+◌, ◌<◌, ◌≤◌, List, [], ◌∷◌, ◌++◌, length, take, drop, get_or, Bool, true, false, Option, Some, None, refl, ap, sym, ◌∙◌, subst, append_assoc, arith, drop-cons, length-drop}
 use Rattle.std.specs.Prelude.{slice_get}
 use Rattle.std.specs.List.{list_all}
 use Rattle.std.proofs.lemmas.Bool.{and_parts, true≢false}
@@ -9,7 +9,7 @@ use Rattle.ix_tree.specs.declared.token.Token.{Token}
 use Rattle.ix_tree.specs.declared.token.TokenKind.{TokenKind}
 use Rattle.ix_tree.specs.declared.token.TokenKind.TheVariants.{Symbol, Text}
 use Rattle.ix_tree.specs.Tokens.{symbols}
-use Rattle.ix_tree.specs.Lexing.{is_space, is_letter, is_digit, is_name_byte, is_number_byte, is_line_byte, is_text_byte, Stops, IsComment, IsNumber, BeginsWith, word_kind, Form, space, line_comment, comment, word, text, number, symbol, form_of, token, IsPart, is_space_part, is_line_part, is_comment_part, is_word_part, is_text_part, is_number_part, is_symbol_part}
+use Rattle.ix_tree.specs.Lexing.{is_space, is_letter, is_digit, is_name_byte, is_number_byte, is_line_byte, is_text_byte, Stops, IsComment, IsNumber, word_kind, Form, space, line_comment, comment, word, text, number, symbol, form_of, token, IsPart, is_space_part, is_line_part, is_comment_part, is_word_part, is_text_part, is_number_part, is_symbol_part}
 use Rattle.ix_tree.proofs.Lexemes.{fronts}
 use Rattle.ix_lex.specs.Fronts.{IsFront, NoComment}
 use Rattle.ix_lex.specs.Numbers.{NoNumber}

@@ -3,7 +3,7 @@ use Rattle.std.proofs.Common.{◌≡◌, ℕ, ◌+◌, ◌-◌, ◌<◌, ◌≤�
 use Rattle.std.proofs.lemmas.List.{append_cancel_left, take-append-drop, drop-drop, length-take-le}
 use Rattle.ix_tree.specs.declared.token.Token.{Token}
 use Rattle.ix_tree.specs.declared.token.TokenKind.{TokenKind}
-use Rattle.ix_tree.specs.Lexing.{Form, form_of, token, IsPart, Reads, reads_none, reads_more, Lexes}
+use Rattle.ix_tree.specs.Lexing.{Form, form_of, IsPart, Reads, reads_none, reads_more, Lexes}
 use Rattle.ix_tree.proofs.Parts.{form_is, part_unique}
 use Rattle.ix_lex.specs.declared.error.LexErr.{LexErr}
 use Rattle.ix_lex.specs.declared.error.LexErr.TheVariants.{BadByte, Unclosed, BadNumber, Memory}

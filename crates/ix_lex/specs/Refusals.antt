@@ -1,7 +1,7 @@
 -- Why bytes have no tokens (this project's profile of CoreDSL 2).
-use Rattle.std.specs.Prelude.{◌≡◌, ℕ, ◌+◌, ◌≤◌, List, ◌++◌, length, Option, Some, None}
+use Rattle.std.specs.Prelude.{◌≡◌, ℕ, ◌+◌, ◌≤◌, List, ◌++◌, length, Option, Some}
 use Rattle.ix_tree.specs.declared.token.Token.{Token}
-use Rattle.ix_tree.specs.Lexing.{Form, space, line_comment, comment, word, text, number, symbol, form_of, IsPart, Reads}
+use Rattle.ix_tree.specs.Lexing.{Form, comment, text, number, form_of, IsPart, Reads}
 use Rattle.ix_lex.specs.declared.error.LexErr.{LexErr}
 use Rattle.ix_lex.specs.declared.error.LexErr.TheVariants.{BadByte, Unclosed, BadNumber, Memory}
 

@@ -9,7 +9,7 @@ use Rattle.ix_tree.specs.declared.token.Token.{Token}
 use Rattle.ix_tree.specs.declared.token.TokenKind.{TokenKind}
 use Rattle.ix_tree.specs.declared.token.TokenKind.TheVariants.{Symbol, Text}
 use Rattle.ix_tree.specs.Tokens.{symbols}
-use Rattle.ix_tree.specs.Lexing.{is_space, is_digit, is_letter, is_name_byte, is_number_byte, is_line_byte, is_text_byte, same_bytes, word_kind, Form, space, line_comment, comment, word, text, number, symbol, form_of, token, IsPart, is_space_part, is_line_part, is_comment_part, is_word_part, is_text_part, is_number_part, is_symbol_part, Reads, reads_none, reads_more}
+use Rattle.ix_tree.specs.Lexing.{is_space, is_digit, is_letter, is_name_byte, is_number_byte, is_line_byte, is_text_byte, same_bytes, word_kind, Form, symbol, form_of, token, IsPart, is_space_part, is_line_part, is_comment_part, is_word_part, is_text_part, is_number_part, is_symbol_part, Reads, reads_none, reads_more}
 use Rattle.ix_tree.proofs.Lexemes.{fronts, comments, number_unique}
 
 -- ---- the form shows in the first bytes

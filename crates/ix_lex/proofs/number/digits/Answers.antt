@@ -1,4 +1,4 @@
-use Rattle.std.proofs.Common.{sym, arith, rules}
+use Rattle.std.proofs.Common.{sym, rules}
 use Rattle.std.proofs.lemmas.Option.{IfSome_then}
 use Rattle.ix_lex.proofs.Options.{none_from, none_then}
 use Rattle.ix_lex.proofs.Literals.{digits_from, no_digits_first, no_digits_run}

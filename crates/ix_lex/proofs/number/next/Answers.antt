@@ -1,4 +1,4 @@
-use Rattle.std.proofs.Common.{sym, ◌∙◌}
+use Rattle.std.proofs.Common.{sym}
 use Rattle.ix_lex.proofs.Options.{none_from}
 use Rattle.ix_lex.proofs.DigitRuns.{gap_here, by_digit, too_large}
 use Rattle.ix_lex.proofs.number.next.Goals as goal

@@ -1,4 +1,3 @@
-use Rattle.std.proofs.Common.{sym, arith}
 use Rattle.ix_tree.specs.Lexing.{IsDigits}
 use Rattle.ix_lex.specs.Numbers.{NoDigits}
 use Rattle.ix_lex.proofs.Options.{none_from}

@@ -1,5 +1,5 @@
-use Rattle.std.proofs.Common.{◌≡◌, ◌≤◌, ℕ, List, Bool, true, false, length, drop, subst, arith}
-use Rattle.ix_lex.proofs.DigitRuns.{Reached, reached_none, reached_more, reached_stop, reached_end, reached_gap}
+use Rattle.std.proofs.Common.{arith}
+use Rattle.ix_lex.proofs.DigitRuns.{reached_none, reached_end, reached_gap}
 use Rattle.ix_lex.proofs.number.run_value.Goals as goal
 
 pub loop-c-init : goal.loop-c-init

@@ -1,4 +1,4 @@
-use Rattle.std.proofs.Common.{◌≤◌, length, take, arith}
+use Rattle.std.proofs.Common.{◌≤◌, length, take}
 use Rattle.ix_tree.specs.Lexing.{IsComment}
 use Rattle.ix_lex.specs.Fronts.{NoComment}
 use Rattle.ix_lex.proofs.Options.{none_from}

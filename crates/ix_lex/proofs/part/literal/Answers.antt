@@ -1,4 +1,3 @@
-use Rattle.std.proofs.Common.{arith}
 use Rattle.ix_lex.proofs.Options.{none_from}
 use Rattle.ix_lex.proofs.Parts.{number_front, number_none}
 use Rattle.ix_lex.proofs.part.literal.Goals as goal

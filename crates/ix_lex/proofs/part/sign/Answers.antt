@@ -1,4 +1,3 @@
-use Rattle.std.proofs.Common.{arith}
 use Rattle.ix_lex.proofs.Options.{none_from}
 use Rattle.ix_lex.proofs.Parts.{symbol_front, symbol_none}
 use Rattle.ix_lex.proofs.part.sign.Goals as goal

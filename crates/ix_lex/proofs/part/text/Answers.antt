@@ -1,4 +1,4 @@
-use Rattle.std.proofs.Common.{◌≡◌, ◌+◌, true, length, take, drop, arith}
+use Rattle.std.proofs.Common.{◌≡◌, true, take, drop, arith}
 use Rattle.std.specs.List.{list_all}
 use Rattle.ix_tree.specs.Lexing.{Stops, is_text_byte}
 use Rattle.ix_lex.proofs.Scans.{at_rest}

@@ -1,4 +1,3 @@
-use Rattle.std.proofs.Common.{arith}
 use Rattle.ix_lex.proofs.Symbols.{longer_found, longer_kept, longer_missing}
 use Rattle.ix_lex.proofs.symbol.longer.Goals as goal
 use Rattle.ix_lex.proofs.symbol.longer.Goals.{else-best-text-via-then-best-text+else-begins, else-best-text-via-else-best-text}

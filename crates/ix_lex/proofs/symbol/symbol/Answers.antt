@@ -1,5 +1,4 @@
-use Rattle.std.proofs.Common.{◌≡◌, ℕ, ◌≤◌, subst, arith}
-use Rattle.ix_lex.specs.Symbols.{IsLongest}
+use Rattle.std.proofs.Common.{arith}
 use Rattle.ix_lex.proofs.Parts.{longest_none_at}
 use Rattle.ix_lex.proofs.symbol.symbol.Goals as goal
 

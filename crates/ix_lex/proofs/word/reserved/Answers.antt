@@ -1,4 +1,4 @@
-use Rattle.std.proofs.Common.{List, ℕ, sym, ◌∙◌, arith}
+use Rattle.std.proofs.Common.{sym, ◌∙◌, arith}
 use Rattle.ix_tree.specs.Tokens.{words}
 use Rattle.ix_tree.specs.Lexing.{same_bytes}
 use Rattle.ix_lex.proofs.Words.{position_found, position_none, more_words}
