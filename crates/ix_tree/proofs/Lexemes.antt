@@ -101,7 +101,7 @@ comments (comment_byte {bs = bs} b f d) (comment_byte {bs = cs} c g k) y w e =
     ap (λ (q : ℕ). q ∷ bs) h ∙ ap (λ (q : List ℕ). c ∷ q) (comments d k y w m)
 
 -- ---- digits
-abbrev not_tick : ℕ → Bool
+abbrev pub not_tick : ℕ → Bool
 not_tick b = not (nat_eq b 39)
 
 digit_plain : (base c x : ℕ) → digit_value base c ≡ Some x → not_tick c ≡ true
@@ -119,10 +119,10 @@ run_plain run_end = refl
 run_plain {base} (run_digit c x e r) = rw (digit_plain base c x e) (run_plain r)
 run_plain {base} (run_gap c x e r) = rw (digit_plain base c x e) (run_plain r)
 
-digits_plain : {base v : ℕ} {cs : List ℕ} → IsDigits base cs v → list_all not_tick cs ≡ true
+pub digits_plain : {base v : ℕ} {cs : List ℕ} → IsDigits base cs v → list_all not_tick cs ≡ true
 digits_plain {base} (digits c x e r) = rw (digit_plain base c x e) (run_plain r)
 
-no_gap : (base x : ℕ) → digit_value base 95 ≡ Some x → ⊥
+pub no_gap : (base x : ℕ) → digit_value base 95 ≡ Some x → ⊥
 no_gap base x e = cc
 
 run_unique : {base a b v w : ℕ} {cs ds : List ℕ} → IsRun base a cs v → IsRun base b ds w → a ≡ b → cs ≡ ds → v ≡ w
@@ -144,7 +144,7 @@ run_unique (run_gap c x g r) (run_gap d y h s) e f =
     let n : x ≡ y = cc in
     run_unique r s (rw (e, n) refl) cc
 
-digits_unique : {base v w : ℕ} {cs ds : List ℕ} → IsDigits base cs v → IsDigits base ds w → cs ≡ ds → v ≡ w
+pub digits_unique : {base v w : ℕ} {cs ds : List ℕ} → IsDigits base cs v → IsDigits base ds w → cs ≡ ds → v ≡ w
 digits_unique (digits c x g r) (digits d y h s) f =
     let k : c ≡ d = cc in
     let m : Some x ≡ Some y = sym g ∙ rw k h in
@@ -169,7 +169,7 @@ sized_unique w v x y ty uy b c d e f g =
     let u = bits_are b c (f.value ∙ e ∙ sym g.value) (f.width ∙ d ∙ sym g.width) in
     ap (λ (z : Ty). Sized z b) t ∙ ap (λ (z : Bits). Sized uy z) u
 
-has_tick : (c l : ℕ) (cs ds es : List ℕ) → list_all not_tick es ≡ true → es ≡ (c ∷ cs) ++ 39 ∷ l ∷ ds → ⊥
+pub has_tick : (c l : ℕ) (cs ds es : List ℕ) → list_all not_tick es ≡ true → es ≡ (c ∷ cs) ++ 39 ∷ l ∷ ds → ⊥
 has_tick c l cs ds es a e =
     let f : list_all not_tick ((c ∷ cs) ++ 39 ∷ l ∷ ds) ≡ true = subst (λ (q : List ℕ). list_all not_tick q ≡ true) e a in
     let g = list_all-append not_tick (c ∷ cs) (39 ∷ l ∷ ds) in

@@ -1,5 +1,5 @@
 -- The front of the bytes has one form, one length and one token.
-use Rattle.std.proofs.Common.{◌≡◌, ℕ, zero, suc, ◌+◌, List, [], ◌∷◌, ◌++◌, length, Bool, true, false, not, ◌&&◌, cond, refl, ap, sym, ◌∙◌, subst, append_assoc, arith, Option, Some, None, nat_eq, add-zero, zero-add}
+use Rattle.std.proofs.Common.{◌≡◌, ℕ, zero, suc, ◌+◌, List, [], ◌∷◌, ◌++◌, length, Bool, true, false, not, ◌&&◌, refl, ap, sym, ◌∙◌, subst, append_assoc, arith, Option, Some, None, nat_eq, add-zero, zero-add}
 use Rattle.std.specs.Prelude.{slice_get}
 use Rattle.std.specs.List.{list_all, position}
 use Rattle.std.proofs.lemmas.Bool.{and_parts, not-true, false≢true, eqb-true}
@@ -9,23 +9,10 @@ use Rattle.ix_tree.specs.declared.token.Token.{Token}
 use Rattle.ix_tree.specs.declared.token.TokenKind.{TokenKind}
 use Rattle.ix_tree.specs.declared.token.TokenKind.TheVariants.{Symbol, Text}
 use Rattle.ix_tree.specs.Tokens.{symbols}
-use Rattle.ix_tree.specs.Lexing.{is_space, is_digit, is_letter, is_name_byte, is_number_byte, is_line_byte, is_text_byte, same_bytes, word_kind, Form, space, line_comment, comment, word, text, number, symbol, token, IsPart, is_space_part, is_line_part, is_comment_part, is_word_part, is_text_part, is_number_part, is_symbol_part, Reads, reads_none, reads_more}
+use Rattle.ix_tree.specs.Lexing.{is_space, is_digit, is_letter, is_name_byte, is_number_byte, is_line_byte, is_text_byte, same_bytes, word_kind, Form, symbol, form_of, token, IsPart, is_space_part, is_line_part, is_comment_part, is_word_part, is_text_part, is_number_part, is_symbol_part, Reads, reads_none, reads_more}
 use Rattle.ix_tree.proofs.Lexemes.{fronts, comments, number_unique}
 
 -- ---- the form shows in the first bytes
-abbrev slash : List ℕ → Option Form
-slash [] = None
-slash (c ∷ cs) = cond (nat_eq c 47) (Some line_comment) (cond (nat_eq c 42) (Some comment) None)
-
-abbrev form_of : List ℕ → Option Form
-form_of [] = None
-form_of (b ∷ bs) =
-    cond (is_space b) (Some space)
-    (cond (is_letter b) (Some word)
-    (cond (is_digit b) (Some number)
-    (cond (nat_eq b 34) (Some text)
-    (cond (nat_eq b 47) (slash bs) (Some symbol)))))
-
 letter_is_no_space : (b : ℕ) → is_letter b ≡ true → is_space b ≡ false
 letter_is_no_space b e = grind (arith, nat_tests)
 
@@ -59,7 +46,7 @@ symbol_form (b ∷ bs) y e =
     let s = and_parts (not (is_space b)) (not (is_letter b)) r.0 in
     rw (not-true (is_space b) s.0, not-true (is_letter b) s.1, not-true (is_digit b) r.1, not-true (nat_eq b 34) q.1, not-true (nat_eq b 47) p.1) refl
 
-form_is : {f : Form} {at : ℕ} {x y : List ℕ} {us : List Token} → IsPart f at x y us → form_of (x ++ y) ≡ Some f
+pub form_is : {f : Form} {at : ℕ} {x y : List ℕ} {us : List Token} → IsPart f at x y us → form_of (x ++ y) ≡ Some f
 form_is (is_space_part b e) = rw e refl
 form_is (is_line_part a s) = refl
 form_is (is_comment_part c) = refl
@@ -119,7 +106,7 @@ pub record SameFront (x z : List ℕ) (us vs : List Token) : Type 0 where
   pub bytes : x ≡ z
   pub tokens : us ≡ vs
 
-part_unique : {f : Form} {at : ℕ} {x y z w : List ℕ} {us vs : List Token} → IsPart f at x y us → IsPart f at z w vs → x ++ y ≡ z ++ w → SameFront x z us vs
+pub part_unique : {f : Form} {at : ℕ} {x y z w : List ℕ} {us vs : List Token} → IsPart f at x y us → IsPart f at z w vs → x ++ y ≡ z ++ w → SameFront x z us vs
 part_unique (is_space_part b e) (is_space_part c g) h = record { bytes = let k : b ≡ c = cc in ap (λ (q : ℕ). q ∷ []) k; tokens = refl }
 part_unique (is_line_part {x = x} {y = y} a s) (is_line_part {x = z} {y = w} b t) h =
     let k = fronts is_line_byte x y z w a s b t cc in

@@ -127,6 +127,22 @@ pub data Form : Type 0 where
   number : Form
   symbol : Form
 
+-- ---- the form that the first bytes show
+abbrev pub slash : List ℕ → Option Form
+slash [] = None
+slash (c ∷ cs) = if nat_eq c 47 then Some line_comment else if nat_eq c 42 then Some comment else None
+
+-- the form of what can begin at these bytes
+abbrev pub form_of : List ℕ → Option Form
+form_of [] = None
+form_of (b ∷ bs) =
+    if is_space b then Some space
+    else if is_letter b then Some word
+    else if is_digit b then Some number
+    else if nat_eq b 34 then Some text
+    else if nat_eq b 47 then slash bs
+    else Some symbol
+
 abbrev pub token : ℕ → List ℕ → TokenKind → Token
 token at x kind = record { kind = kind; span = record { from = at; to = at + length x } }
 

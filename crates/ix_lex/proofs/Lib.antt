@@ -1,0 +1,9 @@
+pub mod Scans
+pub mod DigitRuns
+pub mod Literals
+pub mod Openings
+pub mod Parts
+pub mod Words
+pub mod Readings
+pub mod Options
+pub mod Symbols

@@ -1,0 +1,16 @@
+//! From the bytes of a CoreDSL text to its tokens.
+#![tactic(auto)]
+
+mod error;
+mod number;
+mod part;
+mod reader;
+mod scan;
+mod symbol;
+mod table;
+#[cfg(test)]
+mod tests;
+mod word;
+
+pub use error::LexErr;
+pub use reader::lex;
