@@ -22,3 +22,7 @@ four_lawful = record { reads_late = lit< tt; reads_first = lit≤ tt; reads_near
 
 pub five_lawful : IsLawful 5 1 2 3
 five_lawful = record { reads_late = lit< tt; reads_first = lit≤ tt; reads_near = lit≤ tt; memory_late = lit< tt; memory_inside = lit≤ tt; least = lit≤ tt; most = lit≤ tt }
+
+-- .. and so are those of a core that executes where it reads operands, and writes back in a stage of its own
+pub short_lawful : IsLawful 4 1 1 2
+short_lawful = record { reads_late = lit< tt; reads_first = lit≤ tt; reads_near = lit≤ tt; memory_late = lit< tt; memory_inside = lit≤ tt; least = lit≤ tt; most = lit≤ tt }
