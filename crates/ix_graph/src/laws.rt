@@ -1,0 +1,7 @@
+ghost use Rattle.ix_graph.specs.KindLaws.{NumberLaw, WordLaw};
+
+/// Laws of the table of kinds. It does nothing: its contract is what it is for.
+pub fn kind_laws()
+    ensures numbers { NumberLaw }
+    ensures words { WordLaw }
+{}
