@@ -1,0 +1,5 @@
+pub mod Sheets
+pub mod Schedules
+pub mod Bounds
+pub mod Behaviours
+pub mod Laws
