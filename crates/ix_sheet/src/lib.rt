@@ -1,8 +1,10 @@
 //! Datasheets of cores, and what a schedule is: the problem, its legal schedules, their cost, and the least of them.
 #![tactic(auto)]
 
+mod laws;
 mod problem;
 mod sheet;
 
+pub use laws::{bounds_law, chosen_law, cycle_law, flow_law, minimum_law};
 pub use problem::{Arc, Bound, Node, Problem};
 pub use sheet::{Sheet, SheetErr, native_windows};
