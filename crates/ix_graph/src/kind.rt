@@ -56,9 +56,9 @@ pub enum Kind {
     Rom(u16),
 }
 
-// The name of the kind at a place of the order, without a register's number.
+/// The name of the kind at a place of the order, below 34, without a register's number.
 #[tactic(auto, unfolding(crate::specs::Kinds::kind_words))]
-fn word_at(number: u8) -> &'static str
+pub fn kind_word(number: u8) -> &'static str
     requires { number < 34 }
     ensures value { result.now ≡ slice_index_or kind_words number [] }
     ensures short { length result.now ≤ 9 }
@@ -158,7 +158,7 @@ pub(crate) fn register(kind: &Kind) -> Option<u8>
 pub fn kind_name(alloc: Global, kind: &Kind) -> Result<Name, Memory>
     ensures { IfOk result (λ name. name ≡ printed_name kind.now) }
 {
-    let word = word_at(place(kind));
+    let word = kind_word(place(kind));
     match register(kind) {
         Some(number) => numbered(alloc, word, number),
         None => Name::from_text(alloc, word),
@@ -171,7 +171,7 @@ pub fn kind_number(text: &str) -> Option<u8>
     ensures below { IfSome result (λ number. number < 34) }
 {
     for number in 0..34 {
-        if word_at(number) == text {
+        if kind_word(number) == text {
             return Some(number);
         }
     }

@@ -8,7 +8,7 @@ use Rattle.ix_graph.proofs.kind.kind_number.Goals as goal
 pub loop-number-preserved : goal.loop-number-preserved
 loop-number-preserved c =
     let differs : bytes_eq (get_or kind_words c.loop-number.number []) c.args.text.now ≡ false =
-    rw (← c.word_at.ensures.value) (sym c.eq.ensures ∙ c.if-eq.false)
+    rw (← c.kind_word.ensures.value) (sym c.eq.ensures ∙ c.if-eq.false)
     in
     below_more _ _ c.loop-number.invariant differs
 
@@ -16,7 +16,7 @@ pub returns-then-eq-clause-value : goal.returns-then-eq-clause-value
 unfolding number_of
 returns-then-eq-clause-value c =
     let same : bytes_eq (get_or kind_words c.loop-number.number []) c.args.text.now ≡ true =
-    rw (← c.word_at.ensures.value) (sym c.eq.ensures ∙ c.if-eq.true)
+    rw (← c.kind_word.ensures.value) (sym c.eq.ensures ∙ c.if-eq.true)
     in
     sym (position-at _ kind_words c.loop-number.number [] (omega (arith, length-kind_words)) c.loop-number.invariant same)
 
