@@ -1,5 +1,6 @@
 -- The table of the kinds.
-use Rattle.std.proofs.Common.{◌≡◌, ℕ, List, Some, [], length, get_or, refl, ◌∙◌, ap}
+use Rattle.std.proofs.lemmas.Bool.{agree_below, agree_below_at, eqb-true}
+use Rattle.std.proofs.Common.{None, Option, Bool, true, false, ◌<◌, ◌==◌, ◌≡◌, ℕ, List, Some, [], length, get_or, refl, ◌∙◌, ap}
 use Rattle.std.specs.Prelude.{slice_get}
 use Rattle.std.specs.Str.{bytes_eq}
 use Rattle.std.proofs.lemmas.List.Quantifiers.{position-Some}
@@ -58,3 +59,22 @@ word_at_number text number e =
     let found = position-Some (λ word. bytes_eq word text) kind_words number [] e in
     let same : get_or kind_words number [] ≡ text = (bytes_eq-Decides (get_or kind_words number []) text).0 found.1 in
     slice_get-get_or kind_words number [] found.0 ∙ ap Some same
+
+-- the name at a place has that place as number
+abbrev is_at : Option ℕ → ℕ → Bool
+is_at None k = false
+is_at (Some number) k = number == k
+
+abbrev is_own_number : ℕ → Bool
+is_own_number k = is_at (number_of (get_or kind_words k [])) k
+
+own_numbers : agree_below is_own_number (λ _. true) 34 ≡ true
+unfolding kind_words number_of
+own_numbers = refl
+
+from_test : (o : Option ℕ) (k : ℕ) → is_at o k ≡ true → o ≡ Some k
+from_test None k h = cc
+from_test (Some number) k h = ap Some (eqb-true number k h)
+
+pub number_of-place : (number : ℕ) → number < 34 → number_of (get_or kind_words number []) ≡ Some number
+number_of-place number h = from_test _ number (agree_below_at is_own_number (λ _. true) 34 number own_numbers h)

@@ -6,3 +6,6 @@ pub mod Cycles
 pub mod Lifetimes
 pub mod Duality
 pub mod Minima
+pub mod Pairs
+pub mod Documents
+pub mod Places

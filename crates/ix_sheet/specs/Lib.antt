@@ -3,3 +3,5 @@ pub mod Schedules
 pub mod Bounds
 pub mod Behaviours
 pub mod Laws
+pub mod Datasheets
+pub mod Reading

@@ -3,8 +3,11 @@
 
 mod laws;
 mod problem;
+mod read;
+mod rules;
 mod sheet;
 
 pub use laws::{bounds_law, chosen_law, cycle_law, flow_law, minimum_law};
 pub use problem::{Arc, Bound, Node, Problem};
+pub use read::read_sheet;
 pub use sheet::{Sheet, SheetErr, native_windows};

@@ -1,7 +1,7 @@
 ghost use Rattle.std.specs.Prelude.{◌≡◌};
 ghost use Rattle.ix_sheet.specs.Sheets.{native_windows_of};
 
-use ix_bits::Name;
+use ix_bits::{Memory, Name};
 use rv_core::Shape;
 
 /// What a datasheet tells of a core (SCAIE-V, core datasheet).
@@ -36,6 +36,17 @@ pub enum SheetErr {
     Number { name: Name },
     /// Memory was not found.
     Memory,
+}
+
+impl From<Memory> for SheetErr {
+    ghost use Rattle.std.specs.Prelude.{◌≡◌};
+    ghost use Rattle.ix_sheet.specs.declared.sheet.SheetErr.TheVariants.{Memory as memory};
+
+    ghost from_gives = { λ _ e. e ≡ memory };
+
+    fn from(_want: Memory) -> SheetErr {
+        SheetErr::Memory
+    }
 }
 
 /// The first and the last time at which a core of this shape can do each operation of the ten first kinds.
