@@ -101,8 +101,8 @@ pub fn kind_word(number: u8) -> &'static str
     }
 }
 
-/// The place of a kind, from 0, in the order of the names.
-pub(crate) fn place(kind: &Kind) -> u8
+/// The place of a kind, from 0, in the order of the names: a sheet's delays and windows have this order.
+pub fn kind_place(kind: &Kind) -> u8
     ensures value { result ≡ place_of kind.now }
     ensures below { result < 34 }
 {
@@ -158,7 +158,7 @@ pub(crate) fn register(kind: &Kind) -> Option<u8>
 pub fn kind_name(alloc: Global, kind: &Kind) -> Result<Name, Memory>
     ensures { IfOk result (λ name. name ≡ printed_name kind.now) }
 {
-    let word = kind_word(place(kind));
+    let word = kind_word(kind_place(kind));
     match register(kind) {
         Some(number) => numbered(alloc, word, number),
         None => Name::from_text(alloc, word),

@@ -10,5 +10,5 @@ mod tests;
 
 pub use args::{Arg, Args};
 pub use graph::{Graph, Mode, Op};
-pub use kind::{Kind, kind_name, kind_number, kind_word};
+pub use kind::{Kind, kind_name, kind_number, kind_place, kind_word};
 pub use laws::kind_laws;

@@ -9,3 +9,5 @@ pub mod Minima
 pub mod Pairs
 pub mod Documents
 pub mod Places
+pub mod Edges
+pub mod ProblemLemmas

@@ -1,5 +1,5 @@
 -- Paths along free edges.
-use Rattle.std.proofs.Common.{◌≡◌, ℕ, ◌≤◌, ◌<◌, List, [], ◌∷◌, length, refl, arith}
+use Rattle.std.proofs.Common.{◌≡◌, ℕ, ◌-◌, ◌≤◌, ◌<◌, List, [], ◌∷◌, length, get_or, refl, arith}
 use Rattle.std.specs.Prelude.{All}
 use Rattle.std.proofs.lemmas.List.Elements.{All-contains, All-cons, All-nil, All-head, All-tail}
 use Rattle.ix_sheet.specs.declared.problem.Problem.{Problem}
@@ -55,3 +55,17 @@ first_inside p (i ∷ rest) r = r.0
 pub last_inside : (p : Problem) (path : List ℕ) → IsValidProblem p → IsFreePath p path → last_of path < length p.ops
 last_inside p [] valid r = absurd r
 last_inside p (i ∷ rest) valid r = last_within p i rest valid r.0 r.1
+
+pub first_at : (path : List ℕ) → get_or path 0 0 ≡ first_of path
+first_at [] = refl
+first_at (i ∷ rest) = refl
+
+last_after-at : (i : ℕ) (rest : List ℕ) → get_or (i ∷ rest) (length rest) 0 ≡ last_after i rest
+last_after-at i [] = refl
+last_after-at i (j ∷ rest) = last_after-at j rest
+
+pub last_at : (path : List ℕ) → get_or path (length path - 1) 0 ≡ last_of path
+last_at [] = refl
+last_at (i ∷ rest) =
+    let place : length (i ∷ rest) - 1 ≡ length rest = omega arith in
+    rw place (last_after-at i rest)

@@ -39,7 +39,7 @@ last_if_tight kind last = last
 
 -- the window of an operation in a mode; a write of a spawn body comes after the last stage, and all of a block in the stage of execute
 abbrev pub window_in : Sheet → Mode → Kind → Bool → ℕ × ℕ
-window_in sheet Always kind spawned = (max sheet.shape.ex (window_of sheet kind).0, min sheet.shape.ex (window_of sheet kind).1)
+window_in sheet Always kind spawned = (max (window_of sheet kind).0 sheet.shape.ex, min (window_of sheet kind).1 sheet.shape.ex)
 window_in sheet Decoupled kind spawned = if spawned then (sheet.shape.stages, last_time) else window_of sheet kind
 window_in sheet InPipeline kind spawned = if spawned then (sheet.shape.stages, last_time) else window_of sheet kind
 window_in sheet Tight kind spawned =

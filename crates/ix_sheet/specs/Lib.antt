@@ -5,3 +5,4 @@ pub mod Behaviours
 pub mod Laws
 pub mod Datasheets
 pub mod Reading
+pub mod BehaviourLaws

@@ -1,4 +1,5 @@
 ghost use Rattle.ix_sheet.specs.Laws.{BoundsLaw, FlowLaw, CycleLaw, MinimumLaw, TightLaw, ChosenLaw, OneLaw};
+ghost use Rattle.ix_sheet.specs.BehaviourLaws.{ProblemLaw};
 
 /// Times are legal exactly where they meet each bound of the problem. It does nothing: its contract is what it is for.
 pub fn bounds_law()
@@ -26,4 +27,9 @@ pub fn chosen_law()
     ensures tight { TightLaw }
     ensures chosen { ChosenLaw }
     ensures one { OneLaw }
+{}
+
+/// The problem of a valid graph, in any mode and by any sheet, is valid.
+pub fn problem_law()
+    ensures { ProblemLaw }
 {}

@@ -1,3 +1,7 @@
+ghost use Rattle.std.specs.Prelude.{◌≡◌};
+ghost use Rattle.ix_sheet.specs.Schedules.{IsValidProblem};
+ghost use Rattle.ix_sheet.specs.Bounds.{IsBoundOf, arc_of};
+
 use ix_bits::List;
 
 /// An operation as a schedule sees it.
@@ -42,4 +46,43 @@ pub struct Arc {
     pub to: u32,
     pub up: u32,
     pub down: u32,
+}
+
+/// The inequality that a bound of a problem is.
+pub fn arc_of_bound(problem: &Problem, bound: &Bound) -> Arc
+    requires valid { IsValidProblem problem.now }
+    requires of { IsBoundOf problem.now bound.now }
+    ensures { result ≡ arc_of problem.now bound.now }
+{
+    let ops = problem.ops.as_slice();
+    let root = ops.len() as u32;
+    match bound {
+        Bound::Early(op) => Arc {
+            from: root,
+            to: *op,
+            up: u32::from(ops[*op as usize].early),
+            down: 0,
+        },
+        Bound::Late(op) => Arc {
+            from: *op,
+            to: root,
+            up: 0,
+            down: u32::from(ops[*op as usize].late),
+        },
+        Bound::Dep(from, to) => Arc {
+            from: *from,
+            to: *to,
+            up: u32::from(ops[*from as usize].latency),
+            down: 0,
+        },
+        Bound::Chain(path) => {
+            let path = path.as_slice();
+            Arc {
+                from: path[0],
+                to: path[path.len() - 1],
+                up: 1,
+                down: 0,
+            }
+        }
+    }
 }
