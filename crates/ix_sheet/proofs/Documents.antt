@@ -1,8 +1,8 @@
 -- Members of a document, and the rules that they pass.
 use Rattle.std.proofs.Common.{[], get_or, ℤ, pos, arith, codes, ◌≡◌, ℕ, ◌<◌, List, Some, None, Bool, true, false, cond, Ordering, refl, sym, ◌∙◌, ap}
-use Rattle.std.specs.Prelude.{Option, is_some, unwrap_or, IfSome, option_and_then}
+use Rattle.std.specs.Prelude.{Option, option_map, is_some, unwrap_or, IfSome, option_and_then}
 use Rattle.std.specs.Option.{option_or}
-use Rattle.std.specs.Ordering.{nat_cmp, match_ordering, is_eq}
+use Rattle.std.specs.Ordering.{nat_cmp, match_ordering, is_eq, is_lt}
 use Rattle.std.specs.declared.cmp.Ordering.TheVariants.{Less, Equal, Greater}
 use Rattle.std.specs.Cmp.Lexicographic.{slice_cmp}
 use Rattle.std.proofs.lemmas.Map.Text.{is_eq-slice_cmp}
@@ -10,7 +10,7 @@ use Rattle.std.proofs.lemmas.Slice.Eq.{bytes_eq-Decides}
 use Rattle.toml.specs.Data.{Data, Members, no_members, member, get_member, as_integer}
 use Rattle.ix_sheet.specs.declared.sheet.SheetErr.{SheetErr}
 use Rattle.ix_sheet.specs.declared.sheet.SheetErr.TheVariants.{Kind, Number, Window}
-use Rattle.ix_sheet.specs.Datasheets.{shown, first_refusal, section, is_whole, natural_of, natural_or_zero, is_inside, first_ten, window_given, window_refusal, window_rule, delay_rule, delay_in}
+use Rattle.ix_sheet.specs.Datasheets.{shown, earlier_of, first_refused, first_refusal, section, is_whole, natural_of, natural_or_zero, is_inside, first_ten, window_given, window_refusal, window_rule, delay_rule, delay_in}
 use Rattle.ix_sheet.specs.Sheets.{window_at}
 use Rattle.ix_graph.specs.Kinds.{kind_words, number_of}
 use Rattle.ix_graph.proofs.KindLemmas.{number_of-place}
@@ -21,10 +21,16 @@ same_keys : (k l : List ℕ) → slice_cmp nat_cmp k l ≡ Equal → k ≡ l
 same_keys k l e =
     (bytes_eq-Decides k l).0 (sym (is_eq-slice_cmp k l) ∙ ap is_eq e)
 
+some_passes : {P : Type 0} (b : Bool) (x y : List ℕ × SheetErr) → option_map (λ r. r.1) (cond b (Some y) (Some x)) ≡ None → P
+some_passes true x y e = cc
+some_passes false x y e = cc
+
 -- where no member is refused, the first passes and the others too
-first_passes : (a b : Option SheetErr) → option_or a b ≡ None → (a ≡ None) × (b ≡ None)
-first_passes None b e = (refl, e)
-first_passes (Some x) b e = cc
+front_passes : (key : List ℕ) (o : Option SheetErr) (later : Option (List ℕ × SheetErr)) →
+    option_map (λ r. r.1) (earlier_of (option_map (λ e. (key, e)) o) later) ≡ None → (o ≡ None) × (option_map (λ r. r.1) later ≡ None)
+front_passes key None later e = (refl, e)
+front_passes key (Some x) None e = cc
+front_passes key (Some x) (Some r) e = some_passes (is_lt (slice_cmp nat_cmp r.0 key)) (key, x) r e
 
 found_passes : (rule : List ℕ → Data → Option SheetErr) (k l : List ℕ) (e d : Data) (rest : Option Data) (o : Ordering) →
     slice_cmp nat_cmp k l ≡ o → rule l e ≡ None → (rest ≡ Some d → rule k d ≡ None) → match_ordering o rest (Some e) rest ≡ Some d → rule k d ≡ None
@@ -40,7 +46,7 @@ pub member_passes : (rule : List ℕ → Data → Option SheetErr) (k : List ℕ
     first_refusal rule ms ≡ None → get_member k ms ≡ Some d → rule k d ≡ None
 member_passes rule k d no_members passed found = cc
 member_passes rule k d (member l e rest) passed found =
-    let both = first_passes (rule l e) (first_refusal rule rest) passed in
+    let both = front_passes l (rule l e) (first_refused rule rest) passed in
     found_passes rule k l e d (get_member k rest) (slice_cmp nat_cmp k l) refl both.0 (member_passes rule k d rest both.1) found
 
 passing : (b w : Bool) (x y : SheetErr) → cond b (cond w None (Some x)) (Some y) ≡ None → w ≡ true

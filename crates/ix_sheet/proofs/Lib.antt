@@ -11,3 +11,4 @@ pub mod Documents
 pub mod Places
 pub mod Edges
 pub mod ProblemLemmas
+pub mod Orders

@@ -1,8 +1,9 @@
 -- The datasheet that a text is, and why a text is none (TOML 1.1; the keys, their ranges and the order of refusals are this project's choice).
--- The members of a table stand in the order of the bytes of their keys.
-use Rattle.std.specs.Prelude.{codes, ◌≡◌, ℕ, ◌<◌, ℤ, pos, negsuc, Bool, false, ◌&&◌, ◌||◌, nat_lt, nat_le, if◌then◌else◌, List, [], map, take, slice_index, slice_index_or, Option, Some, None, is_some, option_and_then, IsUtf8, IsSomeAnd, MatchOption, ◌⊎◌}
+use Rattle.std.specs.Prelude.{codes, ◌≡◌, ℕ, ◌<◌, ℤ, pos, negsuc, Bool, false, ◌&&◌, ◌||◌, nat_lt, nat_le, if◌then◌else◌, List, [], map, take, slice_index, slice_index_or, Option, Some, None, is_some, option_map, option_and_then, IsUtf8, IsSomeAnd, MatchOption, ◌⊎◌}
 use Rattle.std.specs.Char.{is_ascii_graphic}
 use Rattle.std.specs.Option.{option_or}
+use Rattle.std.specs.Ordering.{nat_cmp, is_lt}
+use Rattle.std.specs.Cmp.Lexicographic.{slice_cmp}
 use Rattle.std.specs.Str.{bytes_eq}
 use Rattle.toml.specs.Data.{Data, Items, no_items, item, Members, no_members, member, get_member, as_str, as_integer, as_array, as_table}
 use Rattle.toml.specs.Parse.{parse_document}
@@ -24,10 +25,19 @@ shown_byte byte = if is_ascii_graphic byte then byte else 63
 abbrev pub shown : List ℕ → List ℕ
 shown key = map shown_byte (take 64 key)
 
--- the first refusal that a rule has among the members of a table
+-- of two refused members, the one whose key comes first in the order of bytes
+abbrev pub earlier_of : Option (List ℕ × SheetErr) → Option (List ℕ × SheetErr) → Option (List ℕ × SheetErr)
+earlier_of None second = second
+earlier_of (Some first) None = Some first
+earlier_of (Some first) (Some second) = if is_lt (slice_cmp nat_cmp second.0 first.0) then Some second else Some first
+
+-- the member that a rule refuses whose key comes first, with its refusal
+abbrev pub first_refused : (List ℕ → Data → Option SheetErr) → Members → Option (List ℕ × SheetErr)
+first_refused rule no_members = None
+first_refused rule (member key value rest) = earlier_of (option_map (λ e. (key, e)) (rule key value)) (first_refused rule rest)
+
 abbrev pub first_refusal : (List ℕ → Data → Option SheetErr) → Members → Option SheetErr
-first_refusal rule no_members = None
-first_refusal rule (member key value rest) = option_or (rule key value) (first_refusal rule rest)
+first_refusal rule members = option_map (λ r. r.1) (first_refused rule members)
 
 -- the members of the table under a key, none where there is no table
 abbrev pub members_or_none : Option Members → Members
