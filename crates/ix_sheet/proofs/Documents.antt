@@ -1,7 +1,6 @@
 -- Members of a document, and the rules that they pass.
 use Rattle.std.proofs.Common.{[], get_or, ℤ, pos, arith, codes, ◌≡◌, ℕ, ◌<◌, List, Some, None, Bool, true, false, cond, Ordering, refl, sym, ◌∙◌, ap}
 use Rattle.std.specs.Prelude.{Option, option_map, is_some, unwrap_or, IfSome, option_and_then}
-use Rattle.std.specs.Option.{option_or}
 use Rattle.std.specs.Ordering.{nat_cmp, match_ordering, is_eq, is_lt}
 use Rattle.std.specs.declared.cmp.Ordering.TheVariants.{Less, Equal, Greater}
 use Rattle.std.specs.Cmp.Lexicographic.{slice_cmp}

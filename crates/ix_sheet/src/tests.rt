@@ -1,25 +1,60 @@
 use crate::{
-    Sheet, SheetErr, bounds_law, chosen_law, cycle_law, flow_law, minimum_law, native_windows,
-    read_sheet,
+    Sheet, SheetErr, bounds_law, chosen_law, cycle_law, flow_law, latency, minimum_law,
+    mode_window, native_windows, problem_law, read_sheet,
 };
+use ix_graph::{Kind, Mode};
 use rv_core::CoreKind;
+use std::alloc::Global;
 use std::test::Fail;
 
-#[test]
-fn a_sheet(rt: HostRuntime) {
+// A sheet of five stages that narrows two windows.
+fn five(alloc: Global) -> Result<Sheet, SheetErr> {
     let text =
-        b"core = \"five\"\nperiod = 1000\n[delay]\nadd = 300\nmul = 600\n[window]\nWrRD = [2, 3]\n";
-    let read = read_sheet(rt.alloc(), text);
-    assert!(rt; matches!(&read, Ok(_)));
-    if let Ok(sheet) = read {
-        assert_eq!(rt; sheet.shape, CoreKind::Five.shape());
-        assert_eq!(rt; sheet.period, 1000);
-        assert_eq!(rt; sheet.delay.iter().sum::<u32>(), 900);
+        b"core = \"five\"\nperiod = 1000\n[delay]\nadd = 300\nmul = 600\n[window]\nWrRD = [2, 3]\nRdInstr = [3, 4]\n";
+    read_sheet(alloc, text)
+}
+
+#[test]
+fn a_sheet(rt: HostRuntime) -> Result<(), Fail> {
+    let sheet = five(rt.alloc())?;
+    let mut delays = [0; 34];
+    delays[10] = 300;
+    delays[12] = 600;
+    assert_eq!(rt; sheet.shape, CoreKind::Five.shape());
+    assert_eq!(rt; sheet.period, 1000);
+    assert_eq!(rt; sheet.delay, delays);
+    assert_eq!(rt;
+        (sheet.window[0], sheet.window[3], sheet.window[6]),
+        ((3, 4), (1, 4), (2, 3))
+    );
+    Ok(())
+}
+
+#[test]
+fn windows_in_modes(rt: HostRuntime) -> Result<(), Fail> {
+    let sheet = five(rt.alloc())?;
+    let cases = [
+        (Mode::InPipeline, Kind::WrRD, false, (2, 3)),
+        (Mode::InPipeline, Kind::Add, false, (1, 64)),
+        (Mode::Tight, Kind::WrRD, false, (2, 64)),
+        (Mode::Tight, Kind::WrCustReg(3), false, (2, 64)),
+        (Mode::Tight, Kind::WrMem, false, (2, 2)),
+        (Mode::Decoupled, Kind::WrRD, true, (5, 64)),
+        (Mode::Decoupled, Kind::WrPC, false, (2, 4)),
+        (Mode::Always, Kind::WrPC, false, (2, 2)),
+        (Mode::Always, Kind::RdInstr, false, (3, 2)),
+        (Mode::Always, Kind::Mux, false, (2, 2)),
+    ];
+    for (mode, kind, spawned, window) in cases {
         assert_eq!(rt;
-            (sheet.delay[10], sheet.delay[12], sheet.window[6]),
-            (300, 600, (2, 3))
+            mode_window(&sheet, mode, &kind, spawned),
+            window,
+            "at {kind:?}"
         );
     }
+    assert_eq!(rt; latency(sheet.shape, &Kind::RdMem), 1);
+    assert_eq!(rt; latency(sheet.shape, &Kind::WrMem), 0);
+    Ok(())
 }
 
 #[test]
@@ -86,4 +121,5 @@ fn laws(_rt: HostRuntime) {
     cycle_law();
     minimum_law();
     chosen_law();
+    problem_law();
 }
