@@ -1,0 +1,14 @@
+//! Operation graphs: what a behaviour does, as operations on the results of earlier operations.
+#![tactic(auto)]
+
+mod args;
+mod graph;
+mod kind;
+mod laws;
+#[cfg(test)]
+mod tests;
+
+pub use args::{Arg, Args};
+pub use graph::{Graph, Mode, Op};
+pub use kind::{Kind, kind_name, kind_number, kind_place, kind_word};
+pub use laws::kind_laws;

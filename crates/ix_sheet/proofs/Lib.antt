@@ -1,0 +1,14 @@
+pub mod Sums
+pub mod Rooted
+pub mod Paths
+pub mod BoundLemmas
+pub mod Cycles
+pub mod Lifetimes
+pub mod Duality
+pub mod Minima
+pub mod Pairs
+pub mod Documents
+pub mod Places
+pub mod Edges
+pub mod ProblemLemmas
+pub mod Orders
