@@ -3,6 +3,7 @@ pub mod Trees
 pub mod Productions
 pub mod Grammar
 pub mod Machine
+pub mod Parsing
 pub mod Lexing
 pub mod Laws
 pub mod View
