@@ -6,3 +6,4 @@ pub mod Unique
 pub mod Lexemes
 pub mod Parts
 pub mod Derived
+pub mod Verdicts
