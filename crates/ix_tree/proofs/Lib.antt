@@ -6,4 +6,6 @@ pub mod Unique
 pub mod Lexemes
 pub mod Parts
 pub mod Derived
+pub mod Reached
+pub mod Kept
 pub mod Verdicts
