@@ -15,23 +15,26 @@ use Rattle.ix_tree.specs.Tokens.{equals, plus_plus, minus_minus, minus, tilde, b
 use Rattle.ix_tree.specs.Trees.{ExprTree, e_pc, e_x, e_mem, e_literal, power, powers, Part}
 use Rattle.ix_tree.specs.Productions.{bit_type, one_bit, zero_bit, Done}
 use Rattle.ix_tree.specs.Grammar.{IsOperator, IsUnary, unary_minus, unary_tilde, unary_bang, IsAssignOp, assign_plain, assign_add, assign_sub, assign_mul, assign_and, assign_or, assign_xor, assign_shl, assign_shr, IsStep, step_up, step_down, IsPrimary, primary_unsized, primary_sized, primary_true, primary_false, primary_name, primary_pc, primary_x, primary_mem, IsExpr, is_primary, is_unary, is_cast, is_cast_signed, is_cast_unsigned, is_binary, is_round, is_index, is_range, is_choose, AreMany, no_more, one_more}
-use Rattle.ix_tree.specs.Machine.{State, Next, stop, go, only, is, primary, word_primary, unary_of, step_of, assign_of, power_stmt}
+use Rattle.ix_tree.specs.Machine.{Open, State, Next, stop, go, only, is, primary, word_primary, unary_of, step_of, assign_of, power_stmt}
 use Rattle.ix_tree.proofs.Steps.{Follows}
-use Rattle.ix_tree.proofs.Reached.{Reached}
+use Rattle.ix_tree.proofs.Reached.{InSection, in_section, Reached}
 
 -- ---- the state behind a token
 pub data Keeps : List Token → List ℕ → Token → Next → Type 0 where
   halts : {p : List Token} {ms : List ℕ} {t : Token} → Keeps p ms t stop
   keeps : {p : List Token} {ms : List ℕ} {t : Token} {m : ℕ} {z : State} → Reached z (p ++ t ∷ []) (ms ++ m ∷ []) → Keeps p ms t (go m z)
 
+pub recast : (Is : List Token → List ℕ → Type 0) {p q : List Token} {ms ns : List ℕ} → Is q ns → p ≡ q → ms ≡ ns → Is p ms
+recast Is {p} {q} {ms} {ns} r e f = subst (λ (l : List Token). Is l ms) (sym e) (subst (λ (l : List ℕ). Is q l) (sym f) r)
+
 pub moved : {z : State} {p q : List Token} {ms ns : List ℕ} → Reached z q ns → p ≡ q → ms ≡ ns → Reached z p ms
-moved {z} {p} {q} {ms} {ns} r e f = subst (λ (l : List Token). Reached z l ms) (sym e) (subst (λ (l : List ℕ). Reached z q l) (sym f) r)
+moved {z} r e f = recast (Reached z) r e f
 
 pub goes_to : {p q : List Token} {ms ns : List ℕ} {t : Token} {m : ℕ} {z : State} → Reached z q ns → p ++ t ∷ [] ≡ q → ms ++ m ∷ [] ≡ ns → Keeps p ms t (go m z)
 goes_to r e f = keeps (moved r e f)
 
 pub along : {p q : List Token} {ms ns : List ℕ} {t : Token} {x : Next} → Keeps q ns t x → p ≡ q → ms ≡ ns → Keeps p ms t x
-along {p} {q} {ms} {ns} {t} {x} r e f = subst (λ (l : List Token). Keeps l ms t x) (sym e) (subst (λ (l : List ℕ). Keeps q l t x) (sym f) r)
+along {t = t} {x = x} r e f = recast (λ (p : List Token) (ms : List ℕ). Keeps p ms t x) r e f
 
 pub keep_same : {p : List Token} {ms : List ℕ} {t : Token} {x y : Next} → x ≡ y → Keeps p ms t y → Keeps p ms t x
 keep_same {p} {ms} {t} e r = subst (λ (n : Next). Keeps p ms t n) (sym e) r
@@ -201,7 +204,12 @@ least (is_choose q r m a b e f g) = is_choose q r (omega arith) a b e f g
 pub many_more : {X : Type 0} {Is : List Token → List ℕ → X → Type 0} {ts us : List Token} {ms ns : List ℕ} {x : X} {xs : List X} → AreMany Is ts ms xs → Is us ns x
     → AreMany Is (ts ++ us) (ms ++ ns) (xs ++ x ∷ [])
 many_more {Is = Is} {us = us} {ns = ns} {x = x} no_more h =
-    subst (λ (l : List Token). AreMany Is l ns (x ∷ [])) (append-nil us) (subst (λ (l : List ℕ). AreMany Is (us ++ []) l (x ∷ [])) (append-nil ns) (one_more h no_more))
+    recast (λ (l : List Token) (m : List ℕ). AreMany Is l m (x ∷ [])) (one_more h no_more) (sym (append-nil us)) (sym (append-nil ns))
 many_more {Is = Is} {us = us} {ns = ns} {x = x} (one_more {ts = a} {us = b} {ms = m} {ns = n} {x = y} {xs = ys} p q) h =
-    subst (λ (l : List Token). AreMany Is l ((m ++ n) ++ ns) (y ∷ (ys ++ x ∷ []))) (sym (append_assoc a b us))
-    (subst (λ (l : List ℕ). AreMany Is (a ++ (b ++ us)) l (y ∷ (ys ++ x ∷ []))) (sym (append_assoc m n ns)) (one_more p (many_more q h)))
+    recast (λ (l : List Token) (m : List ℕ). AreMany Is l m (y ∷ (ys ++ x ∷ []))) (one_more p (many_more q h)) (append_assoc a b us) (append_assoc m n ns)
+
+pub section_more : {X : Type 0} {word : TokenKind} {Is : List Token → List ℕ → X → Type 0} {w : Open} {xs : List X} {p us : List Token} {ms ks : List ℕ} {x : X}
+    → InSection word Is w xs p ms → Is us ks x
+    → InSection word Is w (xs ++ x ∷ []) (p ++ us) (ms ++ ks)
+section_more {word = word} {Is = Is} {w = w} {xs = xs} {us = us} {ks = ks} {x = x} (in_section {p = p} {ts = ts} {ms = ms} {ns = ns} o a b i m) h =
+    recast (InSection word Is w (xs ++ x ∷ [])) (in_section o a b i (many_more m h)) (append_assoc p (w.word ∷ o ∷ ts) us) (append_assoc ms (0 ∷ 0 ∷ ns) ks)

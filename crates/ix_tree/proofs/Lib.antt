@@ -8,4 +8,6 @@ pub mod Parts
 pub mod Derived
 pub mod Reached
 pub mod Kept
+pub mod KeptPlaces
+pub mod KeptExpressions
 pub mod Verdicts
