@@ -10,4 +10,6 @@ pub mod Reached
 pub mod Kept
 pub mod KeptPlaces
 pub mod KeptExpressions
+pub mod KeptStatements
+pub mod KeptSections
 pub mod Verdicts
