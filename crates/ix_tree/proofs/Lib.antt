@@ -6,10 +6,12 @@ pub mod Unique
 pub mod Lexemes
 pub mod Parts
 pub mod Derived
+pub mod Walks
 pub mod Reached
 pub mod Kept
 pub mod KeptPlaces
 pub mod KeptExpressions
 pub mod KeptStatements
 pub mod KeptSections
+pub mod KeptSteps
 pub mod Verdicts
