@@ -61,7 +61,7 @@ typed_at (i_type_locals i) w t (Name n) e = keeps (moved (r_named (in_local t n 
 typed_at (i_type_loop f o a b i) w t (Name n) e = goes_to (r_for_equals f o t a b e (some_type w) i) (simp append_assoc) (simp append_assoc)
 typed_at (i_type_register a i) w t (Name n) e = goes_to (r_named (in_register t e a w i)) (simp append_assoc) (simp append_assoc)
 typed_at (i_type_table i) w t (Name n) e =
-    keeps (r_fixed (λ o b. moved (r_table_length (in_table t o e b w i)) (simp append_assoc) (simp append_assoc)))
+    keeps (r_fixed refl (λ o b. moved (r_table_length (in_table t o e b w i)) (simp append_assoc) (simp append_assoc)))
 typed_at (i_type_locals i) w t _ e = halts
 typed_at (i_type_loop f o a b i) w t _ e = halts
 typed_at (i_type_register a i) w t _ e = halts

@@ -19,7 +19,7 @@ use Rattle.ix_tree.proofs.KeptStatements.{states_end, instructions_end}
 -- ---- the text
 name_at : (f : Token) → f.kind ≡ instruction_set → (t : Token) (kind : TokenKind) → t.kind ≡ kind
     → Keeps (f ∷ []) (0 ∷ []) t (with_name kind 0 (λ n. fixed 0 extends_word (rv32i_word ∷ open_brace ∷ []) (sections f n [])))
-name_at f a t (Name n) e = keeps (r_fixed (λ x b. r_fixed (λ r c. r_fixed (λ o h. r_sections (in_text f t x r o n a e b c h no_more)))))
+name_at f a t (Name n) e = keeps (r_fixed refl (λ x b. r_fixed refl (λ r c. r_fixed refl (λ o h. r_sections (in_text f t x r o n a e b c h no_more)))))
 name_at f a t _ e = halts
 
 pub keep_starting : (t : Token) → Keeps [] [] t (act t starting)
@@ -37,11 +37,11 @@ unfolding begin_section
 keep_section i t =
     keep_if (is t.kind close_brace) _ _ (λ e. keeps (r_ended (text_of i t (same_kind t.kind close_brace e))))
     (λ a. keep_if (is t.kind architectural_state) _ _
-    (λ e. keeps (r_fixed (λ o h. moved (r_states (in_section o (same_kind t.kind architectural_state e) h i no_more)) (simp append_assoc) (simp append_assoc))))
+    (λ e. keeps (r_fixed refl (λ o h. moved (r_states (in_section o (same_kind t.kind architectural_state e) h i no_more)) (simp append_assoc) (simp append_assoc))))
     (λ b. keep_if (is t.kind instructions_word) _ _
-    (λ e. keeps (r_fixed (λ o h. moved (r_instructions (in_section o (same_kind t.kind instructions_word e) h i no_more)) (simp append_assoc) (simp append_assoc))))
+    (λ e. keeps (r_fixed refl (λ o h. moved (r_instructions (in_section o (same_kind t.kind instructions_word e) h i no_more)) (simp append_assoc) (simp append_assoc))))
     (λ c. keep_only (is t.kind always_word) _ _
-    (λ e. keeps (r_fixed (λ o h. moved (r_blocks (in_section o (same_kind t.kind always_word e) h i no_more)) (simp append_assoc) (simp append_assoc)))))))
+    (λ e. keeps (r_fixed refl (λ o h. moved (r_blocks (in_section o (same_kind t.kind always_word e) h i no_more)) (simp append_assoc) (simp append_assoc)))))))
 
 -- ---- registers and tables
 pub keep_state : {o : Open} {xs : List StateTree} {p : List Token} {ms : List ℕ} → InStates o xs p ms → (t : Token) → Keeps p ms t (begin_state o xs t)
@@ -61,7 +61,7 @@ keep_state_word r a i t =
 length_at : {k : NamedState} {p : List Token} {ms : List ℕ} → InTable k p ms → (t : Token) (kind : TokenKind) → t.kind ≡ kind
     → Keeps p ms t (with_number (width_of kind) 1 (λ w. fixed 1 close_square [] (fixed 0 equals (open_brace ∷ []) (want 0 (f_entries k w [] ∷ [])))))
 length_at i t (Unsized ty w) e =
-    keeps (r_fixed (λ q eq. r_fixed (λ x ex. r_fixed (λ b eb.
+    keeps (r_fixed refl (λ q eq. r_fixed refl (λ x ex. r_fixed refl (λ b eb.
     moved (r_want (i_entries (in_entries t q x b ty w e eq ex eb i no_more))) (simp append_assoc) (simp append_assoc)))))
 length_at i t _ e = halts
 
@@ -91,7 +91,7 @@ closes_instr i t kind e = keep_only (is kind close_brace) _ _ (λ h. keeps (r_se
 instr_at : {o : Open} {xs : List InstrTree} {p : List Token} {ms : List ℕ} → InInstrs o xs p ms → (t : Token) (kind : TokenKind) → t.kind ≡ kind
     → Keeps p ms t (begin_instr o xs t kind)
 instr_at i t (Name n) e =
-    keeps (r_fixed (λ o eo. r_fixed (λ x ex. r_fixed (λ c ec. moved (r_piece (in_pieces (in_instr t o x c e eo ex ec i) no_more)) (simp (append_assoc, append-nil)) (simp (append_assoc, append-nil))))))
+    keeps (r_fixed refl (λ o eo. r_fixed refl (λ x ex. r_fixed refl (λ c ec. moved (r_piece (in_pieces (in_instr t o x c e eo ex ec i) no_more)) (simp (append_assoc, append-nil)) (simp (append_assoc, append-nil))))))
 instr_at {o} {xs} i t kind e = closes_instr i t kind e
 
 pub keep_instr : {o : Open} {xs : List InstrTree} {p : List Token} {ms : List ℕ} → InInstrs o xs p ms → (t : Token) → Keeps p ms t (begin_instr o xs t t.kind)
@@ -166,9 +166,9 @@ keep_piece_next (on_piece {i = i} {ts = ts} {us = us} {ns = ns} {ks = ks} xs x e
 pub keep_after_pieces : {i : OpenInstr} {p : List Token} {ms : List ℕ} → PastPieces i p ms → (t : Token) → Keeps p ms t (act t (after_pieces i))
 keep_after_pieces {i} w t =
     keep_if (is t.kind behavior_word) _ _
-    (λ e. keeps (r_fixed (λ h eh. moved (r_stmt (i_behavior (in_behavior t h (same_kind t.kind behavior_word e) eh w no_assembly))) (simp append_assoc) (simp append_assoc))))
+    (λ e. keeps (r_fixed refl (λ h eh. moved (r_stmt (i_behavior (in_behavior t h (same_kind t.kind behavior_word e) eh w no_assembly))) (simp append_assoc) (simp append_assoc))))
     (λ a. keep_only (is t.kind assembly_word) _ _
-    (λ e. keeps (r_fixed (λ c ec. moved (r_assembly_text t c (same_kind t.kind assembly_word e) ec w) (simp append_assoc) (simp append_assoc)))))
+    (λ e. keeps (r_fixed refl (λ c ec. moved (r_assembly_text t c (same_kind t.kind assembly_word e) ec w) (simp append_assoc) (simp append_assoc)))))
 
 opens_texts : {i : OpenInstr} {p : List Token} {ms : List ℕ} (a c : Token) → a.kind ≡ assembly_word → c.kind ≡ colon → PastPieces i p ms → (t : Token) (kind : TokenKind) → t.kind ≡ kind
     → Keeps (p ++ a ∷ c ∷ []) (ms ++ 0 ∷ 0 ∷ []) t (only (is kind open_brace) 0 (assembly_more i))
@@ -179,7 +179,7 @@ text_at : {i : OpenInstr} {p : List Token} {ms : List ℕ} (a c : Token) → a.k
     → Keeps (p ++ a ∷ c ∷ []) (ms ++ 0 ∷ 0 ∷ []) t (after_assembly i t kind)
 unfolding after_assembly
 text_at a c f g w t Text e =
-    keeps (r_fixed (λ s es. r_fixed (λ b eb. r_fixed (λ h eh.
+    keeps (r_fixed refl (λ s es. r_fixed refl (λ b eb. r_fixed refl (λ h eh.
     moved (r_stmt (i_behavior (in_behavior b h eb eh w (one_text a c t s f g e es)))) (simp append_assoc) (simp append_assoc)))))
 text_at a c f g w t kind e = opens_texts a c f g w t kind e
 
@@ -215,7 +215,7 @@ pub keep_assembly_next : {i : OpenInstr} {p ts : List Token} {ms ns : List ℕ} 
 keep_assembly_next a c o f g h w m t =
     keep_if (is t.kind comma) _ _ (λ e. goes_to (r_assembly_more a c o f g h w (texts_more m t (same_kind t.kind comma e))) (simp append_assoc) (simp append_assoc))
     (λ x. keep_only (is t.kind close_brace) _ _
-    (λ e. keeps (r_fixed (λ s es. r_fixed (λ b eb. r_fixed (λ k ek.
+    (λ e. keeps (r_fixed refl (λ s es. r_fixed refl (λ b eb. r_fixed refl (λ k ek.
     moved (r_stmt (i_behavior (in_behavior b k eb ek w (some_texts a c o t s f g h (same_kind t.kind close_brace e) es m)))) (simp (append_assoc, cons_append)) (simp (append_assoc, cons_append))))))))
 
 -- ---- always-blocks

@@ -40,7 +40,7 @@ step_kept (r_for_round x a i) t = keep_for_round x a i t
 step_kept (r_for_head x o a b i) t = keep_for_head x o a b i t
 step_kept (r_for_equals x o q a b c y i) t = keep_for_equals x o q a b c y i t
 step_kept (r_assigning i) t = keep_assigning i t
-step_kept (r_fixed {kind = kind} h) t = keep_only (is t.kind kind) _ _ (λ e. keeps (h t (same_kind t.kind kind e)))
+step_kept (r_fixed {kind = kind} q h) t = keep_only (is t.kind kind) _ _ (λ e. keeps (h t (same_kind t.kind kind e)))
 step_kept r_starting t = keep_starting t
 step_kept (r_set_name f a) t = keep_set_name f a t
 step_kept (r_sections i) t = keep_section i t

@@ -14,4 +14,5 @@ pub mod KeptExpressions
 pub mod KeptStatements
 pub mod KeptSections
 pub mod KeptSteps
+pub mod Viable
 pub mod Verdicts

@@ -15,7 +15,7 @@ use Rattle.ix_tree.specs.Tokens.{instruction_set, extends_word, rv32i_word, arch
 use Rattle.ix_tree.specs.Trees.{ExprTree, Place, AssignTree, DeclTree, StmtTree, StateTree, SectionTree, InstrTree, BlockTree, TextTree, power, before, Part}
 use Rattle.ix_tree.specs.Productions.{Done}
 use Rattle.ix_tree.specs.Grammar.{IsOperator, IsUnary, IsAssignOp, IsStep, IsType, IsExpr, IsPlace, IsAssign, IsDecl, IsLoopType, IsStmt, IsItems, IsPiece, AreTexts, IsAssembly, IsPieces, IsInstr, IsEntries, IsState, IsAlways, AreMany, IsSection, IsText}
-use Rattle.ix_tree.specs.Machine.{Open, OpenInstr, OpenState, NamedState, OpenAlways, f_unary, f_cast, f_binary, f_round, f_index, f_range, f_then, f_else, f_x, f_mem, f_mem_range, f_step, f_set, f_single, f_last, f_type_cast, f_type_locals, f_type_loop, f_type_register, f_type_table, f_locals, f_value, f_if, f_branch, f_other, f_start, f_test, f_loop, f_spawn, f_block, f_register, f_entries, f_behavior, f_always, Stack, State, want, have, opened, cast_word, typing, type_less, type_width, type_greater, typed, placing, x_square, mem_square, placed, assigned, naming, named, stmt, item, done, if_round, for_round, for_head, for_equals, assigning, fixed, starting, set_name, sections, ended, states, instructions, blocks, state_word, table_length, table_end, piece, piece_square, piece_high, piece_colon, piece_low, piece_end, piece_next, after_pieces, assembly_text, assembly_more, assembly_next, always_brace, grip, always_done, next_fixed}
+use Rattle.ix_tree.specs.Machine.{Open, OpenInstr, OpenState, NamedState, OpenAlways, f_unary, f_cast, f_binary, f_round, f_index, f_range, f_then, f_else, f_x, f_mem, f_mem_range, f_step, f_set, f_single, f_last, f_type_cast, f_type_locals, f_type_loop, f_type_register, f_type_table, f_locals, f_value, f_if, f_branch, f_other, f_start, f_test, f_loop, f_spawn, f_block, f_register, f_entries, f_behavior, f_always, Stack, State, want, have, opened, cast_word, typing, type_less, type_width, type_greater, typed, placing, x_square, mem_square, placed, assigned, naming, named, stmt, item, done, if_round, for_round, for_head, for_equals, assigning, fixed, starting, set_name, sections, ended, states, instructions, blocks, state_word, table_length, table_end, piece, piece_square, piece_high, piece_colon, piece_low, piece_end, piece_next, after_pieces, assembly_text, assembly_more, assembly_next, always_brace, is, grip, always_done, next_fixed}
 
 -- ---- parts of productions
 
@@ -286,7 +286,7 @@ pub data Reached : State → List Token → List ℕ → Type 0 where
   r_assigning : {d : ℕ} {k : Stack} {p : List Token} {ms : List ℕ} → InAssign d k p ms → Reached (assigning d k) p ms
   -- each token of the kind leads on
   r_fixed : {d : ℕ} {kind : TokenKind} {ks : List TokenKind} {z : State} {p : List Token} {ms : List ℕ}
-      → ((t : Token) → t.kind ≡ kind → Reached (next_fixed d ks z) (p ++ t ∷ []) (ms ++ d ∷ []))
+      → is kind kind ≡ true → ((t : Token) → t.kind ≡ kind → Reached (next_fixed d ks z) (p ++ t ∷ []) (ms ++ d ∷ []))
       → Reached (fixed d kind ks z) p ms
   r_starting : Reached starting [] []
   r_set_name : (t : Token) → t.kind ≡ instruction_set → Reached (set_name t) (t ∷ []) (0 ∷ [])
