@@ -15,4 +15,5 @@ pub mod KeptStatements
 pub mod KeptSections
 pub mod KeptSteps
 pub mod Viable
+pub mod ViableStates
 pub mod Verdicts

@@ -17,16 +17,16 @@ use Rattle.ix_tree.proofs.Reached.{InStmt, i_behavior, i_branch, i_other, i_loop
 use Rattle.ix_tree.proofs.Walks.{goes}
 
 -- ---- tokens to go on with
-abbrev a : TokenKind → Token
+abbrev pub a : TokenKind → Token
 a k = record { kind = k; span = span 0 0 }
 
-abbrev a_name : Token
+abbrev pub a_name : Token
 a_name = a (Name [])
 
-abbrev a_number : Token
+abbrev pub a_number : Token
 a_number = a (Unsized bit_type zero_bit)
 
-abbrev of_name : Part
+abbrev pub of_name : Part
 of_name = p_primary a_name (e_name (span 0 0) [])
 
 -- ---- a state with such tokens
@@ -39,46 +39,46 @@ pub record Closing (s : State) : Type 0 where
   pub tokens : List Token
   pub closes : Closes s tokens
 
-by_step : (s : State) (t : Token) (ts : List Token) (m : ℕ) (z : State) → step s t ≡ go m z → Closes z ts → Closes s (t ∷ ts)
+pub by_step : (s : State) (t : Token) (ts : List Token) (m : ℕ) (z : State) → step s t ≡ go m z → Closes z ts → Closes s (t ∷ ts)
 by_step s t ts m z e h = record { nestings = m ∷ h.nestings; tree = h.tree; is = take_one s t ts m z e h.is }
 
-by_same : {s z : State} (ts : List Token) → run s ts ≡ run z ts → Closes z ts → Closes s ts
+pub by_same : {s z : State} (ts : List Token) → run s ts ≡ run z ts → Closes z ts → Closes s ts
 by_same ts e h = record { nestings = h.nestings; tree = h.tree; is = e ∙ h.is }
 
-first_step : (s : State) (t : Token) (m : ℕ) (z : State) → step s t ≡ go m z → Closing z → Closing s
+pub first_step : (s : State) (t : Token) (m : ℕ) (z : State) → step s t ≡ go m z → Closing z → Closing s
 first_step s t m z e h = record { tokens = t ∷ h.tokens; closes = by_step s t h.tokens m z e h.closes }
 
 -- ---- sections
-closes_ended : (x : TextTree) → Closes (ended x) []
+pub closes_ended : (x : TextTree) → Closes (ended x) []
 unfolding run
 closes_ended x = record { nestings = []; tree = x; is = refl }
 
-closes_sections : (f : Token) (n : List ℕ) (xs : List SectionTree) → Closes (sections f n xs) (a close_brace ∷ [])
+pub closes_sections : (f : Token) (n : List ℕ) (xs : List SectionTree) → Closes (sections f n xs) (a close_brace ∷ [])
 unfolding step begin_section
 closes_sections f n xs = by_step (sections f n xs) (a close_brace) [] 0 (ended (text_tree f n xs (a close_brace))) refl (closes_ended _)
 
-closes_states : (o : Open) (xs : List StateTree) → Closes (states o xs) (a close_brace ∷ a close_brace ∷ [])
+pub closes_states : (o : Open) (xs : List StateTree) → Closes (states o xs) (a close_brace ∷ a close_brace ∷ [])
 unfolding step begin_state
 closes_states o xs = by_step (states o xs) (a close_brace) _ 0 (after_section o (section_tree o.word (k_states xs) (a close_brace))) refl (closes_sections _ _ _)
 
-closes_instructions : (o : Open) (xs : List InstrTree) → Closes (instructions o xs) (a close_brace ∷ a close_brace ∷ [])
+pub closes_instructions : (o : Open) (xs : List InstrTree) → Closes (instructions o xs) (a close_brace ∷ a close_brace ∷ [])
 unfolding step
 closes_instructions o xs = by_step (instructions o xs) (a close_brace) _ 0 (after_section o (section_tree o.word (k_instructions xs) (a close_brace))) refl (closes_sections _ _ _)
 
-closes_blocks : (o : Open) (xs : List BlockTree) → Closes (blocks o xs) (a close_brace ∷ a close_brace ∷ [])
+pub closes_blocks : (o : Open) (xs : List BlockTree) → Closes (blocks o xs) (a close_brace ∷ a close_brace ∷ [])
 unfolding step
 closes_blocks o xs = by_step (blocks o xs) (a close_brace) _ 0 (after_section o (section_tree o.word (k_always xs) (a close_brace))) refl (closes_sections _ _ _)
 
-closes_done_always : (x : OpenAlways) (s : Done) → Closes (done s (f_always x ∷ [])) (a close_brace ∷ a close_brace ∷ [])
+pub closes_done_always : (x : OpenAlways) (s : Done) → Closes (done s (f_always x ∷ [])) (a close_brace ∷ a close_brace ∷ [])
 unfolding step settle_stmt
 closes_done_always x s =
     by_step (done s (f_always x ∷ [])) (a close_brace) _ 0 (after_section x.within (section_tree x.within.word (k_always (x.before ++ always_done x s ∷ [])) (a close_brace))) refl (closes_sections _ _ _)
 
 -- ---- statements
-record EndStmt (k : Stack) : Type 0 where
-  tokens : List Token
-  ends : EndsStmt 1 tokens
-  closes : (s : Done) → Closes (done s k) tokens
+pub record EndStmt (k : Stack) : Type 0 where
+  pub tokens : List Token
+  pub ends : EndsStmt 1 tokens
+  pub closes : (s : Done) → Closes (done s k) tokens
 
 two : (ts : List Token) → EndsStmt 1 ts → EndsStmt 2 ts
 two ts e = weaken_stmt 2 1 ts (omega arith) e
@@ -96,7 +96,7 @@ unfolding step settle_stmt
 closes_behavior i s =
     by_step (done s (f_behavior i ∷ [])) (a close_brace) _ 0 (instructions i.within (i.before ++ instr_tree i.first i.name i.pieces s (a close_brace) ∷ [])) refl (closes_instructions _ _)
 
-end_behavior : (i : OpenInstr) → EndStmt (f_behavior i ∷ [])
+pub end_behavior : (i : OpenInstr) → EndStmt (f_behavior i ∷ [])
 end_behavior i = record { tokens = a close_brace ∷ a close_brace ∷ a close_brace ∷ []; ends = omega arith; closes = closes_behavior i }
 
 closes_block : (d : ℕ) (o : Token) (ss : List StmtTree) (k : Stack) (ts : List Token) → ((s : Done) → Closes (done s k) ts) → (s : Done)
@@ -107,7 +107,7 @@ closes_block d o ss k ts h s = by_step (done s (f_block d o ss ∷ k)) (a close_
 end_block : (d : ℕ) (o : Token) (ss : List StmtTree) (k : Stack) (ts : List Token) → ((s : Done) → Closes (done s k) ts) → EndStmt (f_block d o ss ∷ k)
 end_block d o ss k ts h = record { tokens = a close_brace ∷ ts; ends = omega arith; closes = closes_block d o ss k ts h }
 
-end_stmt : {d : ℕ} {k : Stack} {p : List Token} {ms : List ℕ} → InStmt d k p ms → EndStmt k
+pub end_stmt : {d : ℕ} {k : Stack} {p : List Token} {ms : List ℕ} → InStmt d k p ms → EndStmt k
 end_stmt (i_behavior {i = i} h) = end_behavior i
 end_stmt (i_branch {d = d} {k = k} {c = c} t o r e f g h i) = pops (f_branch d t c) k (omega arith) (end_stmt i)
 end_stmt (i_other {d = d} {k = k} {c = c} {s = s} t o r x e f g h u v i) = pops (f_other d t c s) k (omega arith) (end_stmt i)
@@ -117,19 +117,19 @@ end_stmt (i_block {d = d} {k = k} {ss = ss} o e h i) = let r = end_stmt i in end
 end_stmt (i_always {a = x} {ss = ss} o e f h i) = end_block 0 o ss (f_always x ∷ []) (a close_brace ∷ a close_brace ∷ []) (closes_done_always x)
 
 -- `;` for a statement that is wanted
-closes_stmt : (d : ℕ) (k : Stack) → (h : EndStmt k) → Closes (stmt d k) (a semicolon ∷ h.tokens)
+pub closes_stmt : (d : ℕ) (k : Stack) → (h : EndStmt k) → Closes (stmt d k) (a semicolon ∷ h.tokens)
 unfolding step begin_stmt
 closes_stmt d k h = by_step (stmt d k) (a semicolon) h.tokens d (done (d_empty (a semicolon)) k) refl (h.closes _)
 
 -- ---- assignments: the token that ends one, and what follows
-record EndAssign (k : Stack) : Type 0 where
-  closer : Token
-  plain : power closer.kind ≡ 1
-  nesting : ℕ
-  next : AssignTree → State
-  goes : (x : AssignTree) → after_assign x k closer ≡ go nesting (next x)
-  tokens : List Token
-  closes : (x : AssignTree) → Closes (next x) tokens
+pub record EndAssign (k : Stack) : Type 0 where
+  pub closer : Token
+  pub plain : power closer.kind ≡ 1
+  pub nesting : ℕ
+  pub next : AssignTree → State
+  pub goes : (x : AssignTree) → after_assign x k closer ≡ go nesting (next x)
+  pub tokens : List Token
+  pub closes : (x : AssignTree) → Closes (next x) tokens
 
 closer_power : (power semicolon ≡ 1) × (power close_round ≡ 1)
 unfolding power
@@ -157,23 +157,23 @@ end_last d f y n v w k h = record {
   closes = λ x. closes_stmt (d + 1) (f_loop d f y n v w x ∷ k) (pops (f_loop d f y n v w x) k (omega arith) h);
 }
 
-end_assign : {d : ℕ} {k : Stack} {p : List Token} {ms : List ℕ} → InAssign d k p ms → EndAssign k
+pub end_assign : {d : ℕ} {k : Stack} {p : List Token} {ms : List ℕ} → InAssign d k p ms → EndAssign k
 end_assign (i_single {d = d} {k = k} i) = end_single d k (end_stmt i)
 end_assign (i_last {d = d} {k = k} {t = f} {y = y} {n = n} {v = v} {w = w} h i) = end_last d f y n v w k (end_stmt i)
 
 -- ---- expressions
-record EndExpr (k : Stack) : Type 0 where
-  tokens : List Token
-  ends : Ends 1 tokens
-  closes : (d : ℕ) (v : Part) → Closes (have d v k) tokens
+pub record EndExpr (k : Stack) : Type 0 where
+  pub tokens : List Token
+  pub ends : Ends 1 tokens
+  pub closes : (d : ℕ) (v : Part) → Closes (have d v k) tokens
 
 -- a name for an expression that is wanted
-closes_want : (d : ℕ) (k : Stack) (ts : List Token) → ((d : ℕ) (v : Part) → Closes (have d v k) ts) → Closes (want d k) (a_name ∷ ts)
+pub closes_want : (d : ℕ) (k : Stack) (ts : List Token) → ((d : ℕ) (v : Part) → Closes (have d v k) ts) → Closes (want d k) (a_name ∷ ts)
 unfolding step
 closes_want d k ts h = by_step (want d k) a_name ts d (have d of_name k) refl (h d of_name)
 
 -- a production that ends with its expression
-abbrev pops_expr : (f : Frame) (k : Stack) → 1 ≤ hold f → EndExpr k → EndExpr (f ∷ k)
+abbrev pub pops_expr : (f : Frame) (k : Stack) → 1 ≤ hold f → EndExpr k → EndExpr (f ∷ k)
 pops_expr f k l h = record {
   tokens = h.tokens;
   ends = h.ends;
@@ -198,9 +198,9 @@ unfolding power
 close_power = (refl, refl, refl)
 
 -- ---- what follows a place
-record EndPlace (k : Stack) : Type 0 where
-  tokens : List Token
-  closes : (l : Place) → Closes (placed l k) tokens
+pub record EndPlace (k : Stack) : Type 0 where
+  pub tokens : List Token
+  pub closes : (l : Place) → Closes (placed l k) tokens
 
 -- the end of the right side of an assignment
 abbrev end_set : (d : ℕ) (l : Place) (op : Option BinOp) (k : Stack) → (h : EndAssign k) → EndExpr (f_set d l op ∷ k)
@@ -212,7 +212,7 @@ set_closes l k h e =
     by_step (placed l k) (a equals) (a_name ∷ h.closer ∷ h.tokens) (around k) (want (around k) (f_set (around k) l None ∷ k)) e
     (closes_want (around k) (f_set (around k) l None ∷ k) (h.closer ∷ h.tokens) (λ d v. (end_set (around k) l None k h).closes d v))
 
-end_place : {d : ℕ} {k : Stack} {p : List Token} {ms : List ℕ} → InPlace d k p ms → EndPlace k
+pub end_place : {d : ℕ} {k : Stack} {p : List Token} {ms : List ℕ} → InPlace d k p ms → EndPlace k
 unfolding step
 end_place (i_plain {k = k} (i_single i)) = let h = end_assign (i_single i) in record { tokens = a equals ∷ a_name ∷ h.closer ∷ h.tokens; closes = λ l. set_closes l k h refl }
 end_place (i_plain {k = k} (i_last u i)) = let h = end_assign (i_last u i) in record { tokens = a equals ∷ a_name ∷ h.closer ∷ h.tokens; closes = λ l. set_closes l k h refl }
@@ -226,14 +226,14 @@ unfolding power
 named_power = refl
 
 -- `;` behind a name, and behind its value
-record EndNamed (t : Token) (n : List ℕ) (k : Stack) : Type 0 where
-  nesting : ℕ
-  next : Option Part → State
-  goes : (v : Option Part) → after_value t n v k (a semicolon) ≡ go nesting (next v)
-  tokens : List Token
-  closes : (v : Option Part) → Closes (next v) tokens
+pub record EndNamed (t : Token) (n : List ℕ) (k : Stack) : Type 0 where
+  pub nesting : ℕ
+  pub next : Option Part → State
+  pub goes : (v : Option Part) → after_value t n v k (a semicolon) ≡ go nesting (next v)
+  pub tokens : List Token
+  pub closes : (v : Option Part) → Closes (next v) tokens
 
-abbrev end_local : (d : ℕ) (t : Token) (n : List ℕ) (y : TypeText) (xs : List DeclTree) (k : Stack) → EndStmt k → EndNamed t n (f_locals d y xs ∷ k)
+abbrev pub end_local : (d : ℕ) (t : Token) (n : List ℕ) (y : TypeText) (xs : List DeclTree) (k : Stack) → EndStmt k → EndNamed t n (f_locals d y xs ∷ k)
 end_local d t n y xs k h = record {
   nesting = d;
   next = λ v. done (d_locals y (xs ++ decl t n v ∷ []) (a semicolon)) k;
@@ -251,11 +251,11 @@ end_register t r = record {
   closes = λ v. closes_states _ _;
 }
 
-end_named : {d : ℕ} {t : Token} {n : List ℕ} {k : Stack} {p : List Token} {ms : List ℕ} → InNamed d t n k p ms → EndNamed t n k
+pub end_named : {d : ℕ} {t : Token} {n : List ℕ} {k : Stack} {p : List Token} {ms : List ℕ} → InNamed d t n k p ms → EndNamed t n k
 end_named (in_local {d = d} {k = k} {y = y} {xs = xs} t n e (in_decls w m i)) = end_local d t n y xs k (end_stmt i)
 end_named (in_register {r = r} t e f y i) = end_register t r
 
-closes_named : (d : ℕ) (t : Token) (n : List ℕ) (k : Stack) → (h : EndNamed t n k) → Closes (named d t n k) (a semicolon ∷ h.tokens)
+pub closes_named : (d : ℕ) (t : Token) (n : List ℕ) (k : Stack) → (h : EndNamed t n k) → Closes (named d t n k) (a semicolon ∷ h.tokens)
 unfolding step
 closes_named d t n k h = by_step (named d t n k) (a semicolon) h.tokens h.nesting (h.next None) (h.goes None) (h.closes None)
 
@@ -285,7 +285,7 @@ end_test d f y n v k h =
     closed_by (f_test d f y n v) k (a semicolon) (last_tokens h.tokens) closer_power.0 refl (d + 1) (λ e w. assigning (d + 1) (f_last d f y n v w ∷ k)) (λ e w. refl)
     (λ e w. closes_last d f y n v w k h)
 
-abbrev start_tokens : List Token → List Token
+abbrev pub start_tokens : List Token → List Token
 start_tokens ts = a semicolon ∷ a_name ∷ a semicolon ∷ last_tokens ts
 
 abbrev end_start : (d : ℕ) (f : Token) (y : Option TypeText) (n : List ℕ) (k : Stack) → EndStmt k → EndExpr (f_start d f y n ∷ k)
@@ -293,14 +293,14 @@ end_start d f y n k h =
     closed_by (f_start d f y n) k (a semicolon) (a_name ∷ a semicolon ∷ last_tokens h.tokens) closer_power.0 refl (d + 1) (λ e v. want (d + 1) (f_test d f y n v ∷ k)) (λ e v. refl)
     (λ e v. closes_want (d + 1) (f_test d f y n v ∷ k) (a semicolon ∷ last_tokens h.tokens) (end_test d f y n v k h).closes)
 
-closes_for_equals : (d : ℕ) (f : Token) (y : Option TypeText) (n : List ℕ) (k : Stack) → (h : EndStmt k) → Closes (for_equals d f y n k) (a equals ∷ a_name ∷ start_tokens h.tokens)
+pub closes_for_equals : (d : ℕ) (f : Token) (y : Option TypeText) (n : List ℕ) (k : Stack) → (h : EndStmt k) → Closes (for_equals d f y n k) (a equals ∷ a_name ∷ start_tokens h.tokens)
 unfolding step
 closes_for_equals d f y n k h =
     by_step (for_equals d f y n k) (a equals) _ (d + 1) (want (d + 1) (f_start d f y n ∷ k)) refl
     (closes_want (d + 1) (f_start d f y n ∷ k) (start_tokens h.tokens) (end_start d f y n k h).closes)
 
 -- the entries of a table
-closes_table_end : (r : NamedState) (w : ℕ) (xs : List ExprTree) → Closes (table_end r w xs) (a semicolon ∷ a close_brace ∷ a close_brace ∷ [])
+pub closes_table_end : (r : NamedState) (w : ℕ) (xs : List ExprTree) → Closes (table_end r w xs) (a semicolon ∷ a close_brace ∷ a close_brace ∷ [])
 unfolding step
 closes_table_end r w xs =
     by_step (table_end r w xs) (a semicolon) _ 0 (states r.state.within (r.state.before ++ table_tree r.state.first r.ty r.name w xs (a semicolon) ∷ [])) refl (closes_states _ _)
@@ -310,7 +310,7 @@ end_entries r w xs =
     closed_by (f_entries r w xs) [] (a close_brace) (a semicolon ∷ a close_brace ∷ a close_brace ∷ []) close_power.1 refl 0 (λ e v. table_end r w (xs ++ v.tree ∷ [])) (λ e v. refl)
     (λ e v. closes_table_end r w _)
 
-end_expr : {d : ℕ} {k : Stack} {p : List Token} {ms : List ℕ} → InExpr d k p ms → EndExpr k
+pub end_expr : {d : ℕ} {k : Stack} {p : List Token} {ms : List ℕ} → InExpr d k p ms → EndExpr k
 end_expr (i_unary {d = d} {k = k} {op = op} t u i) = pops_expr (f_unary d t op) k (omega arith) (end_expr i)
 end_expr (i_cast {d = d} {k = k} {to = to} o c e f y i) = pops_expr (f_cast d o to) k (omega arith) (end_expr i)
 end_expr (i_binary {d = d} {k = k} {x = x} t o e g i) = pops_expr (f_binary d x t) k (omega (arith, o.low)) (end_expr i)
@@ -345,14 +345,14 @@ end_expr (i_test {d = d} {k = k} {t = f} {y = y} {n = n} {v = v} h i) = end_test
 end_expr (i_entries {r = r} {w = w} {xs = xs} i) = end_entries r w xs
 
 -- ---- what follows a type
-record EndType (k : Stack) : Type 0 where
-  tokens : List Token
-  closes : (y : TypeText) → Closes (typed y k) tokens
+pub record EndType (k : Stack) : Type 0 where
+  pub tokens : List Token
+  pub closes : (y : TypeText) → Closes (typed y k) tokens
 
-entry_tokens : List Token
+pub entry_tokens : List Token
 entry_tokens = a_name ∷ a close_brace ∷ a semicolon ∷ a close_brace ∷ a close_brace ∷ []
 
-closes_table : (k : NamedState) → Closes (table_length k) (a_number ∷ a close_square ∷ a equals ∷ a open_brace ∷ entry_tokens)
+pub closes_table : (k : NamedState) → Closes (table_length k) (a_number ∷ a close_square ∷ a equals ∷ a open_brace ∷ entry_tokens)
 unfolding step entry_tokens
 closes_table k =
     let z = want 0 (f_entries k 0 [] ∷ []) in
@@ -362,7 +362,7 @@ closes_table k =
     (by_step (fixed 0 open_brace [] z) (a open_brace) _ 0 z refl
     (closes_want 0 (f_entries k 0 [] ∷ []) _ (end_entries k 0 []).closes))))
 
-end_type : {d : ℕ} {k : Stack} {p : List Token} {ms : List ℕ} → InType d k p ms → EndType k
+pub end_type : {d : ℕ} {k : Stack} {p : List Token} {ms : List ℕ} → InType d k p ms → EndType k
 unfolding step
 end_type (i_type_cast {d = d} {k = k} o e i) =
     let h = end_expr i in

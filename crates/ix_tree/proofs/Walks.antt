@@ -99,3 +99,8 @@ same_walks {s} (goes {y = y} {ms = ms} t m g v) (goes {y = x} {z = z} {ts = us} 
     let q = same_goes s t m n y x g (ap (step s) a ∙ h) in
     let r = same_walks v (subst (λ (k : State). Walks k us ns z) (sym q.1) w) cc in
     (ap (λ (k : ℕ). k ∷ ms) q.0 ∙ ap (λ (l : List ℕ). n ∷ l) r.0, r.1)
+
+-- each token has its nesting
+pub same_count : {s z : State} {ts : List Token} {ms : List ℕ} → Walks s ts ms z → length ms ≡ length ts
+same_count stands = refl
+same_count (goes t m e w) = let l = same_count w in omega arith
