@@ -207,8 +207,8 @@ closing (r_assembly_next {i = i} x c o e f g h m) = texts_closing i
 closing (r_always_brace {o = o} {xs = xs} {n = n} t e i) = brace_closing o xs t n
 
 -- what leads to a state begins a text
-pub begins : {z : State} {ts : List Token} {ms : List ℕ} → Walks starting ts ms z → Begins ts ms
-begins {z} {ts} {ms} w =
+pub begins_text : {z : State} {ts : List Token} {ms : List ℕ} → Walks starting ts ms z → Begins ts ms
+begins_text {z} {ts} {ms} w =
     let r : Reached z ts ms = reached_by r_starting w in
     let h = closing r in
     record { rest = h.tokens; nestings = h.closes.nestings; tree = h.closes.tree; count = same_count w; is = ends_text z ts h.tokens ms h.closes.nestings h.closes.tree r h.closes.is }

@@ -13,11 +13,11 @@ pub at_stop : (s : State) (t : Token) (ts : List Token) → step s t ≡ stop �
 unfolding run
 at_stop s t ts e = ap (λ (n : Next). elim n as (λ _. Outcome) [ stop ↦ stuck (t ∷ ts) | go m z ↦ then_at m (run z ts) ]) e
 
-at_end : (s : State) → run s [] ≡ finish s
+pub at_end : (s : State) → run s [] ≡ finish s
 unfolding run
 at_end s = refl
 
-no_mark : (s : State) (m : ℕ) (o : Outcome) → finish s ≡ then_at m o → ⊥
+pub no_mark : (s : State) (m : ℕ) (o : Outcome) → finish s ≡ then_at m o → ⊥
 no_mark (ended x) m o e = cc
 no_mark _ m o e = cc
 
