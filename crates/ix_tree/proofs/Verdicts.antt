@@ -92,7 +92,7 @@ deep_is ts n ms m o e l f h =
     let g : n < length ts = subst (λ (k : ℕ). k < length ts) l (marks_within ms ts starting m o e) in
     let c : length (ms ++ m ∷ []) ≡ suc n = length-append ms (m ∷ []) ∙ (omega arith) in
     let w = walks_front (take (suc n) ts) (drop (suc n) ts) (ms ++ m ∷ []) starting o
-        (ap (run starting) (take-append-drop (suc n) ts) ∙ e ∙ sym (marked-append ms (m ∷ []) o)) (c ∙ sym (length-take-le (suc n) ts (omega arith))) in
+    (ap (run starting) (take-append-drop (suc n) ts) ∙ e ∙ sym (marked-append ms (m ∷ []) o)) (c ∙ sym (length-take-le (suc n) ts (omega arith))) in
     record { place = g; nestings = ms; nesting = m; front = begins_text w.walks; flat = f; deep = h }
 
 -- ---- one thing is told

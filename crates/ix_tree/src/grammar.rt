@@ -1,6 +1,7 @@
 ghost use Rattle.std.specs.Prelude.{◌≡◌, map};
 ghost use Rattle.ix_tree.specs.Tokens.{words, symbols};
 ghost use Rattle.ix_tree.specs.Laws.{TreeLaw, NestingLaw, LexingLaw, ExampleLaw};
+ghost use Rattle.ix_tree.specs.Parsing.{VerdictLaw};
 
 use crate::{SYMBOLS, WORDS};
 
@@ -8,6 +9,7 @@ use crate::{SYMBOLS, WORDS};
 pub fn grammar_laws()
     ensures tree { TreeLaw }
     ensures nesting { NestingLaw }
+    ensures verdict { VerdictLaw }
     ensures lexing { LexingLaw }
     ensures example { ExampleLaw }
 {}
