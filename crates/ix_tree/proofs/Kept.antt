@@ -1,19 +1,13 @@
 -- What a step owes: the state that it goes to is reached by the tokens before it and that token.
-use Rattle.std.proofs.Common.{◌≡◌, ℕ, zero, suc, ◌+◌, ◌<◌, ◌≤◌, ◌⊎◌, inl, inr, ⊎_elim, List, [], ◌∷◌, ◌++◌, Bool, true, false, refl, ap, sym, ◌∙◌, subst, append_assoc, append-nil, eqb-true, arith, Option, Some, None, nat_eq, nat_le, add-zero, zero-add}
+use Rattle.std.proofs.Common.{◌≡◌, ℕ, zero, suc, ◌+◌, ◌≤◌, ◌⊎◌, ⊎_elim, List, [], ◌∷◌, ◌++◌, Bool, true, false, refl, ap, sym, ◌∙◌, subst, append_assoc, append-nil, eqb-true, arith, Option, Some, None, nat_eq, nat_le, add-zero, zero-add}
 use Rattle.std.specs.Prelude.{if◌then◌else◌, slice_index_or, ◌&&◌, ◌||◌}
 use Rattle.std.proofs.lemmas.Bool.{and_parts, false≢true}
-use Rattle.std.proofs.lemmas.Bool.Decides.{nat_tests, leb_tells, eqb_tells}
-use Rattle.ix_bits.specs.declared.operator.BinOp.{BinOp}
-use Rattle.ix_bits.specs.declared.operator.BinOp.TheVariants as B
-use Rattle.ix_bits.specs.declared.operator.UnOp.{UnOp}
-use Rattle.ix_bits.specs.declared.operator.UnOp.TheVariants as U
-use Rattle.ix_tree.specs.declared.token.Span.{Span}
+use Rattle.std.proofs.lemmas.Bool.Decides.{nat_tests}
 use Rattle.ix_tree.specs.declared.token.Token.{Token}
 use Rattle.ix_tree.specs.declared.token.TokenKind.{TokenKind}
 use Rattle.ix_tree.specs.declared.token.TokenKind.TheVariants.{Name, Text, Unsized, Sized, Word, Symbol}
 use Rattle.ix_tree.specs.Tokens.{equals, plus_plus, minus_minus, minus, tilde, bang, open_square, question}
-use Rattle.ix_tree.specs.Trees.{ExprTree, e_pc, e_x, e_mem, e_literal, power, powers, Part}
-use Rattle.ix_tree.specs.Productions.{bit_type, one_bit, zero_bit, Done}
+use Rattle.ix_tree.specs.Trees.{power, powers, Part}
 use Rattle.ix_tree.specs.Grammar.{IsOperator, IsUnary, unary_minus, unary_tilde, unary_bang, IsAssignOp, assign_plain, assign_add, assign_sub, assign_mul, assign_and, assign_or, assign_xor, assign_shl, assign_shr, IsStep, step_up, step_down, IsPrimary, primary_unsized, primary_sized, primary_true, primary_false, primary_name, primary_pc, primary_x, primary_mem, IsExpr, is_primary, is_unary, is_cast, is_cast_signed, is_cast_unsigned, is_binary, is_round, is_index, is_range, is_choose, AreMany, no_more, one_more}
 use Rattle.ix_tree.specs.Machine.{Open, State, Next, stop, go, only, is, primary, word_primary, unary_of, step_of, assign_of, power_stmt}
 use Rattle.ix_tree.proofs.Steps.{Follows}

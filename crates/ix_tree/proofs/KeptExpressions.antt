@@ -1,12 +1,11 @@
 -- What a step keeps at expressions.
-use Rattle.std.proofs.Common.{◌≡◌, ℕ, ◌+◌, ◌<◌, ◌≤◌, ◌⊎◌, ⊎_elim, List, [], ◌∷◌, ◌++◌, Bool, true, false, refl, ap, sym, ◌∙◌, append_assoc, append-nil, arith, Option, Some, None, nat_eq}
+use Rattle.std.proofs.Common.{◌≡◌, ℕ, ◌+◌, ◌<◌, ◌≤◌, ⊎_elim, List, [], ◌∷◌, ◌++◌, Bool, false, refl, ap, append_assoc, arith, Option, Some, None, nat_eq}
 use Rattle.std.proofs.lemmas.Bool.Decides.{nat_tests, leb_tells}
 use Rattle.ix_bits.specs.declared.operator.UnOp.{UnOp}
 use Rattle.ix_tree.specs.declared.token.Token.{Token}
 use Rattle.ix_tree.specs.declared.expr.CastTo.{CastTo}
-use Rattle.ix_tree.specs.declared.expr.CastTo.TheVariants as C
 use Rattle.ix_tree.specs.Tokens.{signed_word, unsigned_word, close_brace, close_square, open_round, close_round, semicolon, comma, colon, less}
-use Rattle.ix_tree.specs.Trees.{ExprTree, span, power, Part, before, p_cast}
+use Rattle.ix_tree.specs.Trees.{ExprTree, power, Part, before, p_cast}
 use Rattle.ix_tree.specs.Grammar.{IsUnary, IsPrimary, IsExpr, is_primary, is_unary, is_cast, is_cast_signed, is_cast_unsigned, is_binary, is_round, is_index, is_range, is_choose, some_value, is_x, is_mem, is_mem_range, is_set, IsEntries, last_entry, more_entries, AreMany, no_more, one_more}
 use Rattle.ix_tree.specs.Machine.{NamedState, f_unary, f_cast, f_binary, f_else, f_entries, Stack, want, go, is, primary, unary_of, bare_cast, grip, settle, is_type_word, want_unary, want_primary, begin_expr, after_open, after_cast_word, close, after, act}
 use Rattle.ix_tree.proofs.Steps.{Follows, settle_stop, settle_pop}

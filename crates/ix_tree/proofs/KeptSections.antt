@@ -1,13 +1,13 @@
 -- What a step keeps at sections.
-use Rattle.std.proofs.Common.{◌≡◌, ℕ, List, [], ◌∷◌, ◌++◌, refl, ap, sym, ◌∙◌, append_assoc, append-nil, subst}
+use Rattle.std.proofs.Common.{◌≡◌, ℕ, List, [], ◌∷◌, ◌++◌, refl, sym, ◌∙◌, append_assoc, append-nil, subst}
 use Rattle.ix_bits.specs.declared.number.Ty.{Ty}
 use Rattle.ix_bits.specs.declared.number.Bits.{Bits}
 use Rattle.ix_tree.specs.declared.token.Token.{Token}
 use Rattle.ix_tree.specs.declared.token.TokenKind.{TokenKind}
-use Rattle.ix_tree.specs.declared.token.TokenKind.TheVariants.{Name, Text, Unsized, Sized, Word, Symbol}
+use Rattle.ix_tree.specs.declared.token.TokenKind.TheVariants.{Name, Text, Unsized, Sized}
 use Rattle.ix_tree.specs.declared.section.PieceText.{PieceText}
 use Rattle.ix_tree.specs.Tokens.{instruction_set, extends_word, rv32i_word, architectural_state, instructions_word, always_word, register_word, const_word, assembly_word, behavior_word, open_brace, close_brace, open_square, close_square, semicolon, comma, colon, double_colon, equals}
-use Rattle.ix_tree.specs.Trees.{ExprTree, StateTree, InstrTree, BlockTree, k_instructions, SectionTree, before}
+use Rattle.ix_tree.specs.Trees.{ExprTree, StateTree, InstrTree, BlockTree, k_instructions, SectionTree}
 use Rattle.ix_tree.specs.Productions.{table_tree, section_tree, text_tree}
 use Rattle.ix_tree.specs.Grammar.{IsPiece, is_fixed, is_field, IsPieces, last_piece, more_pieces as pieces_more, AreTexts, last_text, more_texts, no_assembly, one_text, some_texts, IsEntries, is_table, is_register_table, AreMany, no_more, one_more, IsText, is_text}
 use Rattle.ix_tree.specs.Machine.{Open, OpenInstr, OpenState, NamedState, f_entries, want, fixed, starting, set_name, sections, table_length, table_end, piece_square, piece_high, piece_colon, piece_low, piece_end, piece_next, after_pieces, assembly_text, assembly_more, assembly_next, always_brace, only, is, after_section, begin_section, begin_state, after_register, begin_instr, more_pieces, begin_piece, after_assembly, after_comma, width_of, with_number, with_name, act}

@@ -1,15 +1,15 @@
 -- What a step keeps at statements.
-use Rattle.std.proofs.Common.{◌≡◌, ℕ, ◌+◌, ◌<◌, ◌≤◌, List, [], ◌∷◌, ◌++◌, ⊎_elim, Bool, true, false, refl, ap, sym, ◌∙◌, append_assoc, append-nil, arith, Option, Some, None}
+use Rattle.std.proofs.Common.{◌≡◌, ℕ, ◌+◌, ◌<◌, ◌≤◌, List, [], ◌∷◌, ◌++◌, ⊎_elim, refl, ap, sym, ◌∙◌, append_assoc, append-nil, arith, Option, None}
 use Rattle.std.proofs.lemmas.Bool.Decides.{leb_tells}
 use Rattle.ix_tree.specs.declared.token.Token.{Token}
 use Rattle.ix_tree.specs.declared.token.TokenKind.{TokenKind}
-use Rattle.ix_tree.specs.declared.token.TokenKind.TheVariants.{Name, Text, Unsized, Sized, Word, Symbol}
+use Rattle.ix_tree.specs.declared.token.TokenKind.TheVariants.{Name}
 use Rattle.ix_tree.specs.declared.expr.TypeText.{TypeText}
 use Rattle.ix_tree.specs.Tokens.{if_word, else_word, for_word, spawn_word, open_brace, close_brace, open_round, semicolon, equals}
-use Rattle.ix_tree.specs.Trees.{AssignTree, StmtTree, StateTree, InstrTree, BlockTree, k_states, k_instructions, k_always, SectionTree, Part, before}
+use Rattle.ix_tree.specs.Trees.{AssignTree, StmtTree, StateTree, InstrTree, BlockTree, k_states, k_instructions, k_always, SectionTree, Part}
 use Rattle.ix_tree.specs.Productions.{Done, d_for, instr_tree, section_tree}
 use Rattle.ix_tree.specs.Grammar.{IsLoopType, no_type, IsStmt, is_block, is_empty, is_locals, is_assign, is_if, is_if_else, is_for, is_spawn, IsItems, no_items, more_items, is_instr, IsAlways, is_always, IsSection, is_states, is_instructions, is_always_section}
-use Rattle.ix_tree.specs.Machine.{Open, OpenInstr, OpenAlways, Frame, f_branch, f_other, f_loop, f_spawn, f_always, Stack, stmt, if_round, for_round, for_head, for_equals, sections, only, is, hold_stmt, power_stmt, settle_stmt, is_type_word, begin_stmt, in_block, after_section, begin_always, always_done, after_stmt, with_name, act}
+use Rattle.ix_tree.specs.Machine.{Open, OpenInstr, OpenAlways, Frame, f_branch, f_other, f_loop, f_spawn, f_always, Stack, if_round, for_round, for_head, for_equals, only, is, hold_stmt, power_stmt, settle_stmt, is_type_word, begin_stmt, in_block, after_section, begin_always, always_done, after_stmt, with_name, act}
 use Rattle.ix_tree.proofs.Steps.{settle_stmt_pop, settle_stmt_stop}
 use Rattle.ix_tree.proofs.Reached.{is_start, is_test, is_last, IsHead, is_head, InText, in_text, in_section, InStates, InInstrs, InBlocks, in_instr, past_pieces, InBehavior, in_behavior, InStmt, i_behavior, i_branch, i_other, i_loop, i_spawn, i_block, i_always, i_single, i_if, i_start, i_type_locals, i_type_loop, r_want, r_stmt, r_item, r_done, r_done_always, r_if_round, r_for_round, r_for_head, r_for_equals, r_sections, r_instructions, r_always_brace}
 use Rattle.ix_tree.proofs.Kept.{Keeps, halts, keeps, recast, goes_to, along, keep_same, keep_if, keep_only, same_kind, some_power_stmt, most_power_stmt, many_more, section_more}

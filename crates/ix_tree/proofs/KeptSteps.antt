@@ -1,5 +1,5 @@
 -- Each step keeps what was read, so what is accepted derives.
-use Rattle.std.proofs.Common.{◌≡◌, ℕ, List, [], ◌∷◌, ◌++◌, refl, ap, sym, ◌∙◌, subst, append_assoc, append-nil}
+use Rattle.std.proofs.Common.{◌≡◌, ℕ, List, [], ◌∷◌, ◌++◌, refl, sym, subst, append_assoc, append-nil}
 use Rattle.ix_tree.specs.declared.token.Token.{Token}
 use Rattle.ix_tree.specs.Trees.{TextTree}
 use Rattle.ix_tree.specs.Grammar.{no_items, IsText}

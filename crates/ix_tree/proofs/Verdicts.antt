@@ -1,16 +1,16 @@
 -- What the machine's run says of a list of tokens: its tree, the first token that is refused, or the first that nests too deep.
-use Rattle.std.proofs.Common.{◌≡◌, ℕ, zero, suc, ◌+◌, ◌<◌, ◌≤◌, ◌⊎◌, ⊎_elim, List, [], ◌∷◌, ◌++◌, length, refl, ap, sym, ◌∙◌, subst, arith, append-nil}
-use Rattle.std.specs.Prelude.{take, drop, All}
+use Rattle.std.proofs.Common.{◌≡◌, ℕ, zero, suc, ◌<◌, ◌≤◌, ⊎_elim, List, [], ◌∷◌, ◌++◌, length, refl, ap, sym, ◌∙◌, subst, arith}
+use Rattle.std.specs.Prelude.{take, drop}
 use Rattle.std.proofs.Math.Seq.{take-suc, drop-cons}
 use Rattle.std.proofs.Math.ListN.{get_or}
 use Rattle.std.proofs.lemmas.Bool.{cases_order, cases_lt}
-use Rattle.std.proofs.lemmas.List.{length-append, take-append-drop, take-take, length-take-le, take-append-le, take_all}
-use Rattle.std.proofs.lemmas.List.Elements.{All-take}
+use Rattle.std.proofs.lemmas.List.{length-append, take-append-drop, take-take, length-take-le, take-append-le}
+use Rattle.std.proofs.lemmas.List.Elements.{All-take, All-append}
 use Rattle.ix_tree.specs.declared.token.Token.{Token}
 use Rattle.ix_tree.specs.Trees.{TextTree}
 use Rattle.ix_tree.specs.Grammar.{IsText, Derives}
-use Rattle.ix_tree.specs.Machine.{State, starting, Next, stop, go, is, step, Outcome, accept, stuck, then_at, run, marked}
-use Rattle.ix_tree.specs.Parsing.{Begins, IsFlat, IsRefusedAt, IsTooDeepAt, is_tree, refused_at, too_deep_at, VerdictLaw}
+use Rattle.ix_tree.specs.Machine.{State, starting, ended, Next, stop, go, step, Outcome, accept, stuck, then_at, finish, run, marked}
+use Rattle.ix_tree.specs.Parsing.{Begins, IsFlat, IsRefusedAt, IsTooDeepAt, Verdict, is_tree, refused_at, too_deep_at, IsVerdict, VerdictLaw, SomeVerdictLaw}
 use Rattle.ix_tree.proofs.Steps.{one, marked-append}
 use Rattle.ix_tree.proofs.Sections.{accepted}
 use Rattle.ix_tree.proofs.Unique.{unique}
@@ -152,3 +152,45 @@ one_verdict ts (too_deep_at n) (is_tree x) a b = absurd (tree_deep b a)
 one_verdict ts (too_deep_at n) (refused_at k) a b = absurd (refused_deep b a)
 one_verdict ts (too_deep_at n) (too_deep_at k) a b =
     ⊎_elim (λ e. ap too_deep_at e) (λ h. absurd (⊎_elim (λ l. deep_later a b l) (λ l. deep_later b a l) h)) (cases_order n k)
+
+-- ---- something is told
+-- where a run is stuck, the tokens are left that were given no nesting
+record StuckAt (ts l : List Token) (n : ℕ) : Type 0 where
+  left : l ≡ drop n ts
+  within : n ≤ length ts
+
+stuck_end : (s : State) (l : List Token) → finish s ≡ stuck l → l ≡ []
+stuck_end (ended x) l e = cc
+stuck_end _ l e = cc
+
+stuck_on : (t : Token) (ts : List Token) (ms : List ℕ) (s : State) (l : List Token) → ((ns : List ℕ) (y : State) → run y ts ≡ marked ns (stuck l) → StuckAt ts l (length ns))
+    → (n : Next) → step s t ≡ n → run s (t ∷ ts) ≡ marked ms (stuck l)
+    → StuckAt (t ∷ ts) l (length ms)
+stuck_on t ts [] s l ih stop h e =
+    record { left = let q : stuck (t ∷ ts) ≡ stuck l = sym (at_stop s t ts h) ∙ e in let r : l ≡ t ∷ ts = cc in r; within = omega arith }
+stuck_on t ts (m ∷ ms) s l ih stop h e = absurd (let q : stuck (t ∷ ts) ≡ then_at m (marked ms (stuck l)) = sym (at_stop s t ts h) ∙ e in cc)
+stuck_on t ts [] s l ih (go n y) h e = absurd (let q : then_at n (run y ts) ≡ stuck l = sym (one s t ts n y h) ∙ e in cc)
+stuck_on t ts (m ∷ ms) s l ih (go n y) h e =
+    let q : then_at n (run y ts) ≡ then_at m (marked ms (stuck l)) = sym (one s t ts n y h) ∙ e in
+    let r = ih ms y cc in
+    record { left = r.left; within = let w = r.within in omega arith }
+
+stuck_at : (ts : List Token) (ms : List ℕ) (s : State) (l : List Token) → run s ts ≡ marked ms (stuck l) → StuckAt ts l (length ms)
+stuck_at [] [] s l e = record { left = stuck_end s l (sym (at_end s) ∙ e); within = omega arith }
+stuck_at [] (m ∷ ms) s l e = absurd (no_mark s m (marked ms (stuck l)) (sym (at_end s) ∙ e))
+stuck_at (t ∷ ts) ms s l e = stuck_on t ts ms s l (λ ns y h. stuck_at ts ns y l h) (step s t) refl e
+
+flat_more : (ms : List ℕ) (m : ℕ) → IsFlat ms → m ≤ 64 → IsFlat (ms ++ m ∷ [])
+flat_more ms m f l = All-append (λ m. m ≤ 64) ms (m ∷ []) f (λ i d h. let e : i ≡ 0 = omega arith in rw e l)
+
+verdict_from : (ts : List Token) (o : Outcome) (ms : List ℕ) → run starting ts ≡ marked ms o → IsFlat ms → (v : Verdict) × IsVerdict ts v
+verdict_from ts (accept x) ms e f = (is_tree x, tree_is ts ms x e f)
+verdict_from ts (stuck l) ms e f =
+    let r = stuck_at ts ms starting l e in
+    (refused_at (length ms), at_is ts (length ms) ms (e ∙ ap (λ (q : List Token). marked ms (stuck q)) r.left) refl r.within f)
+verdict_from ts (then_at m o) ms e f =
+    ⊎_elim (λ l. (too_deep_at (length ms), deep_is ts (length ms) ms m o e refl f l))
+    (λ l. verdict_from ts o (ms ++ m ∷ []) (e ∙ sym (marked-append ms (m ∷ []) o)) (flat_more ms m f l)) (cases_lt 64 m)
+
+pub some_verdict : SomeVerdictLaw
+some_verdict ts = verdict_from ts (run starting ts) [] refl (λ i d h. absurd (omega arith))

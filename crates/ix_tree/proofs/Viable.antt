@@ -1,20 +1,17 @@
 -- Each state that is reached has tokens that lead to the end of a text.
-use Rattle.std.proofs.Common.{◌≡◌, ℕ, ◌+◌, ◌<◌, ◌≤◌, List, [], ◌∷◌, ◌++◌, Bool, true, false, refl, ap, sym, ◌∙◌, arith, Option, Some, None, zero}
+use Rattle.std.proofs.Common.{◌≡◌, ℕ, ◌+◌, ◌≤◌, List, [], ◌∷◌, ◌++◌, refl, ◌∙◌, arith, Option, Some, None}
 use Rattle.ix_bits.specs.declared.operator.BinOp.{BinOp}
 use Rattle.ix_tree.specs.declared.token.Token.{Token}
 use Rattle.ix_tree.specs.declared.token.TokenKind.{TokenKind}
-use Rattle.ix_tree.specs.declared.token.TokenKind.TheVariants.{Name, Text, Unsized, Sized, Word, Symbol}
+use Rattle.ix_tree.specs.declared.token.TokenKind.TheVariants.{Name, Unsized}
 use Rattle.ix_tree.specs.declared.expr.TypeText.{TypeText}
-use Rattle.ix_tree.specs.declared.expr.TypeKind.TheVariants as T
-use Rattle.ix_tree.specs.declared.expr.CastTo.{CastTo}
 use Rattle.ix_tree.specs.declared.expr.CastTo.TheVariants as C
 use Rattle.ix_tree.specs.Tokens.{open_brace, close_brace, open_square, close_square, close_round, semicolon, colon, equals}
 use Rattle.ix_tree.specs.Trees.{ExprTree, e_name, Place, AssignTree, DeclTree, StmtTree, StateTree, InstrTree, BlockTree, k_states, k_instructions, k_always, SectionTree, TextTree, span, power, Part, before, p_primary, p_round, p_index, p_range}
 use Rattle.ix_tree.specs.Productions.{bit_type, zero_bit, place_name, place_x, place_mem, place_mem_range, assign_set, assign_before, decl, Done, d_block, d_empty, d_locals, d_assign, register_tree, table_tree, instr_tree, section_tree, text_tree}
-use Rattle.ix_tree.specs.Machine.{Open, OpenInstr, NamedState, OpenAlways, Frame, f_unary, f_cast, f_binary, f_round, f_index, f_range, f_then, f_else, f_x, f_mem, f_mem_range, f_step, f_set, f_single, f_last, f_type_cast, f_type_locals, f_type_loop, f_type_register, f_type_table, f_locals, f_value, f_if, f_branch, f_other, f_start, f_test, f_loop, f_spawn, f_block, f_register, f_entries, f_behavior, f_always, Stack, State, want, have, typed, placed, named, stmt, done, for_equals, assigning, fixed, sections, ended, states, instructions, blocks, table_length, table_end, go, is, hold, level, made, hold_stmt, made_stmt, settle_stmt, after_assign, around, after_value, close, begin_stmt, after_section, always_done, begin_section, begin_state, step, accept, run, marked}
-use Rattle.ix_tree.proofs.Steps.{Ends, popped, ends, step_close, EndsStmt, weaken_stmt, popped_stmt, take_one}
+use Rattle.ix_tree.specs.Machine.{Open, OpenInstr, NamedState, OpenAlways, Frame, f_unary, f_cast, f_binary, f_round, f_index, f_range, f_then, f_else, f_x, f_mem, f_mem_range, f_step, f_set, f_single, f_last, f_type_cast, f_type_locals, f_type_loop, f_type_register, f_type_table, f_locals, f_value, f_if, f_branch, f_other, f_start, f_test, f_loop, f_spawn, f_block, f_register, f_entries, f_behavior, f_always, Stack, State, want, have, typed, placed, named, stmt, done, for_equals, assigning, fixed, sections, ended, states, instructions, blocks, table_length, table_end, go, hold, level, made, hold_stmt, made_stmt, settle_stmt, after_assign, around, after_value, close, begin_stmt, after_section, always_done, begin_section, begin_state, step, accept, run, marked}
+use Rattle.ix_tree.proofs.Steps.{Ends, popped, step_close, EndsStmt, weaken_stmt, popped_stmt, take_one}
 use Rattle.ix_tree.proofs.Reached.{InStmt, i_behavior, i_branch, i_other, i_loop, i_spawn, i_block, i_always, InAssign, i_single, i_last, InPlace, i_plain, i_step, in_decls, InNamed, in_local, in_register, InExpr, i_unary, i_cast, i_binary, i_round, i_index, i_range, i_then, i_else, i_x, i_mem, i_mem_range, i_set, i_value, i_if, i_start, i_test, i_entries, InType, i_type_cast, i_type_locals, i_type_loop, i_type_register, i_type_table}
-use Rattle.ix_tree.proofs.Walks.{goes}
 
 -- ---- tokens to go on with
 abbrev pub a : TokenKind → Token

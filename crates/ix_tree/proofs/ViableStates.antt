@@ -1,20 +1,18 @@
 -- What was read, while the machine has refused nothing, begins a text.
-use Rattle.std.proofs.Common.{◌≡◌, ℕ, ◌+◌, List, [], ◌∷◌, ◌++◌, Bool, true, false, refl, ap, sym, ◌∙◌, arith, Option, Some, None, zero, length, length-append}
-use Rattle.ix_bits.specs.declared.number.Ty.{Ty}
-use Rattle.ix_bits.specs.declared.number.Bits.{Bits}
+use Rattle.std.proofs.Common.{◌≡◌, ℕ, ◌+◌, List, [], ◌∷◌, Bool, true, refl, arith, None}
 use Rattle.ix_tree.specs.declared.token.Token.{Token}
 use Rattle.ix_tree.specs.declared.token.TokenKind.{TokenKind}
-use Rattle.ix_tree.specs.declared.token.TokenKind.TheVariants.{Name, Text, Unsized, Sized, Word, Symbol}
+use Rattle.ix_tree.specs.declared.token.TokenKind.TheVariants.{Text, Sized}
 use Rattle.ix_tree.specs.declared.expr.TypeText.{TypeText}
 use Rattle.ix_tree.specs.declared.expr.TypeKind.TheVariants as T
 use Rattle.ix_tree.specs.Tokens.{instruction_set, extends_word, rv32i_word, behavior_word, int_word, open_brace, close_brace, open_square, close_square, open_round, close_round, semicolon, colon, equals, less, greater}
-use Rattle.ix_tree.specs.Trees.{Place, StmtTree, BlockTree, SectionTree, before}
+use Rattle.ix_tree.specs.Trees.{Place, StmtTree, BlockTree, SectionTree}
 use Rattle.ix_tree.specs.Productions.{bit_type, zero_bit, type_text, place_name, Done, d_block, fixed_piece, field_piece}
 use Rattle.ix_tree.specs.Machine.{Open, OpenInstr, NamedState, OpenAlways, f_cast, f_round, f_x, f_mem, f_type_register, f_locals, f_if, f_behavior, f_always, Stack, State, want, have, opened, cast_word, typing, type_less, type_width, type_greater, typed, placing, x_square, mem_square, placed, assigned, naming, named, stmt, item, done, if_round, for_round, for_head, for_equals, assigning, fixed, starting, set_name, sections, state_word, table_length, piece, piece_square, piece_high, piece_colon, piece_low, piece_end, piece_next, after_pieces, assembly_text, assembly_more, assembly_next, always_brace, go, is, sized_type, bare_cast, more_pieces, behavior, after_assembly, next_fixed, step}
 use Rattle.ix_tree.specs.Parsing.{Begins}
 use Rattle.ix_tree.proofs.Reached.{i_plain, in_decls, InExpr, i_round, i_x, i_mem, i_if, i_type_register, Reached, r_want, r_have, r_opened, r_cast_word, r_typing, r_type_less, r_type_width, r_type_greater, r_typed, r_placing, r_x_square, r_mem_square, r_placed, r_assigned, r_naming, r_named, r_stmt, r_item, r_item_always, r_done, r_done_always, r_if_round, r_for_round, r_for_head, r_for_equals, r_assigning, r_fixed, r_starting, r_set_name, r_sections, r_ended, r_states, r_instructions, r_blocks, r_state_word, r_table_length, r_table_end, r_piece, r_piece_square, r_piece_high, r_piece_colon, r_piece_low, r_piece_end, r_piece_next, r_after_pieces, r_assembly_text, r_assembly_more, r_assembly_next, r_always_brace}
 use Rattle.ix_tree.proofs.KeptSteps.{reached_by, ends_text}
-use Rattle.ix_tree.proofs.Walks.{Walks, goes, same_count}
+use Rattle.ix_tree.proofs.Walks.{Walks, same_count}
 use Rattle.ix_tree.proofs.Viable.{a, a_name, a_number, of_name, Closes, Closing, first_step, closes_ended, closes_sections, closes_states, closes_instructions, closes_blocks, closes_done_always, EndStmt, end_behavior, end_stmt, closes_stmt, end_assign, closes_want, pops_expr, EndPlace, end_place, end_local, end_named, closes_named, start_tokens, closes_for_equals, closes_table_end, end_expr, EndType, entry_tokens, closes_table, end_type}
 
 -- ---- expressions, types and places

@@ -2,7 +2,7 @@
 use Rattle.std.proofs.Common.{◌≡◌, ℕ, List, [], ◌∷◌, ◌++◌, length, refl, ap, sym, ◌∙◌, subst, arith}
 use Rattle.ix_tree.specs.declared.token.Token.{Token}
 use Rattle.ix_tree.specs.Trees.{TextTree}
-use Rattle.ix_tree.specs.Machine.{State, ended, Next, stop, go, is, step, Outcome, accept, stuck, then_at, finish, run, marked}
+use Rattle.ix_tree.specs.Machine.{State, ended, Next, stop, go, step, Outcome, accept, stuck, then_at, finish, run, marked}
 use Rattle.ix_tree.proofs.Steps.{one, take_one}
 
 pub data Walks : State → List Token → List ℕ → State → Type 0 where

@@ -1,7 +1,7 @@
 ghost use Rattle.std.specs.Prelude.{◌≡◌, map};
 ghost use Rattle.ix_tree.specs.Tokens.{words, symbols};
 ghost use Rattle.ix_tree.specs.Laws.{TreeLaw, NestingLaw, LexingLaw, ExampleLaw};
-ghost use Rattle.ix_tree.specs.Parsing.{VerdictLaw};
+ghost use Rattle.ix_tree.specs.Parsing.{VerdictLaw, SomeVerdictLaw};
 
 use crate::{SYMBOLS, WORDS};
 
@@ -10,6 +10,7 @@ pub fn grammar_laws()
     ensures tree { TreeLaw }
     ensures nesting { NestingLaw }
     ensures verdict { VerdictLaw }
+    ensures some_verdict { SomeVerdictLaw }
     ensures lexing { LexingLaw }
     ensures example { ExampleLaw }
 {}
