@@ -17,7 +17,7 @@ use Rattle.ix_tree.proofs.Unique.{unique}
 use Rattle.ix_tree.proofs.Reached.{r_starting}
 use Rattle.ix_tree.proofs.KeptSteps.{ends_text}
 use Rattle.ix_tree.proofs.Walks.{Walks, stands, goes, at_stop, at_end, no_mark, Walking, walks_front, walks_all, through, same_walks}
-use Rattle.ix_tree.proofs.Viable.{a, a_name}
+use Rattle.ix_tree.proofs.Viable.{a_name}
 use Rattle.ix_tree.proofs.ViableStates.{begins_text}
 
 -- ---- what begins a text is walked over
