@@ -6,3 +6,14 @@ pub mod Unique
 pub mod Lexemes
 pub mod Parts
 pub mod Derived
+pub mod Walks
+pub mod Reached
+pub mod Kept
+pub mod KeptPlaces
+pub mod KeptExpressions
+pub mod KeptStatements
+pub mod KeptSections
+pub mod KeptSteps
+pub mod Viable
+pub mod ViableStates
+pub mod Verdicts

@@ -48,3 +48,7 @@ IsVerdict ts (too_deep_at n) = IsTooDeepAt ts n
 -- one thing is told of each list of tokens
 abbrev pub VerdictLaw : Type 0
 VerdictLaw = (ts : List Token) (v w : Verdict) → IsVerdict ts v → IsVerdict ts w → v ≡ w
+
+-- and something is
+abbrev pub SomeVerdictLaw : Type 0
+SomeVerdictLaw = (ts : List Token) → (v : Verdict) × IsVerdict ts v

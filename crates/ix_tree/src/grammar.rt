@@ -1,6 +1,7 @@
 ghost use Rattle.std.specs.Prelude.{◌≡◌, map};
 ghost use Rattle.ix_tree.specs.Tokens.{words, symbols};
 ghost use Rattle.ix_tree.specs.Laws.{TreeLaw, NestingLaw, LexingLaw, ExampleLaw};
+ghost use Rattle.ix_tree.specs.Parsing.{VerdictLaw, SomeVerdictLaw};
 
 use crate::{SYMBOLS, WORDS};
 
@@ -8,6 +9,8 @@ use crate::{SYMBOLS, WORDS};
 pub fn grammar_laws()
     ensures tree { TreeLaw }
     ensures nesting { NestingLaw }
+    ensures verdict { VerdictLaw }
+    ensures some_verdict { SomeVerdictLaw }
     ensures lexing { LexingLaw }
     ensures example { ExampleLaw }
 {}
