@@ -1,0 +1,6 @@
+mod Lists
+mod Starts
+mod Reaching
+mod Trails
+mod ChainLists
+mod BoundLists

@@ -1,0 +1,8 @@
+use Rattle.std.proofs.Common.{◌≡◌, ℕ, ◌+◌, ◌*◌, ◌<◌, ◌≤◌, ◌++◌, [], ◌∷◌, List, length, map, take, drop, get_or, reverse, None, is_some, true, filter}
+use Rattle.std.specs.List.{range_with_len, zip, list_any}
+use Rattle.ix_sheet.specs.declared.problem.Bound.TheVariants.{Early, Late, Dep}
+use Rattle.ix_sheet.specs.Behaviours.{node_of, names_op, edges_into, edges_from}
+use Rattle.ix_problem.proofs.problem.edges_of.Given as goal
+
+abbrev pub invariant-ops : goal.invariant-ops
+invariant-ops l = l.edges ++ edges_from l.to (drop l.to l.ops) ≡ edges_from 0 l.ops
