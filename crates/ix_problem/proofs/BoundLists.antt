@@ -1,20 +1,19 @@
 -- The list of all constraints: what it has, and what times that meet it meet.
-use Rattle.std.proofs.Common.{◌≡◌, ℕ, ◌+◌, ◌≤◌, ◌<◌, List, [], ◌∷◌, ◌++◌, length, get_or, map, refl, sym, ◌∙◌, ap, subst, arith}
-use Rattle.std.specs.Prelude.{All, AllPairs, Contains}
+use Rattle.std.proofs.Common.{◌≡◌, ℕ, ◌<◌, List, [], ◌++◌, length, get_or, map, sym, ◌∙◌, ap, subst, arith}
+use Rattle.std.specs.Prelude.{All}
 use Rattle.std.specs.List.{range_with_len}
 use Rattle.std.proofs.lemmas.List.{append_assoc}
-use Rattle.std.proofs.lemmas.List.Elements.{All-append, All-map, All-weaker, All-contains, All-contains_itself, Contains-get_or}
+use Rattle.std.proofs.lemmas.List.Elements.{All-append, All-map, All-contains, All-contains_itself}
 use Rattle.ix_sheet.specs.declared.problem.Bound.{Bound}
 use Rattle.ix_sheet.specs.declared.problem.Bound.TheVariants.{Early, Late, Dep, Chain}
 use Rattle.ix_sheet.specs.declared.problem.Problem.{Problem}
-use Rattle.ix_sheet.specs.Schedules.{node_at, IsValidProblem, IsForward, IsAfter, IsFreePath, IsLegal, first_of, last_of}
-use Rattle.ix_sheet.specs.Bounds.{IsBoundOf, arc_of, rooted, MeetsBound, MeetsAll}
-use Rattle.ix_sheet.specs.Laws.{LegalIsBounds}
-use Rattle.ix_sheet.proofs.Rooted.{rooted_below, rooted_root}
+use Rattle.ix_sheet.specs.Schedules.{IsValidProblem, IsAfter, IsFreePath, first_of, last_of}
+use Rattle.ix_sheet.specs.Bounds.{IsBoundOf, MeetsBound, MeetsAll}
+use Rattle.ix_sheet.proofs.Rooted.{rooted_below}
 use Rattle.ix_sheet.proofs.Paths.{first_inside, last_inside}
 use Rattle.ix_sheet.proofs.BoundLemmas.{legal_is_bounds}
 use Rattle.ix_problem.specs.Constraints.{bounds_with, AreConstraints, MeetWhereLegal}
-use Rattle.ix_problem.specs.Reaches.{Rises, AreChains, HasChains}
+use Rattle.ix_problem.specs.Reaches.{Rises, AreChains}
 use Rattle.ix_problem.proofs.Lists.{all_front, all_back, all_unmap, range_contains, range_below}
 
 abbrev dep_of : ℕ × ℕ → Bound

@@ -1,23 +1,22 @@
 -- Lists of chains: of one source, and of all sources.
-use Rattle.std.proofs.Common.{◌≡◌, ◌≢◌, ℕ, zero, suc, ◌+◌, ◌≤◌, ◌<◌, ◌||◌, ltb, Bool, true, false, List, [], ◌∷◌, ◌++◌, length, get_or, map, Option, Some, None, refl, sym, ◌∙◌, ap, subst, arith, ◌⊎◌, inl, inr}
-use Rattle.std.specs.Prelude.{All, AllPairs, Contains}
+use Rattle.std.proofs.Common.{◌≡◌, ℕ, zero, suc, ◌+◌, ◌≤◌, ◌<◌, ltb, true, false, List, [], ◌∷◌, ◌++◌, length, get_or, map, Option, Some, None, refl, sym, ◌∙◌, ap, subst, arith, ◌⊎◌, inl, inr}
+use Rattle.std.specs.Prelude.{All, Contains}
 use Rattle.std.proofs.lemmas.Bool.{cases_Bool}
 use Rattle.std.proofs.lemmas.Bool.Decides.{nat_tests}
 use Rattle.std.proofs.lemmas.List.{append_assoc, map-append, append-nil}
-use Rattle.std.proofs.lemmas.List.Elements.{All-nil, All-cons, All-head, All-tail, All-append, All-push, All-weaker, All-contains, Contains-append_left, Contains-push, Contains-append_right}
-use Rattle.std.proofs.lemmas.List.Kept.{AllPairs-cons}
+use Rattle.std.proofs.lemmas.List.Elements.{All-nil, All-append, All-push, All-weaker, All-contains, Contains-append_left, Contains-push}
 use Rattle.std.proofs.lemmas.List.Quantifiers.{all_pairs_push}
 use Rattle.ix_sheet.specs.declared.problem.Bound.{Bound}
 use Rattle.ix_sheet.specs.declared.problem.Bound.TheVariants.{Chain}
 use Rattle.ix_sheet.specs.declared.problem.Problem.{Problem}
-use Rattle.ix_sheet.specs.Schedules.{node_at, IsValidProblem, IsAfter, HasFreeEdge, IsFreePath, first_of, last_of, delay_along}
+use Rattle.ix_sheet.specs.Schedules.{IsValidProblem, IsAfter, HasFreeEdge, first_of, last_of}
 use Rattle.ix_sheet.specs.Bounds.{IsBoundOf}
 use Rattle.ix_problem.specs.declared.reach.Reach.{Reach}
-use Rattle.ix_problem.specs.Constraints.{HaveSameEnds, IsGreatest}
-use Rattle.ix_problem.specs.Reaches.{AreStartsOf, reach_at, AreReaches, passes_at, passed_at, IsTrail, IsChainOption, IsPassed, IsChainFrom, Apart, AreChainsFrom, HasChainsOf, Rises, AreChains, HasChains}
+use Rattle.ix_problem.specs.Constraints.{IsGreatest}
+use Rattle.ix_problem.specs.Reaches.{AreStartsOf, reach_at, AreReaches, passes_at, passed_at, IsChainOption, IsPassed, IsChainFrom, Apart, AreChainsFrom, HasChainsOf, Rises, AreChains, HasChains}
 use Rattle.ix_problem.proofs.Lists.{contains_head, contains_tail, all_front, all_back, pairs_append}
 use Rattle.ix_problem.proofs.Reaching.{edge_forward, found_within}
-use Rattle.ix_problem.proofs.Trails.{IsPathTo, trail_path, path_reached}
+use Rattle.ix_problem.proofs.Trails.{trail_path, path_reached}
 
 eq_or_lt : (a b : ℕ) → a < b + 1 → (a ≡ b) ⊎ (a < b)
 eq_or_lt a b h = grind arith
@@ -52,7 +51,14 @@ no_chains p source reaches = record {
 below_more : (p : Problem) (source below : ℕ) (reaches : List (Option Reach)) (path : List ℕ) → IsChainFrom p source below reaches path
     → IsChainFrom p source (below + 1) reaches path
 below_more p source below reaches path c = record {
-  free = c.free; first = c.first; last = omega (arith, c.last); reach = c.reach; found = c.found; delay = c.delay; long = c.long }
+  free = c.free;
+  first = c.first;
+  last = omega (arith, c.last);
+  reach = c.reach;
+  found = c.found;
+  delay = c.delay;
+  long = c.long;
+}
 
 abbrev Covered : Problem → List (Option Reach) → List (List ℕ) → ℕ → Type 0
 Covered p reaches paths j = ((path : List ℕ) × Contains paths path × (last_of path ≡ j)) ⊎ ((k : ℕ) × HasFreeEdge p k j × IsPassed p reaches k)
@@ -103,13 +109,13 @@ chains_push p source below reaches starts paths path reached count inside chains
     } in
     record {
       of = All-push (IsChainFrom p source (below + 1) reaches) paths path
-        (All-weaker (IsChainFrom p source below reaches) (IsChainFrom p source (below + 1) reaches) (below_more p source below reaches) paths chains.of) new;
+          (All-weaker (IsChainFrom p source below reaches) (IsChainFrom p source (below + 1) reaches) (below_more p source below reaches) paths chains.of) new;
       covers = λ j h given. elim (eq_or_lt j below h) [
         | inl last ↦ inl (path, Contains-push paths path, to.last ∙ sym last)
         | inr before ↦ covered_more p reaches paths (path ∷ []) j (chains.covers j before given)
       ];
       once = all_pairs_push Apart paths path chains.once
-        (λ k d within. apart_last p source below reaches (get_or paths k d) path to.last (chains.of k d within));
+          (λ k d within. apart_last p source below reaches (get_or paths k d) path to.last (chains.of k d within));
     }
 
 -- ---- where times rise along the chains of a source, they rise to each operation at which the period is passed
@@ -180,16 +186,16 @@ chains_next : (p : Problem) (source : ℕ) (reaches : List (Option Reach)) (befo
     → AreChains p (source + 1) (before ++ paths)
 chains_next p source reaches before paths valid reached count old chains = record {
   of = All-append (λ path. IsBoundOf p (Chain path)) before paths old.of
-    (All-weaker (IsChainFrom p source (length p.ops) reaches) (λ path. IsBoundOf p (Chain path)) (bound_from p source reaches) paths chains.of);
+      (All-weaker (IsChainFrom p source (length p.ops) reaches) (λ path. IsBoundOf p (Chain path)) (bound_from p source reaches) paths chains.of);
   first = All-append (λ path. first_of path < source + 1) before paths
-    (All-weaker (λ path. first_of path < source) (λ path. first_of path < source + 1) (λ path h. omega arith) before old.first)
-    (All-weaker (IsChainFrom p source (length p.ops) reaches) (λ path. first_of path < source + 1) (λ path c. omega (arith, c.first)) paths chains.of);
+      (All-weaker (λ path. first_of path < source) (λ path. first_of path < source + 1) (λ path h. omega arith) before old.first)
+      (All-weaker (IsChainFrom p source (length p.ops) reaches) (λ path. first_of path < source + 1) (λ path c. omega (arith, c.first)) paths chains.of);
   greatest = All-append (IsGreatest p) before paths old.greatest
-    (All-weaker (IsChainFrom p source (length p.ops) reaches) (IsGreatest p) (greatest_from p source reaches valid reached count) paths chains.of);
+      (All-weaker (IsChainFrom p source (length p.ops) reaches) (IsGreatest p) (greatest_from p source reaches valid reached count) paths chains.of);
   once = pairs_append Apart before paths old.once chains.once
-    (All-weaker (λ path. first_of path < source) (λ x. All (Apart x) paths)
-    (λ x low. All-weaker (IsChainFrom p source (length p.ops) reaches) (Apart x) (λ y. apart_first p source reaches x y low) paths chains.of)
-    before old.first);
+      (All-weaker (λ path. first_of path < source) (λ x. All (Apart x) paths)
+      (λ x low. All-weaker (IsChainFrom p source (length p.ops) reaches) (Apart x) (λ y. apart_first p source reaches x y low) paths chains.of)
+      before old.first);
   enough = enough_next p source reaches before paths valid reached count old chains;
 }
 
@@ -202,7 +208,7 @@ has_next p source first middle last valid old new = record {
   paths = old.paths ++ new.paths;
   chains = chains_next p source new.reaches old.paths new.paths valid new.are new.count old.chains new.chains;
   joined = new.joined ∙ ap (λ (x : List Bound). x ++ map Chain new.paths) old.joined ∙ append_assoc first (map Chain old.paths) (map Chain new.paths)
-    ∙ ap (λ (x : List Bound). first ++ x) (sym (map-append Chain old.paths new.paths));
+      ∙ ap (λ (x : List Bound). first ++ x) (sym (map-append Chain old.paths new.paths));
 }
 
 -- ---- one operation more, in the code's words
@@ -219,8 +225,9 @@ pub chain_some : (p : Problem) (source below : ℕ) (reaches : List (Option Reac
     → AreReaches p source reaches → length reaches ≡ length p.ops → source < length p.ops
     → HasSoFar p source below reaches first now → IsChainOption p.period reaches starts source below chain → chain ≡ Some path → last ≡ now ++ Chain path ∷ []
     → HasSoFar p source (below + 1) reaches first last
-chain_some p source below reaches starts first now last chain path reached count inside old option e more =
-    (old.0 ++ path ∷ [],
-    chains_push p source below reaches starts old.0 path reached count inside old.1 (subst (IsChainOption p.period reaches starts source below) e option),
-    more ∙ ap (λ (x : List Bound). x ++ Chain path ∷ []) old.2 ∙ append_assoc first (map Chain old.0) (Chain path ∷ [])
-    ∙ ap (λ (x : List Bound). first ++ x) (sym (map-append Chain old.0 (path ∷ []))))
+chain_some p source below reaches starts first now last chain path reached count inside old option e more = (
+  old.0 ++ path ∷ [],
+  chains_push p source below reaches starts old.0 path reached count inside old.1 (subst (IsChainOption p.period reaches starts source below) e option),
+  more ∙ ap (λ (x : List Bound). x ++ Chain path ∷ []) old.2 ∙ append_assoc first (map Chain old.0) (Chain path ∷ [])
+      ∙ ap (λ (x : List Bound). first ++ x) (sym (map-append Chain old.0 (path ∷ []))),
+)

@@ -4,3 +4,5 @@ mod Reaching
 mod Trails
 mod ChainLists
 mod BoundLists
+pub mod Places
+mod Additions

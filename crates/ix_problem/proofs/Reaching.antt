@@ -1,15 +1,15 @@
 -- One more operation is reached.
-use Rattle.std.proofs.Common.{◌≡◌, ◌≢◌, ℕ, suc, ◌+◌, ◌*◌, ◌≤◌, ◌<◌, ◌==◌, Bool, true, false, List, [], ◌∷◌, ◌++◌, length, get_or, Option, Some, None, is_some, refl, sym, ◌∙◌, ap, subst, arith, ◌⊎◌, inl, inr}
-use Rattle.std.specs.Prelude.{Contains, All}
+use Rattle.std.proofs.Common.{◌≡◌, ◌≢◌, ℕ, ◌+◌, ◌*◌, ◌≤◌, ◌<◌, ◌==◌, true, List, [], ◌∷◌, ◌++◌, length, get_or, Option, Some, None, is_some, refl, sym, ◌∙◌, ap, subst, arith, ◌⊎◌, inl, inr}
+use Rattle.std.specs.Prelude.{All}
 use Rattle.std.proofs.lemmas.Bool.{cases_Bool, eqb-true, eq-eqb}
 use Rattle.std.proofs.lemmas.List.{get_or_append_left, get_or_push, get_or_default, length_push}
 use Rattle.std.proofs.Math.ListN.{get_or-eq_default}
 use Rattle.std.proofs.lemmas.List.Elements.{All-contains, Contains-get_or}
 use Rattle.ix_sheet.specs.declared.problem.Problem.{Problem}
-use Rattle.ix_sheet.specs.Schedules.{node_at, IsValidProblem, IsForward, HasFreeEdge}
+use Rattle.ix_sheet.specs.Schedules.{IsValidProblem, IsForward, HasFreeEdge}
 use Rattle.ix_problem.specs.declared.reach.Reach.{Reach}
 use Rattle.ix_problem.specs.Reaches.{delay_at, free_into, AreStartsOf, AreAllStarts, reach_at, best_of, with_delay, reach_after, AreWithin, IsStep, ReachesWith, AreReaches, LeadBack}
-use Rattle.ix_problem.proofs.Starts.{best_most, best_from, IsFrom, free_starts_are}
+use Rattle.ix_problem.proofs.Starts.{best_most, best_from, free_starts_are}
 
 pub edge_forward : (p : Problem) (i j : ℕ) → IsValidProblem p → HasFreeEdge p i j → (i < j) × (j < length p.ops)
 edge_forward p i j valid e = All-contains (IsForward p) p.edges (i, j) valid.forward e.0
@@ -71,11 +71,11 @@ step_new p reaches starts at delay r are same e =
     elim (best_from reaches None starts best.0 best.1) [
       | inl old ↦ absurd (none_is_some best.0 old)
       | inr from ↦ record {
-          before = from.start;
-          found = sym (ap (reach_at reaches) parent) ∙ from.found;
-          edge = subst (λ k. HasFreeEdge p k at) parent (are.0 (best.0).parent from.among);
-          delay = omega (arith, total, from.delay, same);
-        }
+        before = from.start;
+        found = sym (ap (reach_at reaches) parent) ∙ from.found;
+        edge = subst (λ k. HasFreeEdge p k at) parent (are.0 (best.0).parent from.among);
+        delay = omega (arith, total, from.delay, same);
+      }
     ]
 
 reaches_new : (p : Problem) (reaches : List (Option Reach)) (starts : List ℕ) (k at delay : ℕ) (q : Reach) → AreStartsOf p at starts → delay ≡ delay_at p at
@@ -123,9 +123,11 @@ module _ (p : Problem) (source delay : ℕ) (reaches : List (Option Reach)) (sta
       elim (eq_or_lt j (length reaches) within) [
         | inl last ↦
             (let other : length reaches ≢ source = λ x. differ (last ∙ x) in
-            let reached = reaches_new p reaches starts k (length reaches) delay q are same (subst (HasFreeEdge p k) last edge) found in
-            (reached.0, ap (reach_at more) last ∙ at_new reaches new ∙ after_other reaches source (length reaches) delay starts other ∙ reached.1,
-            omega (arith, reached.2, ap (delay_at p) last)))
+            let reached = reaches_new p reaches starts k (length reaches) delay q are same (subst (HasFreeEdge p k) last edge) found in (
+              reached.0,
+              ap (reach_at more) last ∙ at_new reaches new ∙ after_other reaches source (length reaches) delay starts other ∙ reached.1,
+              omega (arith, reached.2, ap (delay_at p) last),
+            ))
         | inr before ↦
             (let reached = old.on k j q before differ edge found in
             (reached.0, found_more reaches new j reached.0 reached.1, reached.2))
@@ -210,10 +212,12 @@ kept_more : (p : Problem) (source delay : ℕ) (reaches : List (Option Reach)) (
     → AreStartsOf p (length reaches) starts → delay ≡ delay_at p (length reaches) → delay ≤ most_delay → AreWithin (length reaches * most_delay) reaches
     → Kept p source (length reaches + 1) (reaches ++ reach_after reaches source (length reaches) delay starts ∷ [])
 kept_more p source delay reaches starts valid old are same small within =
-    let new = reach_after reaches source (length reaches) delay starts in
-    (length_push reaches new, reaches_next p source delay reaches starts valid old are same,
-    within_more (length reaches * most_delay + delay) ((length reaches + 1) * most_delay) (reaches ++ new ∷ []) (omega arith)
-    (within_next reaches source (length reaches) delay (length reaches * most_delay) starts within))
+    let new = reach_after reaches source (length reaches) delay starts in (
+      length_push reaches new,
+      reaches_next p source delay reaches starts valid old are same,
+      within_more (length reaches * most_delay + delay) ((length reaches + 1) * most_delay) (reaches ++ new ∷ []) (omega arith)
+          (within_next reaches source (length reaches) delay (length reaches * most_delay) starts within),
+    )
 
 pub kept_push : (p : Problem) (source at delay : ℕ) (reaches last : List (Option Reach)) (starts : List ℕ) → IsValidProblem p → Kept p source at reaches
     → AreStartsOf p at starts → delay ≡ delay_at p at → delay ≤ most_delay → last ≡ reaches ++ reach_after reaches source at delay starts ∷ []

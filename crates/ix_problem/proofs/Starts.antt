@@ -1,10 +1,10 @@
 -- The starts of free edges, and the best of them.
-use Rattle.std.proofs.Common.{◌≡◌, ℕ, zero, suc, ◌+◌, ◌≤◌, ◌<◌, ◌==◌, ◌&&◌, Bool, true, false, cond, leb, List, [], ◌∷◌, length, Option, Some, None, refl, sym, ◌∙◌, ap, subst, arith, ◌⊎◌, inl, inr}
-use Rattle.std.specs.Prelude.{Contains, All}
+use Rattle.std.proofs.Common.{◌≡◌, ℕ, ◌≤◌, ◌==◌, ◌&&◌, Bool, true, leb, List, [], ◌∷◌, Option, Some, None, refl, sym, ◌∙◌, ap, subst, arith, ◌⊎◌, inl, inr}
+use Rattle.std.specs.Prelude.{Contains}
 use Rattle.std.proofs.lemmas.Bool.{cases_Bool, eqb-true, and_parts}
 use Rattle.std.proofs.lemmas.Bool.Decides.{nat_tests}
 use Rattle.ix_sheet.specs.declared.problem.Problem.{Problem}
-use Rattle.ix_sheet.specs.Schedules.{node_at, HasFreeEdge}
+use Rattle.ix_sheet.specs.Schedules.{node_at}
 use Rattle.ix_problem.specs.declared.reach.Reach.{Reach}
 use Rattle.ix_problem.specs.Reaches.{free_into, AreStartsOf, reach_at, better_of, best_of}
 use Rattle.ix_problem.proofs.Lists.{contains_head, contains_tail, contains_cases, contains_nothing}

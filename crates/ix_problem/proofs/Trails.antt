@@ -1,12 +1,12 @@
 -- The path along the operations before is a free path of the greatest delay.
-use Rattle.std.proofs.Common.{◌≡◌, ◌≢◌, ℕ, ◌+◌, ◌≤◌, ◌<◌, List, [], ◌∷◌, ◌++◌, length, reverse, Option, Some, None, is_some, true, refl, sym, ◌∙◌, ap, subst, arith}
+use Rattle.std.proofs.Common.{◌≡◌, ◌≢◌, ℕ, ◌+◌, ◌≤◌, ◌<◌, List, [], ◌∷◌, ◌++◌, length, reverse, Option, Some, None, refl, sym, ◌∙◌, ap, subst, arith}
 use Rattle.std.specs.Prelude.{sum_by, MatchOption}
 use Rattle.std.proofs.lemmas.List.{reverse-append}
 use Rattle.std.proofs.lemmas.List.Sums.{sum_by-cons}
 use Rattle.ix_sheet.specs.declared.problem.Problem.{Problem}
-use Rattle.ix_sheet.specs.Schedules.{node_at, IsValidProblem, HasFreeEdge, Runs, IsFreePath, first_of, last_after, last_of, delay_along}
+use Rattle.ix_sheet.specs.Schedules.{IsValidProblem, HasFreeEdge, Runs, IsFreePath, first_of, last_after, last_of, delay_along}
 use Rattle.ix_problem.specs.declared.reach.Reach.{Reach}
-use Rattle.ix_problem.specs.Reaches.{delay_at, reach_at, IsStep, AreReaches, LeadBack, Follow, IsTrail}
+use Rattle.ix_problem.specs.Reaches.{delay_at, reach_at, AreReaches, LeadBack, Follow, IsTrail}
 use Rattle.ix_problem.proofs.Reaching.{edge_forward}
 
 some_same : (a b : Reach) → Some a ≡ Some b → a ≡ b

@@ -1,5 +1,5 @@
 -- The constraints of a problem (Longnail, the scheduling problem with chained operators; one chain for a pair of ends is this project's choice).
-use Rattle.std.specs.Prelude.{◌≡◌, ℕ, ◌≤◌, ◌<◌, List, ◌++◌, length, map, All, AllPairs}
+use Rattle.std.specs.Prelude.{◌≡◌, ℕ, ◌≤◌, List, ◌++◌, length, map, All, AllPairs}
 use Rattle.std.specs.List.{range_with_len}
 use Rattle.ix_sheet.specs.declared.problem.Bound.{Bound}
 use Rattle.ix_sheet.specs.declared.problem.Bound.TheVariants.{Early, Late, Dep, Chain}

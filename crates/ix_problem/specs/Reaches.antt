@@ -3,7 +3,7 @@ use Rattle.std.specs.Prelude.{◌≡◌, ◌≢◌, ℕ, ◌+◌, ◌<◌, ◌�
 use Rattle.ix_sheet.specs.declared.problem.Bound.{Bound}
 use Rattle.ix_sheet.specs.declared.problem.Bound.TheVariants.{Chain}
 use Rattle.ix_sheet.specs.declared.problem.Problem.{Problem}
-use Rattle.ix_sheet.specs.Schedules.{node_at, HasFreeEdge, Runs, IsFreePath, first_of, last_after, last_of, delay_along, IsAfter}
+use Rattle.ix_sheet.specs.Schedules.{node_at, HasFreeEdge, IsFreePath, first_of, last_after, last_of, delay_along, IsAfter}
 use Rattle.ix_sheet.specs.Bounds.{IsBoundOf}
 use Rattle.ix_problem.specs.declared.reach.Reach.{Reach}
 use Rattle.ix_problem.specs.Constraints.{HaveSameEnds, IsGreatest}

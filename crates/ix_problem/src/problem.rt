@@ -40,12 +40,7 @@ fn node_for(sheet: &Sheet, mode: Mode, op: &Op, spawned: bool) -> Node
     }
 }
 
-fn nodes_of(
-    alloc: Global,
-    graph: &Graph,
-    sheet: &Sheet,
-    mode: Mode,
-) -> Result<List<Node>, Memory>
+fn nodes_of(alloc: Global, graph: &Graph, sheet: &Sheet, mode: Mode) -> Result<List<Node>, Memory>
     requires { length graph.now.spawned ≡ length graph.now.ops }
     ensures { IfOk result (λ nodes. nodes ≡ map (node_of sheet.now mode) (zip graph.now.ops graph.now.spawned)) }
 {

@@ -1,11 +1,5 @@
-use Rattle.std.proofs.Common.{rules, ◌≡◌, ◌++◌, IfOk, OnOk, length, map, ℕ, ◌+◌, ◌-◌, ◌*◌, ◌<◌, ◌≤◌, ◌/◌, ◌%◌, Bool, true, false, nat_eq, nat_lt, List, [], ◌∷◌, slice_index_or, slice_set, bit_and, bit_or, Fits, w8, w32, w64, Bor, MutBor}
-use Rattle.std.specs.List.{range_with_len}
-use Rattle.ix_sheet.specs.declared.problem.Bound.TheVariants.{Early, Late, Dep}
-use Rattle.ix_sheet.specs.Schedules.{IsValidProblem}
-use Rattle.ix_problem.specs.Constraints.{AreConstraints, MeetWhereLegal}
+use Rattle.std.proofs.Common.{length}
 use Rattle.ix_problem.proofs.bounds.constraints.Goals as goal
-use Rattle.std.proofs.Common.{sym, ap, ◌∙◌, ◌++◌, List, [], ◌∷◌, map}
-use Rattle.ix_sheet.specs.declared.problem.Bound.{Bound}
 use Rattle.ix_problem.specs.Reaches.{HasChains}
 use Rattle.ix_problem.proofs.BoundLists.{four_parts, are_constraints, meet_where_legal}
 

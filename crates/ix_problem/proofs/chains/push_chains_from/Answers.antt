@@ -1,13 +1,10 @@
-use Rattle.std.proofs.Common.{rules, ◌≡◌, ◌<◌, IfOk, OnOk, MatchOption, length, All, is_some, true, ℕ, ◌+◌, ◌-◌, ◌*◌, ◌≤◌, ◌/◌, ◌%◌, Bool, false, nat_eq, nat_lt, List, [], ◌∷◌, ◌++◌, slice_index_or, slice_set, bit_and, bit_or, Fits, w8, w32, w64, Bor, MutBor}
-use Rattle.ix_sheet.specs.declared.problem.Bound.TheVariants.{Chain}
-use Rattle.ix_sheet.specs.Schedules.{IsValidProblem}
-use Rattle.ix_problem.specs.Reaches.{AreAllStarts, AreReaches, LeadBack, reach_at, IsTrail, passes_at, passed_at, IsChainOption, HasChainsOf, HasChains}
+use Rattle.std.proofs.Common.{◌≡◌, length, List}
+use Rattle.ix_problem.specs.Reaches.{AreReaches}
 use Rattle.ix_problem.proofs.chains.push_chains_from.Goals as goal
-use Rattle.std.proofs.Common.{subst, sym, ap, ◌∙◌, arith, ◌++◌, List, Some, None, map, [], ◌∷◌}
+use Rattle.std.proofs.Common.{subst, sym, ap, ◌∙◌, arith, List}
 use Rattle.std.specs.Prelude.{Option}
-use Rattle.ix_sheet.specs.declared.problem.Bound.{Bound}
 use Rattle.ix_problem.specs.declared.reach.Reach.{Reach}
-use Rattle.ix_problem.specs.Reaches.{AreStartsOf, AreChainsFrom}
+use Rattle.ix_problem.specs.Reaches.{AreStartsOf}
 use Rattle.ix_problem.proofs.Reaching.{leads_back, starts_at, starts_inside}
 use Rattle.ix_problem.proofs.ChainLists.{chain_none, chain_some}
 use Rattle.ix_problem.proofs.chains.push_chains_from.Goals.{in-Some+in_ok-push, in_default}

@@ -1,6 +1,6 @@
-use Rattle.std.proofs.Common.{◌≡◌, ℕ, ◌+◌, ◌*◌, ◌<◌, ◌≤◌, ◌++◌, [], ◌∷◌, List, length, map, take, drop, get_or, reverse, None, is_some, true, filter}
+use Rattle.std.proofs.Common.{◌≡◌, ℕ, ◌++◌, List, map}
 use Rattle.ix_sheet.specs.declared.problem.Bound.TheVariants.{Chain}
-use Rattle.ix_problem.specs.Reaches.{AreStartsOf, AreWithin, free_into, best_of, AreReaches, reach_at, IsTrail, passed_at, AreChainsFrom, HasChains}
+use Rattle.ix_problem.specs.Reaches.{AreChainsFrom}
 use Rattle.ix_problem.proofs.chains.push_chains_from.Given as goal
 
 abbrev pub invariant-ops : goal.invariant-ops

@@ -1,7 +1,6 @@
-use Rattle.std.proofs.Common.{◌≡◌, ℕ, ◌+◌, ◌*◌, ◌<◌, ◌≤◌, ◌++◌, [], ◌∷◌, List, length, map, take, drop, get_or, reverse, None, is_some, true, filter}
-use Rattle.std.specs.List.{range_with_len, zip, list_any}
-use Rattle.ix_sheet.specs.declared.problem.Bound.TheVariants.{Early, Late, Dep}
-use Rattle.ix_sheet.specs.Behaviours.{node_of, names_op, edges_into, edges_from}
+use Rattle.std.proofs.Common.{◌≡◌, ◌++◌, map, drop}
+use Rattle.std.specs.List.{zip}
+use Rattle.ix_sheet.specs.Behaviours.{node_of}
 use Rattle.ix_problem.proofs.problem.nodes_of.Given as goal
 
 abbrev pub invariant-ops : goal.invariant-ops

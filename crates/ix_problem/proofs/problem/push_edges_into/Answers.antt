@@ -1,10 +1,8 @@
-use Rattle.std.proofs.Common.{rules, ◌≡◌, ◌≤◌, ◌++◌, IfOk, OnOk, length, map, ℕ, ◌+◌, ◌-◌, ◌*◌, ◌<◌, ◌/◌, ◌%◌, Bool, true, false, nat_eq, nat_lt, List, [], ◌∷◌, slice_index_or, slice_set, bit_and, bit_or, Fits, w8, w32, w64, Bor, MutBor}
-use Rattle.std.specs.List.{zip, list_any}
-use Rattle.ix_graph.specs.Graphs.{IsValidGraph}
-use Rattle.ix_sheet.specs.Sheets.{IsValidSheet}
-use Rattle.ix_sheet.specs.Behaviours.{node_of, names_op, edges_into, edges_from, problem_of}
+use Rattle.std.proofs.Common.{◌++◌, ℕ, true, false, List, [], ◌∷◌}
+use Rattle.std.specs.List.{list_any}
+use Rattle.ix_sheet.specs.Behaviours.{names_op}
 use Rattle.ix_problem.proofs.problem.push_edges_into.Goals as goal
-use Rattle.std.proofs.Common.{ap, sym, ◌∙◌, cond}
+use Rattle.std.proofs.Common.{ap, sym, ◌∙◌}
 use Rattle.std.proofs.lemmas.List.{append-nil}
 use Rattle.ix_problem.proofs.Lists.{picked_push}
 use Rattle.ix_problem.proofs.problem.push_edges_into.Goals.{then-has_argument+in_ok-push, else-has_argument}

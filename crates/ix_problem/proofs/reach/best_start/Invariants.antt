@@ -1,5 +1,5 @@
-use Rattle.std.proofs.Common.{◌≡◌, ℕ, ◌+◌, ◌*◌, ◌<◌, ◌≤◌, ◌++◌, [], ◌∷◌, List, length, map, take, drop, get_or, reverse, None, is_some, true, filter}
-use Rattle.ix_problem.specs.Reaches.{AreStartsOf, AreWithin, free_into, best_of, AreReaches, reach_at, IsTrail, passed_at, AreChainsFrom, HasChains}
+use Rattle.std.proofs.Common.{◌≡◌, drop, None}
+use Rattle.ix_problem.specs.Reaches.{best_of}
 use Rattle.ix_problem.proofs.reach.best_start.Given as goal
 
 abbrev pub invariant-starts : goal.invariant-starts

@@ -1,10 +1,8 @@
-use Rattle.std.proofs.Common.{rules, ◌≡◌, ◌<◌, ◌≤◌, ◌*◌, IfOk, length, All, None, ℕ, ◌+◌, ◌-◌, ◌/◌, ◌%◌, Bool, true, false, nat_eq, nat_lt, List, [], ◌∷◌, ◌++◌, slice_index_or, slice_set, bit_and, bit_or, Fits, w8, w32, w64, Bor, MutBor}
-use Rattle.ix_sheet.specs.Schedules.{IsValidProblem}
-use Rattle.ix_problem.specs.Reaches.{AreAllStarts, AreWithin, free_into, better_of, best_of, reach_after, AreReaches}
+use Rattle.std.proofs.Common.{◌≡◌, [], ◌∷◌, ◌++◌}
+use Rattle.ix_problem.specs.Reaches.{free_into}
 use Rattle.ix_problem.proofs.reach.free_starts.Goals as goal
-use Rattle.std.proofs.Common.{sym, ap, ◌∙◌, arith, subst}
-use Rattle.std.proofs.lemmas.List.{length_push}
-use Rattle.ix_problem.specs.Reaches.{AreStartsOf, free_into}
+use Rattle.std.proofs.Common.{arith}
+use Rattle.ix_problem.specs.Reaches.{free_into}
 use Rattle.ix_problem.proofs.Reaching.{grown}
 
 pub ops-preserved : goal.ops-preserved

@@ -1,5 +1,5 @@
-use Rattle.std.proofs.Common.{◌≡◌, ℕ, ◌+◌, ◌*◌, ◌<◌, ◌≤◌, ◌++◌, [], ◌∷◌, List, length, map, take, drop, get_or, reverse, None, is_some, true, filter}
-use Rattle.ix_problem.specs.Reaches.{AreStartsOf, AreWithin, free_into, best_of, AreReaches, reach_at, IsTrail, passed_at, AreChainsFrom, HasChains}
+use Rattle.std.proofs.Common.{◌≡◌, ℕ, ◌<◌, [], length, get_or}
+use Rattle.ix_problem.specs.Reaches.{AreStartsOf}
 use Rattle.ix_problem.proofs.reach.free_starts.Given as goal
 
 abbrev pub invariant-ops : goal.invariant-ops

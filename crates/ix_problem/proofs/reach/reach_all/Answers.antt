@@ -1,11 +1,8 @@
-use Rattle.std.proofs.Common.{rules, ◌≡◌, ◌<◌, ◌≤◌, ◌*◌, IfOk, length, All, None, ℕ, ◌+◌, ◌-◌, ◌/◌, ◌%◌, Bool, true, false, nat_eq, nat_lt, List, [], ◌∷◌, ◌++◌, slice_index_or, slice_set, bit_and, bit_or, Fits, w8, w32, w64, Bor, MutBor}
-use Rattle.ix_sheet.specs.Schedules.{IsValidProblem}
-use Rattle.ix_problem.specs.Reaches.{AreAllStarts, AreWithin, free_into, better_of, best_of, reach_after, AreReaches}
+use Rattle.std.proofs.Common.{◌≡◌, ◌≤◌, length, ℕ, List, [], ◌∷◌, ◌++◌}
+use Rattle.ix_problem.specs.Reaches.{reach_after}
 use Rattle.ix_problem.proofs.reach.reach_all.Goals as goal
 use Rattle.std.proofs.Common.{sym, ap, ◌∙◌, arith, subst, [], ◌∷◌, get_or}
-use Rattle.std.proofs.lemmas.List.{length_push}
-use Rattle.ix_sheet.specs.Schedules.{node_at}
-use Rattle.ix_problem.specs.Reaches.{AreStartsOf, delay_at}
+use Rattle.ix_problem.specs.Reaches.{AreStartsOf}
 use Rattle.ix_problem.proofs.Reaching.{starts_at, starts_inside, kept_push}
 use Rattle.ix_sheet.specs.declared.problem.Node.{Node}
 use Rattle.ix_problem.specs.declared.reach.Reach.{Reach}

@@ -1,6 +1,4 @@
-use Rattle.std.proofs.Common.{rules, ◌≡◌, ◌<◌, ◌≤◌, ◌*◌, IfOk, length, All, None, ℕ, ◌+◌, ◌-◌, ◌/◌, ◌%◌, Bool, true, false, nat_eq, nat_lt, List, [], ◌∷◌, ◌++◌, slice_index_or, slice_set, bit_and, bit_or, Fits, w8, w32, w64, Bor, MutBor}
-use Rattle.ix_sheet.specs.Schedules.{IsValidProblem}
-use Rattle.ix_problem.specs.Reaches.{AreAllStarts, AreWithin, free_into, better_of, best_of, reach_after, AreReaches}
+use Rattle.std.proofs.Common.{◌*◌, length}
 use Rattle.ix_problem.proofs.reach.reach_of.Goals as goal
 use Rattle.std.proofs.Common.{sym, ◌∙◌, arith}
 use Rattle.ix_problem.proofs.Reaching.{best_small}
