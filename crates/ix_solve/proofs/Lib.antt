@@ -1,0 +1,8 @@
+mod Steps
+mod Starts
+mod Rounds
+mod Walks
+mod Lifts
+mod Trails
+mod Paths
+mod Moves

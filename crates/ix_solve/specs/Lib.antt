@@ -1,0 +1,3 @@
+pub mod Search
+pub mod Residual
+pub mod State

@@ -1,0 +1,8 @@
+//! Optimal schedules: the times of least cost, a flow that proves the cost, or a contradiction among the bounds.
+#![tactic(auto)]
+
+mod earliest;
+mod flow;
+mod longest;
+mod residual;
+mod search;
