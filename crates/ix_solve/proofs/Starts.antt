@@ -3,10 +3,12 @@ use Rattle.std.proofs.Common.{◌≡◌, ℕ, zero, suc, ◌≢◌, ◌+◌, ◌
 use Rattle.std.specs.Prelude.{All, Contains}
 use Rattle.std.proofs.lemmas.List.{get_or_append_left, get_or_push, get_or_default}
 use Rattle.ix_sheet.specs.declared.problem.Arc.{Arc}
+use Rattle.ix_sheet.specs.Bounds.{Meets}
+use Rattle.std.proofs.lemmas.List.Elements.{All-weaker}
 use Rattle.ix_solve.specs.declared.search.Step.{Step}
 use Rattle.ix_solve.specs.declared.search.TheConstants.{LIMIT}
-use Rattle.ix_solve.specs.Search.{no_arc, no_step, arc_at, step_at, IsStep, IsReached, HasReached, IsFramed, HasBegun}
-use Rattle.ix_solve.proofs.Steps.{step_old, step_new, keeps_step, placed_one, pushed_reached}
+use Rattle.ix_solve.specs.Search.{no_arc, no_step, arc_at, step_at, IsStep, IsReached, HasReached, IsFramed, HasBegun, IsInside, AreLeast}
+use Rattle.ix_solve.proofs.Steps.{step_old, step_new, keeps_step, placed_one, pushed_reached, least}
 
 same_or_not : (v w : ℕ) → (v ≡ w) ⊎ (v ≢ w)
 same_or_not v w = grind arith
@@ -210,3 +212,45 @@ begun_two n source arcs a first framed b is to0 =
       far = λ j j_in past. none_or_one j j_in;
       apart = λ j k before k_in. (let e : j ≡ 0 = omega arith in let e2 : k ≡ 1 = omega arith in rw (e, e2) (λ same. omega arith));
       inside = λ k pos k_in. (let e : k ≡ 1 = omega arith in rw e (omega arith)) }
+
+-- no node is below the root, and none more than the limit above it
+pub above_root : (n : ℕ) (arcs : List Arc) (t : ℕ → ℕ) → IsFramed n arcs → All (Meets t) arcs → (v : ℕ) → v ≤ n → (t n ≤ t v) × (t v ≤ t n + LIMIT)
+above_root n arcs t framed met v b =
+    elim (lt_or_ge v n) [
+      | inl low ↦
+          (let e = framed.early v low in
+          let l = framed.late v low in
+          let m : Meets t (arc_at arcs v) = met v no_arc (omega (arith, framed.enough)) in
+          let k : Meets t (arc_at arcs (n + v)) = met (n + v) no_arc (omega (arith, framed.enough)) in
+          let a = ap t e.0 in
+          let c = ap t e.1 in
+          let d = ap t l.0 in
+          let f = ap t l.1 in
+          (omega (arith, e.3), omega (arith, l.2, l.3)))
+      | inr high ↦ (let e : t v ≡ t n = ap t (omega arith) in (omega arith, omega arith))
+    ]
+
+-- times told from the root keep what is met
+pub met_from_root : (n : ℕ) (reach times : List ℕ) (arcs : List Arc) → All (IsInside n) arcs →
+    ((v : ℕ) → v ≤ n → get_or times v 0 + get_or reach n 0 ≡ get_or reach v 0) → All (Meets (λ v. get_or reach v 0)) arcs → All (Meets (λ v. get_or times v 0)) arcs
+met_from_root n reach times arcs inside each met k d b =
+    let i = inside k d b in
+    let m = met k d b in
+    let f = each (get_or arcs k d).from i.0 in
+    let t = each (get_or arcs k d).to i.1 in
+    omega arith
+
+-- walks from the root that meet all arcs reach the least times
+pub least_times : (n base cap : ℕ) (arcs : List Arc) (reach last times : List ℕ) (log : List Step) → HasReached n n base cap arcs reach last log → IsFramed n arcs →
+    All (Meets (λ v. get_or reach v 0)) arcs → length times ≡ n + 1 → ((v : ℕ) → v ≤ n → get_or times v 0 + get_or reach n 0 ≡ get_or reach v 0) → AreLeast n arcs times
+least_times n base cap arcs reach last times log h framed met len each = record {
+    len = len;
+    root = (let e = each n (omega arith) in omega arith);
+    met = met_from_root n reach times arcs framed.inside each met;
+    least = λ t all zero_root v b.
+      (let up : All (Meets (λ q. t q + base)) arcs = All-weaker (Meets t) (Meets (λ q. t q + base)) (λ a m. omega arith) arcs all in
+      let l = least n n base cap arcs reach last log h (λ q. t q + base) up (omega arith) v b in
+      let e = each v b in
+      let r = h.root in
+      omega arith);
+  }

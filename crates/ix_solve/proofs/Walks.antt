@@ -2,7 +2,7 @@
 use Rattle.std.proofs.Common.{◌≡◌, ℕ, ◌+◌, ◌≤◌, ◌<◌, List, [], ◌∷◌, ◌++◌, length, get_or, refl, arith, reverse}
 use Rattle.std.specs.Prelude.{sum_by, All}
 use Rattle.std.proofs.lemmas.List.{reverse-append}
-use Rattle.std.proofs.lemmas.List.Elements.{All-cons, All-nil, All-push}
+use Rattle.std.proofs.lemmas.List.Elements.{All-cons, All-nil, All-push, All-head, All-tail}
 use Rattle.std.proofs.lemmas.List.Sums.{sum_by-cons, sum_by_push}
 use Rattle.ix_sheet.specs.declared.problem.Arc.{Arc}
 use Rattle.ix_solve.specs.declared.search.Step.{Step}
@@ -71,8 +71,8 @@ along : (arcs : List Arc) (t : ℕ → ℕ) (a b : ℕ) (ks : List ℕ) → ((k 
 along arcs t a b [] met within leads = rw leads (omega arith)
 along arcs t a b (k ∷ ks) met within leads =
     rw (sum_by-cons (λ x. (arc_at arcs x).up) k ks, sum_by-cons (λ x. (arc_at arcs x).down) k ks, ← leads.0)
-    (let first = met k (within 0 0 (omega arith)) in
-    let later = along arcs t (arc_at arcs k).to b ks met (λ i d h. within (i + 1) d (omega arith)) leads.1 in
+    (let first = met k (All-head (λ x. x < length arcs) k ks within) in
+    let later = along arcs t (arc_at arcs k).to b ks met (All-tail (λ x. x < length arcs) k ks within) leads.1 in
     omega arith)
 
 pub not_closed : (arcs : List Arc) (t : ℕ → ℕ) (ks : List ℕ) → ((k : ℕ) → k < length arcs → t (arc_at arcs k).from + (arc_at arcs k).up ≤ t (arc_at arcs k).to + (arc_at arcs k).down) →

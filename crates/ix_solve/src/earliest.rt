@@ -1,10 +1,10 @@
 //! The least times that meet inequalities, or a contradiction among these.
 
-ghost use Rattle.std.specs.Prelude.{◌≡◌, ℕ, ◌+◌, ◌<◌, ◌≤◌, length, IfOk, All};
+ghost use Rattle.std.specs.Prelude.{◌≡◌, ℕ, ◌+◌, ◌<◌, ◌≤◌, false, length, IfOk, IsTrue, All};
 ghost use Rattle.ix_sheet.specs.Bounds.{Meets};
 ghost use Rattle.ix_solve.specs.Search.{IsFramed, IsSearch, IsInside, IsVisit, IsRound, IsOutcome, IsClosed, Leads, ups, downs, arc_at, reach_at};
 
-use crate::search::{LIMIT, Search, raise, start, times_of};
+use crate::search::{LIMIT, Search, is_met, raise, start, times_of};
 use ix_sheet::Arc;
 use std::alloc::{AllocError, Global};
 
@@ -61,6 +61,17 @@ fn cycle_by(alloc: Global, search: &Search, place: usize, root: u32, arcs: &[Arc
     Ok(cycle)
 }
 
+// whether following an arc passes the last time of its end, which its bound `back` to the root states
+fn is_late(search: &Search, arc: Arc, back: Arc, root: u32) -> bool
+    requires len { length search.now.reach.items ≡ root + 1 }
+    requires inside { arc.from ≤ root }
+    ensures late { IsTrue result → LIMIT + back.down + arc.down < reach_at search.now arc.from + arc.up }
+    ensures fits { result ≡ false → reach_at search.now arc.from + arc.up ≤ LIMIT + back.down + arc.down }
+{
+    let from = search.reach[arc.from as usize] as u64 + arc.up as u64;
+    from > LIMIT as u64 + back.down as u64 + arc.down as u64
+}
+
 // raises the end of the arc at `place` if it is not met
 fn visit(alloc: Global, search: &mut Search, place: usize, root: u32, arcs: &[Arc]) -> Result<Round, AllocError>
     requires framed { IsFramed root arcs.now }
@@ -70,15 +81,14 @@ fn visit(alloc: Global, search: &mut Search, place: usize, root: u32, arcs: &[Ar
     ensures visit { IfOk result (IsVisit arcs.now (arc_at arcs.now place) search.old search.new) }
 {
     let arc = arcs[place];
-    let base = search.reach[arc.from as usize] as u64 + arc.up as u64;
-    if base <= search.reach[arc.to as usize] as u64 + arc.down as u64 {
+    if is_met(search, arc, root) {
         return Ok(Round::Settled);
     }
     if arc.to == root {
         return Ok(Round::Cycle(cycle_by(alloc, search, place, root, arcs)?));
     }
     let back = arcs[root as usize + arc.to as usize];
-    if base > LIMIT as u64 + back.down as u64 + arc.down as u64 {
+    if is_late(search, arc, back, root) {
         return Ok(Round::Cycle(cycle_by(alloc, search, place, root, arcs)?));
     }
     raise(search, place, root, root, arcs)?;

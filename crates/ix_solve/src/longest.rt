@@ -4,7 +4,7 @@ ghost use Rattle.std.specs.Prelude.{◌≡◌, false, ℕ, ◌<◌, ◌≤◌, l
 ghost use Rattle.ix_sheet.specs.Bounds.{Meets, IsTight};
 ghost use Rattle.ix_solve.specs.Search.{IsSearch, IsNetwork, IsLifted, Follows, AreApart, arc_at, reach_at, step_at};
 
-use crate::search::{Search, raise};
+use crate::search::{Search, is_met, raise};
 use ix_sheet::Arc;
 use std::alloc::{AllocError, Global};
 
@@ -17,7 +17,7 @@ fn lift(search: &mut Search, place: usize, root: u32, source: u32, arcs: &[Arc],
     ensures lifted { IfOk result (IsLifted (arc_at arcs.now place) search.old search.new) }
 {
     let arc = arcs[place];
-    if search.reach[arc.from as usize] as u64 + arc.up as u64 <= search.reach[arc.to as usize] as u64 + arc.down as u64 {
+    if is_met(search, arc, root) {
         return Ok(false);
     }
     raise(search, place, root, source, arcs)?;

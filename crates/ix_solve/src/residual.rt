@@ -2,7 +2,7 @@
 
 ghost use Rattle.std.specs.Prelude.{◌≡◌, ℕ, ◌+◌, ◌<◌, ◌≤◌, false, length, IfOk, slice_index, All};
 ghost use Rattle.ix_solve.specs.Search.{step_at};
-ghost use Rattle.ix_solve.specs.Residual.{IsPath, HasMoved, GainsAlong, IsResidual, node_after, other_of, place_at, place_of, places};
+ghost use Rattle.ix_solve.specs.Residual.{IsPath, HasRoom, HasMoved, GainsAlong, IsResidual, node_after, other_of, place_at, place_of, places};
 
 use crate::search::Step;
 use ix_sheet::Arc;
@@ -92,7 +92,9 @@ pub fn room(path: &[Place], amounts: &[u64], most: u64) -> u64
 
 /// Moves an amount along a path from a node.
 pub fn push_along(amounts: &mut [u64], bounds: &[Arc], path: &[Place], amount: u64, from: u32)
-    requires path { IsPath bounds.now amounts.old from amount path.now }
+    requires same { length amounts.old ≡ length bounds.now }
+    requires path { IsPath bounds.now amounts.old from path.now }
+    requires room { HasRoom amounts.old amount path.now }
     ensures moved { HasMoved bounds.now amounts.old amounts.new from (node_after bounds.now from path.now (length path.now)) amount }
     ensures gains { GainsAlong amounts.old amounts.new amount path.now (length path.now) }
 {

@@ -1,7 +1,8 @@
 //! Longest walks over inequalities, kept as a log of steps.
 
-ghost use Rattle.std.specs.Prelude.{◌≡◌, ◌≢◌, ℕ, ◌+◌, ◌<◌, ◌≤◌, length, IfOk, slice_index, sum};
-ghost use Rattle.ix_solve.specs.Search.{IsFramed, IsBegun, IsSearch, arc_at, reach_at};
+ghost use Rattle.std.specs.Prelude.{◌≡◌, ◌≢◌, ℕ, ◌+◌, ◌<◌, ◌≤◌, false, length, IfOk, IsTrue, slice_index, sum};
+ghost use Rattle.ix_sheet.specs.Bounds.{Meets};
+ghost use Rattle.ix_solve.specs.Search.{IsFramed, IsBegun, IsInside, IsSearch, arc_at, reach_at};
 
 use ix_sheet::Arc;
 use std::alloc::{AllocError, Global};
@@ -122,6 +123,18 @@ pub fn start(alloc: Global, root: u32, source: u32, arcs: &[Arc]) -> Result<Sear
     reach.push(at)?;
     last.push(hub)?;
     Ok(Search { reach, last, log })
+}
+
+/// Whether the walks meet an arc.
+pub fn is_met(search: &Search, arc: Arc, root: u32) -> bool
+    requires len { length search.now.reach.items ≡ root + 1 }
+    requires inside { IsInside root arc }
+    ensures met { IsTrue result → Meets (reach_at search.now) arc }
+    ensures unmet { result ≡ false → reach_at search.now arc.to + arc.down < reach_at search.now arc.from + arc.up }
+{
+    let from = search.reach[arc.from as usize] as u64 + arc.up as u64;
+    let to = search.reach[arc.to as usize] as u64 + arc.down as u64;
+    from <= to
 }
 
 /// Follows one more arc, whose end it raises.
