@@ -6,3 +6,5 @@ mod Lifts
 mod Trails
 mod Paths
 mod Moves
+mod Networks
+mod States
