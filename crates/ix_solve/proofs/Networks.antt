@@ -10,8 +10,8 @@ use Rattle.ix_solve.specs.declared.residual.Place.{Place}
 use Rattle.ix_solve.specs.declared.search.Step.{Step}
 use Rattle.ix_solve.specs.Search.{no_arc, arc_at, step_at, IsInside, HasReached, IsFramed, IsNetwork, Follows, AreApart}
 use Rattle.ix_solve.specs.Residual.{place_at, place_of, places, node_after, IsPath, IsResidual, other_of}
-use Rattle.ix_solve.specs.State.{AreTimes, IsLongest}
-use Rattle.ix_solve.proofs.Starts.{above_root, met_from_root}
+use Rattle.ix_solve.specs.State.{AreTimes, IsLongest, AreLeastOver}
+use Rattle.ix_solve.proofs.Starts.{above_root, met_from_root, least_times}
 use Rattle.ix_solve.proofs.Paths.{at_places, path_joined, path_once, path_end, place_way}
 
 lt_or_ge : (a b : ℕ) → (a < b) ⊎ (b ≤ a)
@@ -157,4 +157,21 @@ longest n source target base cap arcs reach last log bounds amounts times js pat
       times = rw et (residual_times n bounds amounts times arcs res framed zero_root (met_from_root n reach times arcs inner.inside each met));
       tight = rw (ep, et, is) (λ k b gone.
         tight_from_root n reach times (arc_at bounds (place_at (places amounts log js) k).at) (framed.inside (place_at (places amounts log js) k).at no_arc (joined k b).0) each (along k b gone));
+    }
+
+-- what a settled search from the root finds
+pub least_over : (n base cap : ℕ) (arcs : List Arc) (reach last times : List ℕ) (log : List Step) (bounds : List Arc) (amounts : List ℕ) →
+    HasReached n n base cap arcs reach last log → IsResidual bounds amounts arcs → IsFramed n bounds → All (Meets (λ v. get_or reach v 0)) arcs →
+    length times ≡ n + 1 → ((v : ℕ) → v ≤ n → get_or times v 0 + get_or reach n 0 ≡ get_or reach v 0) → AreLeastOver n bounds amounts times
+least_over n base cap arcs reach last times log bounds amounts h res framed met len each =
+    let t : ℕ → ℕ = λ v. get_or times v 0 in
+    let least = least_times n base cap arcs reach last times log h (framed_residual n bounds amounts arcs res framed) met len each in
+    let are = residual_times n bounds amounts times arcs res framed least.root least.met in
+    record {
+      len = len;
+      root = least.root;
+      low = are.low;
+      met = are.met;
+      back = λ k b pos. (let e = are.used k b pos in omega arith);
+      least = λ u zero_root first back v b. least.least u (each_residual (Meets u) bounds amounts arcs res (λ k k_in. first k no_arc k_in) back) zero_root v b;
     }

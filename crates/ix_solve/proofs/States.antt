@@ -1,5 +1,5 @@
 -- States before and after an amount is moved.
-use Rattle.std.proofs.Common.{◌≡◌, ℕ, ◌≢◌, ◌+◌, ◌-◌, ◌≤◌, ◌<◌, ◌^◌, ◌==◌, cond, true, false, List, [], ◌++◌, length, get_or, set, take, drop, refl, sym, ◌∙◌, ap, arith, ◌⊎◌, inl, inr, length-set}
+use Rattle.std.proofs.Common.{◌≡◌, ℕ, zero, suc, ◌≢◌, ◌+◌, ◌-◌, ◌≤◌, ◌<◌, ◌^◌, ◌==◌, cond, Bool, true, false, List, [], ◌∷◌, ◌++◌, length, get_or, set, take, drop, refl, sym, ◌∙◌, ap, arith, ◌⊎◌, inl, inr, length-set}
 use Rattle.std.specs.Prelude.{All, sum}
 use Rattle.std.proofs.lemmas.List.{get_or-set_same, get_or-set_other, take-append-le, take_all}
 use Rattle.std.proofs.lemmas.List.Sums.{sum_by-set, sum_by-le, get_or-le-sum_by}
@@ -9,9 +9,10 @@ use Rattle.ix_sheet.specs.declared.problem.Arc.{Arc}
 use Rattle.ix_sheet.specs.Bounds.{IsTight}
 use Rattle.ix_solve.specs.declared.flow.State.{State}
 use Rattle.ix_solve.specs.declared.flow.Longest.{Longest}
-use Rattle.ix_solve.specs.Search.{arc_at}
-use Rattle.ix_solve.specs.Residual.{flow_in, flow_out, place_at, node_after, HasRoom, HasMoved, GainsAlong}
-use Rattle.ix_solve.specs.State.{AreTimes, IsState, IsLongest, KeepsBalance}
+use Rattle.ix_solve.specs.Search.{arc_at, IsFramed, AreLeast}
+use Rattle.ix_solve.specs.Residual.{flow_at, flow_in, flow_out, place_at, node_after, HasRoom, HasMoved, GainsAlong}
+use Rattle.ix_solve.specs.State.{AreTimes, IsState, IsLongest, KeepsBalance, AreDue, MeetBalances}
+use Rattle.ix_solve.proofs.Starts.{above_root}
 
 same_or_not : (v w : ℕ) → (v ≡ w) ⊎ (v ≢ w)
 same_or_not v w = grind arith
@@ -136,3 +137,43 @@ written_back old new n e same =
 -- what is needed is 0 where nothing is to spare
 pub none_needed : (n : ℕ) (bounds : List Arc) (state : State) → IsState n bounds state → All (λ x. x ≡ 0) state.spare.items → sum state.need.items ≡ 0
 none_needed n bounds state h none = h.even ∙ sum_of_none state.spare.items none
+
+nothing : (c : Bool) (x : ℕ) → x ≡ 0 → cond c x 0 ≡ 0
+nothing true x e = e
+nothing false x e = refl
+
+flow_none : (node : Arc → ℕ) (bounds : List Arc) (amounts : List ℕ) (v : ℕ) → ((k : ℕ) → get_or amounts k 0 ≡ 0) → flow_at node bounds amounts v ≡ 0
+flow_none node [] xs v h = refl
+flow_none node (b ∷ bs) [] v h = refl
+flow_none node (b ∷ bs) (x ∷ xs) v h =
+    let rest = flow_none node bs xs v (λ k. h (suc k)) in
+    let z = nothing (node b == v) x (h zero) in
+    omega arith
+
+-- at first nothing is carried
+pub first_state : (n : ℕ) (bounds : List Arc) (state : State) → IsFramed n bounds → AreDue n state.need.items state.spare.items → AreLeast n bounds state.times.items →
+    length state.amounts.items ≡ length bounds → ((k : ℕ) → get_or state.amounts.items k 0 ≡ 0) → IsState n bounds state
+first_state n bounds state framed due least same none = record {
+    amounts_len = same;
+    need_len = due.need_len;
+    spare_len = due.spare_len;
+    times = record {
+      root = least.root;
+      low = λ v b. (let a = above_root n bounds (λ v. get_or state.times.items v 0) framed least.met v b in let z = least.root in omega (arith, a.1));
+      met = least.met;
+      used = λ k b pos. (let z = none k in absurd (omega arith));
+    };
+    even = due.even;
+    room = λ k b. (let z = none k in omega (arith, due.small));
+  }
+
+-- amounts that started at 0 and meet all needs
+pub balances_met : (n : ℕ) (bounds : List Arc) (old new : State) → KeepsBalance bounds old new → ((k : ℕ) → get_or old.amounts.items k 0 ≡ 0) → IsState n bounds new → sum new.need.items ≡ 0 →
+    MeetBalances n bounds old.need.items old.spare.items new.amounts.items
+balances_met n bounds old new kept none h done v b =
+    let i = flow_none (λ a. a.to) bounds old.amounts.items v none in
+    let o = flow_none (λ a. a.from) bounds old.amounts.items v none in
+    let x : get_or new.need.items v 0 ≤ sum new.need.items = get_or-le-sum_by (λ q. q) new.need.items v 0 (omega (arith, h.need_len)) in
+    let y : get_or new.spare.items v 0 ≤ sum new.spare.items = get_or-le-sum_by (λ q. q) new.spare.items v 0 (omega (arith, h.spare_len)) in
+    let k = kept v in
+    omega (arith, h.even)

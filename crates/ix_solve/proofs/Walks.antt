@@ -1,5 +1,5 @@
 -- The walk from the root by which a node was reached, and the way back.
-use Rattle.std.proofs.Common.{◌≡◌, ℕ, ◌+◌, ◌≤◌, ◌<◌, List, [], ◌∷◌, ◌++◌, length, get_or, refl, arith, reverse}
+use Rattle.std.proofs.Common.{◌≡◌, ℕ, ◌+◌, ◌≤◌, ◌<◌, List, [], ◌∷◌, ◌++◌, length, get_or, refl, sym, arith, reverse}
 use Rattle.std.specs.Prelude.{sum_by, All}
 use Rattle.std.proofs.lemmas.List.{reverse-append}
 use Rattle.std.proofs.lemmas.List.Elements.{All-cons, All-nil, All-push, All-head, All-tail}
@@ -80,3 +80,11 @@ pub not_closed : (arcs : List Arc) (t : ℕ → ℕ) (ks : List ℕ) → ((k : �
 not_closed arcs t ks met bad =
     let sums = along arcs t bad.closed.0 bad.closed.0 ks met bad.within bad.closed.1 in
     omega (arith, bad.positive)
+
+-- one arc from a node to itself
+pub loop_closed : (arcs : List Arc) (k : ℕ) → k < length arcs → (arc_at arcs k).from ≡ (arc_at arcs k).to → (arc_at arcs k).down < (arc_at arcs k).up → IsClosed arcs (k ∷ [])
+loop_closed arcs k b same more = record {
+    within = All-cons (λ x. x < length arcs) k [] b (All-nil (λ x. x < length arcs));
+    closed = ((arc_at arcs k).from, (refl, sym same));
+    positive = omega arith;
+  }

@@ -2,7 +2,7 @@
 
 ghost use Rattle.std.specs.Prelude.{◌≡◌, ℕ, ◌<◌, ◌≤◌, length, IfOk, IfSome, IsNone, All, slice_index, sum};
 ghost use Rattle.ix_solve.specs.Search.{IsFramed};
-ghost use Rattle.ix_solve.specs.State.{IsState, IsLongest, AreTimes, KeepsBalance};
+ghost use Rattle.ix_solve.specs.State.{IsState, IsLongest, AreTimes, AreLeastOver, KeepsBalance};
 
 use crate::longest::{settle, trail};
 use crate::residual::{Place, path_of, push_along, residual, room};
@@ -73,6 +73,21 @@ fn first_above(amounts: &[u64]) -> Option<usize>
         }
     }
     None
+}
+
+/// The least times that meet the bounds, and turned round those that carry an amount.
+pub fn least(alloc: Global, amounts: &[u64], times: &[u32], root: u32, bounds: &[Arc]) -> Result<Vec<u32>, AllocError>
+    requires framed { IsFramed root bounds.now }
+    requires same { length amounts.now ≡ length bounds.now }
+    requires times { AreTimes root bounds.now amounts.now times.now }
+    ensures { IfOk result (λ least. AreLeastOver root bounds.now amounts.now least.items) }
+{
+    let arcs = residual(alloc, bounds, amounts)?;
+    let arcs = arcs.as_slice();
+    let mut search = start(alloc, root, root, arcs)?;
+    settle(&mut search, root, root, arcs, times)?;
+    let least = times_of(alloc, &search, root)?;
+    Ok(least)
 }
 
 /// Meets all balances.

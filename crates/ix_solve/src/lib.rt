@@ -4,5 +4,6 @@
 mod earliest;
 mod flow;
 mod longest;
+mod optimum;
 mod residual;
 mod search;
