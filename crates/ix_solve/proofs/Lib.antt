@@ -8,3 +8,6 @@ mod Paths
 mod Moves
 mod Networks
 mod States
+mod Counts
+mod Links
+mod Chosen

@@ -24,14 +24,14 @@ other_test : (w v : ℕ) → v ≢ w → (w == v) ≡ false
 other_test w v ne = grind (arith, nat_tests)
 
 -- what is written at w, told at any v
-lowered : (xs : List ℕ) (w v d : ℕ) → w < length xs → d ≤ get_or xs w 0 → get_or (set xs w (get_or xs w 0 - d)) v 0 + cond (w == v) d 0 ≡ get_or xs v 0
+pub lowered : (xs : List ℕ) (w v d : ℕ) → w < length xs → d ≤ get_or xs w 0 → get_or (set xs w (get_or xs w 0 - d)) v 0 + cond (w == v) d 0 ≡ get_or xs v 0
 lowered xs w v d b h =
     elim (same_or_not v w) [
       | inl e ↦ rw (e, get_or-set_same xs w (get_or xs w 0 - d) 0 b, same_test w) (omega arith)
       | inr ne ↦ rw (get_or-set_other xs w v (get_or xs w 0 - d) 0 ne, other_test w v ne) (omega arith)
     ]
 
-lowered_sum : (xs : List ℕ) (w d : ℕ) → w < length xs → d ≤ get_or xs w 0 → sum (set xs w (get_or xs w 0 - d)) + d ≡ sum xs
+pub lowered_sum : (xs : List ℕ) (w d : ℕ) → w < length xs → d ≤ get_or xs w 0 → sum (set xs w (get_or xs w 0 - d)) + d ≡ sum xs
 lowered_sum xs w d b h =
     let e = sum_by-set (λ x. x) xs w (get_or xs w 0 - d) 0 b in
     omega arith
