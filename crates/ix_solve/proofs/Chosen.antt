@@ -1,7 +1,7 @@
 -- The least times over the residual arcs of a flow are the chosen schedule.
 use Rattle.std.proofs.Common.{◌≡◌, ℕ, ◌+◌, ◌≤◌, ◌<◌, List, length, map, get_or, take, refl, sym, ◌∙◌, ap, arith, ◌⊎◌, inl, inr}
 use Rattle.std.specs.Prelude.{All, slice_index}
-use Rattle.std.proofs.lemmas.List.{get_or-take, length-take}
+use Rattle.std.proofs.lemmas.List.{get_or-take, length-take-le}
 use Rattle.std.proofs.lemmas.List.Elements.{All-weaker, All-from_get_or}
 use Rattle.ix_sheet.specs.declared.problem.Arc.{Arc}
 use Rattle.ix_sheet.specs.declared.problem.Bound.{Bound}
@@ -28,7 +28,7 @@ rooted_times : (p : Problem) (times : List ℕ) → get_or times (length p.ops) 
 rooted_times p times zero_root v b =
     let t = slice_index (take (length p.ops) times) in
     elim (below_or_not v (length p.ops)) [
-      | inl low ↦ rooted_below p t v low ∙ get_or-take times (length p.ops) v 0 low
+      | inl low ↦ rooted_below p t v low ∙ get_or-take (length p.ops) times v 0 low
       | inr high ↦
           (let e : v ≡ length p.ops = omega arith in
           rw (e, rooted_root p t) (sym zero_root))
@@ -79,7 +79,7 @@ least_times p bounds times amounts valid are h =
           let here : MeetsTurned p u (bound_at bounds i) = of_used (MeetsTurned p u) bounds amounts h.amounts_len back i in_bounds pos in
           rw (arc_there p bounds i in_bounds) here) in
         let le = l.least (rooted p u) (rooted_root p u) first second k (omega arith) in
-        let there : get_or (take n times) k 0 ≡ get_or times k 0 = get_or-take times n k 0 b in
+        let there : get_or (take n times) k 0 ≡ get_or times k 0 = get_or-take n times k 0 b in
         let same = rooted_below p u k b in
         omega arith);
     }
@@ -90,6 +90,6 @@ pub settled : (p : Problem) (bounds : List Bound) (times amounts : List ℕ) →
 settled p bounds times amounts valid are h =
     let at = chosen_by_flow p valid (used bounds amounts) (dual_flow p bounds times amounts are.of h) (slice_index (take (length p.ops) times)) (least_times p bounds times amounts valid are h) in
     (record {
-      count = length-take times (length p.ops) (omega (arith, h.least.len));
+      count = length-take-le (length p.ops) times (omega (arith, h.least.len));
       legal = at.chosen.cheapest.legal;
     }, at)

@@ -2,7 +2,7 @@
 use Rattle.std.proofs.Common.{◌≡◌, ℕ, zero, suc, ◌+◌, ◌-◌, ◌*◌, ◌≤◌, ◌<◌, ◌==◌, cond, Bool, true, false, List, [], ◌∷◌, ◌++◌, length, map, get_or, take, refl, sym, ◌∙◌, ap, arith, ◌⊎◌, inl, inr, length-append}
 use Rattle.std.specs.Prelude.{All, Contains, sum_by}
 use Rattle.std.specs.List.{range_with_len}
-use Rattle.std.proofs.lemmas.List.{get_or-map, length-map, get_or-append_right, get_or_append_left}
+use Rattle.std.proofs.lemmas.List.{get_or-map, length-map, get_or-append_right, get_or_append_left, take_more, length-take-le, append-nil}
 use Rattle.std.proofs.lemmas.List.Elements.{All-cons, All-nil, All-head, All-tail, All-weaker, All-from_get_or, All-map}
 use Rattle.std.proofs.lemmas.List.FromFn.{get_or-map-range_with_len, length-map-range_with_len}
 use Rattle.std.proofs.lemmas.List.Sums.{sum_by-cons}
@@ -16,6 +16,9 @@ use Rattle.ix_sheet.specs.Bounds.{arc_of, IsBoundOf, Flow, amount_at, IsDualFlow
 use Rattle.ix_sheet.proofs.BoundLemmas.{ends_inside}
 use Rattle.ix_problem.specs.Constraints.{AreConstraints, bounds_with}
 use Rattle.ix_solve.specs.Answers.{bound_at, used, AreOptimal}
+use Rattle.ix_solve.specs.Balances.{AreBalances}
+use Rattle.ix_solve.specs.State.{IsOptimum}
+use Rattle.ix_solve.specs.declared.balance.Balance.{Balance}
 use Rattle.ix_solve.specs.Residual.{flow_at}
 use Rattle.ix_solve.specs.Search.{no_arc, arc_at, IsFramed, IsInside, IsClosed, Leads}
 
@@ -67,9 +70,13 @@ framed p bounds valid are small =
     let n = length p.ops in
     let long : n + n ≤ length bounds = rw are.are (long_enough p are.paths) in
     let early : (v : ℕ) → v < n → arc_at (arcs_for p bounds) v ≡ arc_of p (Early v)
-        = λ v b. arc_there p bounds v (omega arith) ∙ ap (arc_of p) (rw are.are (early_there p are.paths v b)) in
+        = λ v b.
+          (let is : bound_at bounds v ≡ Early v = rw are.are (early_there p are.paths v b) in
+          arc_there p bounds v (omega arith) ∙ ap (arc_of p) is) in
     let late : (v : ℕ) → v < n → arc_at (arcs_for p bounds) (n + v) ≡ arc_of p (Late v)
-        = λ v b. arc_there p bounds (n + v) (omega arith) ∙ ap (arc_of p) (rw are.are (late_there p are.paths v b)) in
+        = λ v b.
+          (let is : bound_at bounds (n + v) ≡ Late v = rw are.are (late_there p are.paths v b) in
+          arc_there p bounds (n + v) (omega arith) ∙ ap (arc_of p) is) in
     record {
       enough = omega (arith, arcs_long p bounds);
       early = λ v b. rw (early v b) (refl, refl, (small v b).0, refl);
@@ -166,3 +173,52 @@ dual_flow p bounds times amounts of h =
         let e = h.balanced v b in
         omega arith);
     }
+
+used_last_none : (x : ℕ) (b : Bound) → x ≡ 0 → used (b ∷ []) (x ∷ []) ≡ []
+used_last_none x b e = rw e refl
+
+used_last_some : (x : ℕ) (b : Bound) → 0 < x → used (b ∷ []) (x ∷ []) ≡ (b, x) ∷ []
+used_last_some x b pos =
+    elim (none_or_some x) [
+      | inl none ↦ absurd (omega (arith, none.1))
+      | inr some ↦ rw some.0 refl
+    ]
+
+used_append : (bs cs : List Bound) (xs ys : List ℕ) → length xs ≡ length bs → used (bs ++ cs) (xs ++ ys) ≡ used bs xs ++ used cs ys
+used_append [] cs [] ys same = refl
+used_append [] cs (x ∷ xs) ys same = absurd (omega arith)
+used_append (b ∷ bs) cs [] ys same = absurd (omega arith)
+used_append (b ∷ bs) cs (x ∷ xs) ys same =
+    let rest = used_append bs cs xs ys (omega arith) in
+    elim (none_or_some x) [
+      | inl none ↦ rw (none.0, rest) refl
+      | inr some ↦ rw (some.0, rest) refl
+    ]
+
+-- one more bound
+used_more : (bounds : List Bound) (amounts : List ℕ) (k : ℕ) → length amounts ≡ length bounds → k < length bounds →
+    used (take (k + 1) bounds) (take (k + 1) amounts) ≡ used (take k bounds) (take k amounts) ++ used (bound_at bounds k ∷ []) (get_or amounts k 0 ∷ [])
+used_more bounds amounts k same b =
+    rw (take_more bounds k (Early 0) b, take_more amounts k 0 (omega arith))
+    (used_append (take k bounds) (bound_at bounds k ∷ []) (take k amounts) (get_or amounts k 0 ∷ [])
+    (length-take-le k amounts (omega arith) ∙ sym (length-take-le k bounds (omega arith))))
+
+pub used_more_none : (bounds : List Bound) (amounts : List ℕ) (k : ℕ) (flow : Flow) → length amounts ≡ length bounds → k < length bounds → get_or amounts k 0 ≡ 0 →
+    flow ≡ used (take k bounds) (take k amounts) → flow ≡ used (take (k + 1) bounds) (take (k + 1) amounts)
+used_more_none bounds amounts k flow same b none is =
+    rw (used_more bounds amounts k same b, used_last_none (get_or amounts k 0) (bound_at bounds k) none, ← is) (sym (append-nil flow))
+
+pub used_more_some : (bounds : List Bound) (amounts : List ℕ) (k : ℕ) (flow new : Flow) (bound : Bound) → length amounts ≡ length bounds → k < length bounds → 0 < get_or amounts k 0 →
+    flow ≡ used (take k bounds) (take k amounts) → bound ≡ bound_at bounds k → new ≡ flow ++ (bound, get_or amounts k 0) ∷ [] →
+    new ≡ used (take (k + 1) bounds) (take (k + 1) amounts)
+used_more_some bounds amounts k flow new bound same b pos is eb en =
+    rw (used_more bounds amounts k same b, used_last_some (get_or amounts k 0) (bound_at bounds k) pos, ← is, en, eb) refl
+
+-- the balances of the problem
+pub optimal : (p : Problem) (bounds : List Bound) (balance : Balance) (times amounts : List ℕ) → AreBalances p balance →
+    IsOptimum (length p.ops) (arcs_for p bounds) balance.need.items balance.spare.items times amounts → AreOptimal p bounds times amounts
+optimal p bounds balance times amounts h is = record {
+    amounts_len = omega (arith, is.amounts_len, arcs_long p bounds);
+    balanced = λ v b. (let x = is.balanced v b in let y = h.balanced v b in omega arith);
+    least = is.least;
+  }

@@ -2,6 +2,7 @@
 use Rattle.std.specs.Prelude.{ℕ, ◌≡◌, ◌+◌, ◌<◌, ◌==◌, if◌then◌else◌, List, [], ◌∷◌, length, map, slice_index, slice_index_or}
 use Rattle.ix_sheet.specs.declared.problem.Bound.{Bound}
 use Rattle.ix_sheet.specs.declared.problem.Bound.TheVariants.{Early}
+use Rattle.ix_sheet.specs.declared.problem.Node.{Node}
 use Rattle.ix_sheet.specs.declared.problem.Problem.{Problem}
 use Rattle.ix_sheet.specs.Schedules.{IsSchedule, HasSchedule, IsChosen, cost}
 use Rattle.ix_sheet.specs.Bounds.{arc_of, weight_in, weight_out, Flow, IsDualFlow, HasValue, IsContradiction}
@@ -39,3 +40,6 @@ pub record IsSolved (p : Problem) (solved : Solved) : Type 0 where
   pub cost : solved.cost ≡ cost p (slice_index solved.times)
   pub flow : IsDualFlow p solved.flow
   pub value : HasValue p solved.flow solved.cost
+
+abbrev pub no_node : Node
+no_node = record { delay = 0; latency = 0; early = 0; late = 0 }

@@ -1,16 +1,17 @@
-ghost use Rattle.std.specs.Prelude.{◌≡◌, ℕ, ◌≤◌, ◌<◌, length, map, take, IfOk, IfErr, All, slice_index};
+ghost use Rattle.std.specs.Prelude.{◌≡◌, ℕ, ◌≤◌, ◌<◌, length, map, take, IfOk, IfErr, All, slice_index, slice_index_or};
 ghost use Rattle.ix_sheet.specs.Schedules.{IsValidProblem, IsSchedule, HasSchedule, IsChosen, cost};
 ghost use Rattle.ix_sheet.specs.Bounds.{IsBoundOf, arc_of, IsDualFlow, HasValue, IsContradiction};
 ghost use Rattle.ix_problem.specs.Constraints.{AreConstraints};
 ghost use Rattle.ix_solve.specs.Search.{IsClosed};
-ghost use Rattle.ix_solve.specs.Answers.{IsRefusal, AreOptimal, IsSolved, bound_at, used};
+ghost use Rattle.ix_solve.specs.Answers.{no_node, IsRefusal, AreOptimal, IsSolved, bound_at, used};
 
 use crate::balance::{Balance, balances};
 use crate::cost::cost_of;
 use crate::optimum::{Found, optimum};
+use crate::search::LIMIT;
 use ix_bits::{List, Memory};
 use ix_problem::constraints;
-use ix_sheet::{Arc, Bound, Problem, arc_of_bound};
+use ix_sheet::{Arc, Bound, Node, Problem, arc_of_bound};
 use std::alloc::{AllocError, Global};
 
 /// A schedule of least cost, and what shows that none costs less.
@@ -55,6 +56,16 @@ impl From<AllocError> for SolveErr {
     }
 }
 
+// What the type of the times says of each operation. It is for its clause: it changes nothing.
+fn windows_fit(ops: &[Node])
+    ensures { (k : ℕ) → k < length ops.now → ((slice_index_or ops.now k no_node).early ≤ LIMIT) × ((slice_index_or ops.now k no_node).late ≤ LIMIT) }
+{
+    for k in 0..ops.len() {
+        let Node { early, late, .. } = ops[k];
+        prove!(early <= 255 && late <= 255);
+    }
+}
+
 // the inequalities that bounds are
 fn arcs_of(alloc: Global, p: &Problem, bounds: &[Bound]) -> Result<Vec<Arc>, AllocError>
     requires valid { IsValidProblem p.now }
@@ -93,14 +104,15 @@ fn cycle_of(alloc: Global, bounds: &[Bound], places: &[usize]) -> Result<List<Bo
 }
 
 // the bounds that carry an amount
-fn flow_of(alloc: Global, bounds: List<Bound>, amounts: &[u64]) -> Result<List<(Bound, u64)>, Memory>
-    requires { length amounts.now ≡ length bounds }
-    ensures { IfOk result (λ flow. flow ≡ used bounds amounts.now) }
+fn flow_of(alloc: Global, bounds: &[Bound], amounts: &[u64]) -> Result<List<(Bound, u64)>, Memory>
+    requires { length amounts.now ≡ length bounds.now }
+    ensures { IfOk result (λ flow. flow ≡ used bounds.now amounts.now) }
 {
     let mut flow = List::new(alloc);
-    for (k, bound) in bounds.into_vec().into_iter().enumerate() {
+    for k in 0..bounds.len() {
         let amount = amounts[k];
         if amount > 0 {
+            let bound = copy_of(alloc, &bounds[k])?;
             flow.push((bound, amount))?;
         }
     }
@@ -121,10 +133,10 @@ fn times_of(alloc: Global, times: &[u32], ops: usize) -> Result<Vec<u8>, AllocEr
 }
 
 // the answer for the least optimal times over the bounds
-fn answer(alloc: Global, p: &Problem, bounds: List<Bound>, times: &[u32], amounts: &[u64]) -> Result<Solved, Memory>
+fn answer(alloc: Global, p: &Problem, bounds: &[Bound], times: &[u32], amounts: &[u64]) -> Result<Solved, Memory>
     requires valid { IsValidProblem p.now }
-    requires constraints { AreConstraints p.now bounds }
-    requires optimal { AreOptimal p.now bounds times.now amounts.now }
+    requires constraints { AreConstraints p.now bounds.now }
+    requires optimal { AreOptimal p.now bounds.now times.now amounts.now }
     ensures { IfOk result (IsSolved p.now) }
 {
     let times = times_of(alloc, times, p.ops.len())?;
@@ -149,9 +161,10 @@ pub fn solve(alloc: Global, p: &Problem) -> Result<Solved, SolveErr>
 {
     let bounds = constraints(alloc, p)?;
     let arcs = arcs_of(alloc, p, bounds.as_slice())?;
+    windows_fit(p.ops.as_slice());
     let Balance { need, spare } = balances(alloc, p)?;
     match optimum(alloc, p.ops.len() as u32, arcs.as_slice(), need, spare)? {
-        Found::Optimum(times, amounts) => Ok(answer(alloc, p, bounds, times.as_slice(), amounts.as_slice())?),
+        Found::Optimum(times, amounts) => Ok(answer(alloc, p, bounds.as_slice(), times.as_slice(), amounts.as_slice())?),
         Found::Cycle(places) => Err(SolveErr::Cycle(cycle_of(alloc, bounds.as_slice(), places.as_slice())?)),
     }
 }
