@@ -22,3 +22,7 @@ four_lawful = record { reads_late = lit< tt; reads_first = lit≤ tt; reads_near
 
 pub five_lawful : IsLawful 5 1 2 3
 five_lawful = record { reads_late = lit< tt; reads_first = lit≤ tt; reads_near = lit≤ tt; memory_late = lit< tt; memory_inside = lit≤ tt; least = lit≤ tt; most = lit≤ tt }
+
+-- so are those of a core that reads operands one stage later
+pub late_lawful : IsLawful 5 2 3 4
+late_lawful = record { reads_late = lit< tt; reads_first = lit≤ tt; reads_near = lit≤ tt; memory_late = lit< tt; memory_inside = lit≤ tt; least = lit≤ tt; most = lit≤ tt }

@@ -1,0 +1,12 @@
+//! The problem of scheduling a behaviour, and the constraints that its legal schedules meet.
+#![tactic(auto)]
+
+mod bounds;
+mod chains;
+mod problem;
+mod reach;
+#[cfg(test)]
+mod tests;
+
+pub use bounds::constraints;
+pub use problem::problem_of;
