@@ -10,5 +10,7 @@ mod optimum;
 mod residual;
 mod schedule;
 mod search;
+#[cfg(test)]
+mod tests;
 
 pub use schedule::{SolveErr, Solved, solve};
