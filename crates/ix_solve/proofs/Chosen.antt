@@ -63,33 +63,35 @@ least_times p bounds times amounts valid are h =
     record {
       met = are.enough (slice_index (take n times)) (all_met p bounds times valid are.of l.root l.met);
       back = All-weaker (λ (c : Bound × ℕ). MeetsTurned p (slice_index (take n times)) c.0 × (0 < c.1)) (λ c. MeetsTurned p (slice_index (take n times)) c.0) (λ c q. q.0) (used bounds amounts)
-        (each_used (MeetsTurned p (slice_index (take n times))) bounds amounts h.amounts_len
-        (λ k b pos.
-        let here : Meets (λ v. get_or times v 0) (turned (arc_at (arcs_for p bounds) k)) = l.back k (omega arith) pos in
-        turned_met p times (bound_at bounds k) valid (are.of k (Early 0) b) l.root (rw (arc_there p bounds k b) at here)));
+          (each_used (MeetsTurned p (slice_index (take n times))) bounds amounts h.amounts_len
+          (λ k b pos.
+          let here : Meets (λ v. get_or times v 0) (turned (arc_at (arcs_for p bounds) k)) = l.back k (omega arith) pos in
+          turned_met p times (bound_at bounds k) valid (are.of k (Early 0) b) l.root (rw (arc_there p bounds k b) at here)));
       least = λ u met back k b.
-        (let first : All (Meets (rooted p u)) (arcs_for p bounds) = All-from_get_or (Meets (rooted p u)) (arcs_for p bounds) no_arc
+          (let first : All (Meets (rooted p u)) (arcs_for p bounds) = All-from_get_or (Meets (rooted p u)) (arcs_for p bounds) no_arc
           (λ i i_in.
           let in_bounds : i < length bounds = omega arith in
           let here : MeetsBound p u (bound_at bounds i) = met (bound_at bounds i) (are.of i (Early 0) in_bounds) in
           rw (arc_there p bounds i in_bounds) here) in
-        let second : (i : ℕ) → i < length (arcs_for p bounds) → 0 < get_or amounts i 0 → Meets (rooted p u) (turned (arc_at (arcs_for p bounds) i))
+          let second : (i : ℕ) → i < length (arcs_for p bounds) → 0 < get_or amounts i 0 → Meets (rooted p u) (turned (arc_at (arcs_for p bounds) i))
           = λ i i_in pos.
           (let in_bounds : i < length bounds = omega arith in
           let here : MeetsTurned p u (bound_at bounds i) = of_used (MeetsTurned p u) bounds amounts h.amounts_len back i in_bounds pos in
           rw (arc_there p bounds i in_bounds) here) in
-        let le = l.least (rooted p u) (rooted_root p u) first second k (omega arith) in
-        let there : get_or (take n times) k 0 ≡ get_or times k 0 = get_or-take n times k 0 b in
-        let same = rooted_below p u k b in
-        omega arith);
+          let le = l.least (rooted p u) (rooted_root p u) first second k (omega arith) in
+          let there : get_or (take n times) k 0 ≡ get_or times k 0 = get_or-take n times k 0 b in
+          let same = rooted_below p u k b in
+          omega arith);
     }
 
 -- the times are the chosen schedule, and the flow has their cost as value
 pub settled : (p : Problem) (bounds : List Bound) (times amounts : List ℕ) → IsValidProblem p → AreConstraints p bounds → AreOptimal p bounds times amounts →
     IsSchedule p (take (length p.ops) times) × IsChosenAtValue p (used bounds amounts) (slice_index (take (length p.ops) times))
 settled p bounds times amounts valid are h =
-    let at = chosen_by_flow p valid (used bounds amounts) (dual_flow p bounds times amounts are.of h) (slice_index (take (length p.ops) times)) (least_times p bounds times amounts valid are h) in
-    (record {
-      count = length-take-le (length p.ops) times (omega (arith, h.least.len));
-      legal = at.chosen.cheapest.legal;
-    }, at)
+    let at = chosen_by_flow p valid (used bounds amounts) (dual_flow p bounds times amounts are.of h) (slice_index (take (length p.ops) times)) (least_times p bounds times amounts valid are h) in (
+      record {
+        count = length-take-le (length p.ops) times (omega (arith, h.least.len));
+        legal = at.chosen.cheapest.legal;
+      },
+      at,
+    )

@@ -45,7 +45,7 @@ few_edges p valid =
     let codes = map code p.edges in
     let apart = IsDistinct-from_AllPairs Decides-eqb codes (codes_apart p valid) in
     let le : length codes ≤ 4294967296 = length-le_from_distinct_below codes 4294967296 apart
-        (λ q found. All-contains (λ x. x < 4294967296) codes q (code_low p valid) (Contains-from_any (λ x y e. (Decides-eqb x y).0 e) q codes found)) in
+    (λ q found. All-contains (λ x. x < 4294967296) codes q (code_low p valid) (Contains-from_any (λ x y e. (Decides-eqb x y).0 e) q codes found)) in
     omega (arith, length-map p.edges code)
 
 same_or_not : (v w : ℕ) → (v ≡ w) ⊎ (v ≢ w)
@@ -116,11 +116,11 @@ counted_all p m balance valid em h =
       are = record {
         due = record { need_len = h.need_len; spare_len = h.spare_len; even = h.even; small = omega (arith, h.low) };
         balanced = λ v b.
-          (let n = h.need v b in
-          let s = h.spare v b in
-          let i : need_to p m v ≡ weight_in p v = ap (λ es. sum_by (λ e. cond (e.1 == v) (weight_of (node_at p e.0)) 0) es) whole in
-          let o : spare_to p m v ≡ weight_out p v = ap (λ es. sum_by (λ e. cond (e.0 == v) (weight_of (node_at p e.0)) 0) es) whole in
-          omega arith);
+            (let n = h.need v b in
+            let s = h.spare v b in
+            let i : need_to p m v ≡ weight_in p v = ap (λ es. sum_by (λ e. cond (e.1 == v) (weight_of (node_at p e.0)) 0) es) whole in
+            let o : spare_to p m v ≡ weight_out p v = ap (λ es. sum_by (λ e. cond (e.0 == v) (weight_of (node_at p e.0)) 0) es) whole in
+            omega arith);
       };
       netted = λ v b. absurd (omega arith);
     }
@@ -148,14 +148,14 @@ netted_more p i old new both h b eb en es =
     let need_sum = lowered_sum old.need.items i both ni need_low in
     let spare_sum = lowered_sum old.spare.items i both si spare_low in
     let each : (v : ℕ) → v < i + 1 → (get_or (set old.need.items i (get_or old.need.items i 0 - both)) v 0 ≡ 0) ⊎ (get_or (set old.spare.items i (get_or old.spare.items i 0 - both)) v 0 ≡ 0)
-        = λ v v_in. elim (lt_or_last v i v_in) [
-          | inl less ↦
-              (let ne : v ≢ i = omega arith in
-              rw (get_or-set_other old.need.items i v (get_or old.need.items i 0 - both) 0 ne, get_or-set_other old.spare.items i v (get_or old.spare.items i 0 - both) 0 ne) (h.netted v less))
-          | inr last ↦
-              rw (last, get_or-set_same old.need.items i (get_or old.need.items i 0 - both) 0 ni, get_or-set_same old.spare.items i (get_or old.spare.items i 0 - both) 0 si, eb)
-              (one_left (get_or old.need.items i 0) (get_or old.spare.items i 0))
-        ] in
+    = λ v v_in. elim (lt_or_last v i v_in) [
+      | inl less ↦
+          (let ne : v ≢ i = omega arith in
+          rw (get_or-set_other old.need.items i v (get_or old.need.items i 0 - both) 0 ne, get_or-set_other old.spare.items i v (get_or old.spare.items i 0 - both) 0 ne) (h.netted v less))
+      | inr last ↦
+          rw (last, get_or-set_same old.need.items i (get_or old.need.items i 0 - both) 0 ni, get_or-set_same old.spare.items i (get_or old.spare.items i 0 - both) 0 si, eb)
+          (one_left (get_or old.need.items i 0) (get_or old.spare.items i 0))
+    ] in
     record {
       are = record {
         due = record {
@@ -165,10 +165,10 @@ netted_more p i old new both h b eb en es =
           small = rw en (omega (arith, due.small));
         };
         balanced = λ v v_in.
-          (let a = lowered old.need.items i v both ni need_low in
-          let c = lowered old.spare.items i v both si spare_low in
-          let before = h.are.balanced v v_in in
-          rw (en, es) (omega arith));
+            (let a = lowered old.need.items i v both ni need_low in
+            let c = lowered old.spare.items i v both si spare_low in
+            let before = h.are.balanced v v_in in
+            rw (en, es) (omega arith));
       };
       netted = λ v v_in. rw (en, es) (each v v_in);
     }

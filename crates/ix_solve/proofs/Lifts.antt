@@ -24,12 +24,13 @@ lift_allowed n source arcs times reach last log a h net one unmet =
     let inside = All-contains (λ (b : Arc). (b.from ≤ n) × (b.to ≤ n)) arcs a net.inside one in
     let r = least n source LIMIT (LIMIT + LIMIT) arcs reach last log h t met origin a.from inside.0 in
     let m : Meets t a = All-contains (Meets t) arcs a met one in
-    let top = net.bounded a.to inside.1 in
-    ((λ e.
-        (let at : t a.to ≡ t source = ap t e in
-         let at2 : get_or reach a.to 0 ≡ LIMIT = ap (λ v. get_or reach v 0) e ∙ h.root in
-         omega arith)),
-     omega arith)
+    let top = net.bounded a.to inside.1 in (
+      (λ e.
+          (let at : t a.to ≡ t source = ap t e in
+          let at2 : get_or reach a.to 0 ≡ LIMIT = ap (λ v. get_or reach v 0) e ∙ h.root in
+          omega arith)),
+      omega arith,
+    )
 
 pub reach_cap : (n source base cap : ℕ) (arcs : List Arc) (reach last : List ℕ) (log : List Step) → HasReached n source base cap arcs reach last log → sum reach ≤ (n + 1) * cap
 reach_cap n source base cap arcs reach last log h =

@@ -70,13 +70,13 @@ framed p bounds valid are small =
     let n = length p.ops in
     let long : n + n ≤ length bounds = rw are.are (long_enough p are.paths) in
     let early : (v : ℕ) → v < n → arc_at (arcs_for p bounds) v ≡ arc_of p (Early v)
-        = λ v b.
-          (let is : bound_at bounds v ≡ Early v = rw are.are (early_there p are.paths v b) in
-          arc_there p bounds v (omega arith) ∙ ap (arc_of p) is) in
+    = λ v b.
+    (let is : bound_at bounds v ≡ Early v = rw are.are (early_there p are.paths v b) in
+    arc_there p bounds v (omega arith) ∙ ap (arc_of p) is) in
     let late : (v : ℕ) → v < n → arc_at (arcs_for p bounds) (n + v) ≡ arc_of p (Late v)
-        = λ v b.
-          (let is : bound_at bounds (n + v) ≡ Late v = rw are.are (late_there p are.paths v b) in
-          arc_there p bounds (n + v) (omega arith) ∙ ap (arc_of p) is) in
+    = λ v b.
+    (let is : bound_at bounds (n + v) ≡ Late v = rw are.are (late_there p are.paths v b) in
+    arc_there p bounds (n + v) (omega arith) ∙ ap (arc_of p) is) in
     record {
       enough = omega (arith, arcs_long p bounds);
       early = λ v b. rw (early v b) (refl, refl, (small v b).0, refl);
@@ -105,11 +105,11 @@ sums_there f p bounds (k ∷ ks) within =
 
 pub contradiction : (p : Problem) (bounds : List Bound) (ks : List ℕ) → All (IsBoundOf p) bounds → IsClosed (arcs_for p bounds) ks → IsContradiction p (map (bound_at bounds) ks)
 contradiction p bounds ks of closed = record {
-    bounds = All-map (IsBoundOf p) (bound_at bounds) ks
+  bounds = All-map (IsBoundOf p) (bound_at bounds) ks
       (λ i d b. let k_in = closed.within i d b in of (get_or ks i d) (Early 0) (omega (arith, arcs_long p bounds)));
-    closed = (closed.closed.0, leads_there p bounds closed.closed.0 closed.closed.0 ks closed.within closed.closed.1);
-    positive = rw (sums_there (λ a. a.down) p bounds ks closed.within, sums_there (λ a. a.up) p bounds ks closed.within) closed.positive;
-  }
+  closed = (closed.closed.0, leads_there p bounds closed.closed.0 closed.closed.0 ks closed.within closed.closed.1);
+  positive = rw (sums_there (λ a. a.down) p bounds ks closed.within, sums_there (λ a. a.up) p bounds ks closed.within) closed.positive;
+}
 
 none_or_some : (x : ℕ) → (((x == 0) ≡ true) × (x ≡ 0)) ⊎ (((x == 0) ≡ false) × (0 < x))
 none_or_some x = grind (arith, nat_tests)
@@ -168,10 +168,10 @@ dual_flow p bounds times amounts of h =
       bounds = All-weaker (λ (c : Bound × ℕ). IsBoundOf p c.0 × (0 < c.1)) (λ c. IsBoundOf p c.0) (λ c q. q.0) (used bounds amounts) each;
       positive = All-weaker (λ (c : Bound × ℕ). IsBoundOf p c.0 × (0 < c.1)) (λ c. 0 < c.1) (λ c q. q.1) (used bounds amounts) each;
       balanced = λ v b.
-        (let i = amount_used p (λ a. a.to) bounds amounts v in
-        let o = amount_used p (λ a. a.from) bounds amounts v in
-        let e = h.balanced v b in
-        omega arith);
+          (let i = amount_used p (λ a. a.to) bounds amounts v in
+          let o = amount_used p (λ a. a.from) bounds amounts v in
+          let e = h.balanced v b in
+          omega arith);
     }
 
 used_last_none : (x : ℕ) (b : Bound) → x ≡ 0 → used (b ∷ []) (x ∷ []) ≡ []
@@ -218,7 +218,7 @@ used_more_some bounds amounts k flow new bound same b pos is eb en =
 pub optimal : (p : Problem) (bounds : List Bound) (balance : Balance) (times amounts : List ℕ) → AreBalances p balance →
     IsOptimum (length p.ops) (arcs_for p bounds) balance.need.items balance.spare.items times amounts → AreOptimal p bounds times amounts
 optimal p bounds balance times amounts h is = record {
-    amounts_len = omega (arith, is.amounts_len, arcs_long p bounds);
-    balanced = λ v b. (let x = is.balanced v b in let y = h.balanced v b in omega arith);
-    least = is.least;
-  }
+  amounts_len = omega (arith, is.amounts_len, arcs_long p bounds);
+  balanced = λ v b. (let x = is.balanced v b in let y = h.balanced v b in omega arith);
+  least = is.least;
+}

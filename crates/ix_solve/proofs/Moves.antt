@@ -74,14 +74,17 @@ gain_more : (old new : List ℕ) (d : ℕ) (path : List Place) (i y k : ℕ) →
 gain_more old new d path i y k b same grows falls before =
     let p = (place_at path i).at in
     elim (same_or_not k p) [
-      inl e ↦ rw (e, get_or-set_same new p y 0 b)
-        (elim (true_or_false (place_at path i).along) [
-          inl yes' ↦ (let g = grows yes' in inr (omega arith, (i, omega arith, refl, yes')))
-        | inr no' ↦ (let g = falls no' in inl (omega arith)) ])
-    | inr ne ↦ rw (get_or-set_other new p k y 0 ne)
-        (elim before [
-          inl less ↦ inl less
-        | inr more ↦ inr (more.0, (more.1.0, omega (arith, more.1.1), more.1.2, more.1.3)) ]) ]
+      | inl e ↦ rw (e, get_or-set_same new p y 0 b)
+          (elim (true_or_false (place_at path i).along) [
+            | inl yes' ↦ (let g = grows yes' in inr (omega arith, (i, omega arith, refl, yes')))
+            | inr no' ↦ (let g = falls no' in inl (omega arith))
+          ])
+      | inr ne ↦ rw (get_or-set_other new p k y 0 ne)
+          (elim before [
+            | inl less ↦ inl less
+            | inr more ↦ inr (more.0, (more.1.0, omega (arith, more.1.1), more.1.2, more.1.3))
+          ])
+    ]
 
 pub pushed_more : (bounds : List Arc) (old new : List ℕ) (a d : ℕ) (path : List Place) (i y : ℕ) → IsPath bounds old a path → IsPushed bounds old new a d path i →
     i < length path →
@@ -89,10 +92,11 @@ pub pushed_more : (bounds : List Arc) (old new : List ℕ) (a d : ℕ) (path : L
     ((place_at path i).along ≡ false → y + d ≡ get_or new (place_at path i).at 0) →
     IsPushed bounds old (set new (place_at path i).at y) a d path (i + 1)
 pushed_more bounds old new a d path i y is h b grows falls = record {
-    same_len = length-set new (place_at path i).at y ∙ h.same_len;
-    untouched = λ k from k_in. get_or-set_other new (place_at path i).at (place_at path k).at y 0 (turn_ne _ _ (is.once i k (omega arith) k_in)) ∙ h.untouched k (omega arith) k_in;
-    moved = λ v. rw (add-one i) (step_moves bounds old new (place_at path i) a d y v (node_after bounds a path i) h.same_len (is.within i b) (is.joined i b) (h.moved v) grows falls);
-    gains = λ k. gain_more old new d path i y k (omega (arith, is.within i b, h.same_len)) (h.untouched i (omega arith) b) grows falls (h.gains k) }
+  same_len = length-set new (place_at path i).at y ∙ h.same_len;
+  untouched = λ k from k_in. get_or-set_other new (place_at path i).at (place_at path k).at y 0 (turn_ne _ _ (is.once i k (omega arith) k_in)) ∙ h.untouched k (omega arith) k_in;
+  moved = λ v. rw (add-one i) (step_moves bounds old new (place_at path i) a d y v (node_after bounds a path i) h.same_len (is.within i b) (is.joined i b) (h.moved v) grows falls);
+  gains = λ k. gain_more old new d path i y k (omega (arith, is.within i b, h.same_len)) (h.untouched i (omega arith) b) grows falls (h.gains k);
+}
 
 pub one_way : (b : Bool) → b ≡ true → b ≡ false → ⊥
 one_way b p q = cc

@@ -59,11 +59,11 @@ network n source bounds amounts times arcs h res framed source_in =
 
 pub framed_residual : (n : ℕ) (bounds : List Arc) (amounts : List ℕ) (arcs : List Arc) → IsResidual bounds amounts arcs → IsFramed n bounds → IsFramed n arcs
 framed_residual n bounds amounts arcs res framed = record {
-    enough = omega (arith, framed.enough, res.len);
-    early = λ v b. rw (res.along v (omega (arith, framed.enough))) (framed.early v b);
-    late = λ v b. rw (res.along (n + v) (omega (arith, framed.enough))) (framed.late v b);
-    inside = each_residual (IsInside n) bounds amounts arcs res (λ k b. framed.inside k no_arc b) (λ k b pos. let i = framed.inside k no_arc b in (i.1, i.0));
-  }
+  enough = omega (arith, framed.enough, res.len);
+  early = λ v b. rw (res.along v (omega (arith, framed.enough))) (framed.early v b);
+  late = λ v b. rw (res.along (n + v) (omega (arith, framed.enough))) (framed.late v b);
+  inside = each_residual (IsInside n) bounds amounts arcs res (λ k b. framed.inside k no_arc b) (λ k b pos. let i = framed.inside k no_arc b in (i.1, i.0));
+}
 
 both_ways : (t : ℕ → ℕ) (b : Arc) (x : ℕ) → 0 < x → Meets t b → Meets t (other_of b x) → IsTight t b
 both_ways t b x pos along back =
@@ -156,7 +156,7 @@ longest n source target base cap arcs reach last log bounds amounts times js pat
       ends = rw (ep, is, ← h.first_to) end;
       times = rw et (residual_times n bounds amounts times arcs res framed zero_root (met_from_root n reach times arcs inner.inside each met));
       tight = rw (ep, et, is) (λ k b gone.
-        tight_from_root n reach times (arc_at bounds (place_at (places amounts log js) k).at) (framed.inside (place_at (places amounts log js) k).at no_arc (joined k b).0) each (along k b gone));
+          tight_from_root n reach times (arc_at bounds (place_at (places amounts log js) k).at) (framed.inside (place_at (places amounts log js) k).at no_arc (joined k b).0) each (along k b gone));
     }
 
 -- what a settled search from the root finds

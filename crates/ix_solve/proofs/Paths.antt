@@ -29,8 +29,10 @@ residual_more bounds amounts arcs new a i h is en =
       len = length-append arcs (a ∷ []) ∙ omega (arith, h.len);
       along = λ k b. old k (omega arith) ∙ h.along k b;
       against = λ k b. elim (lt_or_last k i b) [
-          inl low ↦ old (length bounds + k) (omega arith) ∙ h.against k low
-        | inr e ↦ rw e (at_end ∙ is) ] })
+        | inl low ↦ old (length bounds + k) (omega arith) ∙ h.against k low
+        | inr e ↦ rw e (at_end ∙ is)
+      ];
+    })
 
 -- a place stands for its residual arc
 record IsPlaced (bounds : List Arc) (p : Place) (a : Arc) : Type 0 where
@@ -50,15 +52,17 @@ placed bounds amounts arcs p h b =
     let m = length amounts in
     let same : length amounts ≡ length bounds = h.same_len in
     elim (low_or_high p m) [
-      inl low ↦ (let p_in : p < length bounds = omega (arith, low.1) in rw (low.0, h.along p p_in) (record { within = p_in; from = refl; to = refl }))
-    | inr high ↦
-        (let k = p - m in
-         let sum : length bounds + k ≡ p = omega (arith, high.1) in
-         let k_in : k < length bounds = omega (arith, h.len) in
-         let e : arc_at arcs p ≡ other_of (arc_at bounds k) (get_or amounts k 0) = ap (λ q. arc_at arcs q) (sym sum) ∙ h.against k k_in in
-         elim (none_or_some (get_or amounts k 0)) [
-           inl none ↦ rw (high.0, e, none) (record { within = k_in; from = refl; to = refl })
-         | inr some ↦ rw (high.0, e, some) (record { within = k_in; from = refl; to = refl }) ]) ]
+      | inl low ↦ (let p_in : p < length bounds = omega (arith, low.1) in rw (low.0, h.along p p_in) (record { within = p_in; from = refl; to = refl }))
+      | inr high ↦
+          (let k = p - m in
+          let sum : length bounds + k ≡ p = omega (arith, high.1) in
+          let k_in : k < length bounds = omega (arith, h.len) in
+          let e : arc_at arcs p ≡ other_of (arc_at bounds k) (get_or amounts k 0) = ap (λ q. arc_at arcs q) (sym sum) ∙ h.against k k_in in
+          elim (none_or_some (get_or amounts k 0)) [
+            | inl none ↦ rw (high.0, e, none) (record { within = k_in; from = refl; to = refl })
+            | inr some ↦ rw (high.0, e, some) (record { within = k_in; from = refl; to = refl })
+          ])
+    ]
 
 -- a trail's step, and the place that it stands for
 step_placed : (n source base cap : ℕ) (arcs : List Arc) (reach last : List ℕ) (log : List Step) (bounds : List Arc) (amounts : List ℕ) (j k : ℕ) →
@@ -131,8 +135,9 @@ path_once n source base cap arcs reach last log bounds amounts t k (j ∷ js) h 
     let to_q = later_to n source base cap arcs reach last log bounds amounts t j js h res f.2 (All-tail (λ j. 0 < j) j js pos) l at.0 in
     let ends = two_ends bounds (place_of amounts (step_at log j).place) (place_of amounts (step_at log q).place) (same ∙ ap (λ (x : Place). x.at) at.1) in
     elim ends [
-      inl e ↦ apart.0 (suc l) 0 (omega (arith, at.0)) (sym to_q ∙ e ∙ (rw p.1 at p.3))
-    | inr e ↦ next_apart log j js apart.1 l at.0 (sym to_q ∙ e ∙ (rw p.1 at p.4)) ]
+      | inl e ↦ apart.0 (suc l) 0 (omega (arith, at.0)) (sym to_q ∙ e ∙ (rw p.1 at p.3))
+      | inr e ↦ next_apart log j js apart.1 l at.0 (sym to_q ∙ e ∙ (rw p.1 at p.4))
+    ]
 path_once n source base cap arcs reach last log bounds amounts t k (j ∷ js) h res f apart pos (suc i) (suc l) lt b same =
     path_once n source base cap arcs reach last log bounds amounts t j js h res f.2 apart.1 (All-tail (λ j. 0 < j) j js pos) i l (omega arith) (omega arith) same
 
@@ -165,12 +170,14 @@ place_way bounds amounts arcs p h b =
     let m = length amounts in
     let same : length amounts ≡ length bounds = h.same_len in
     elim (low_or_high p m) [
-      inl low ↦ rw (low.0) ((λ e. absurd (both true refl e)), (λ _. h.along p (omega (arith, low.1))))
-    | inr high ↦
-        (let k = p - m in
-         let sum : length bounds + k ≡ p = omega (arith, high.1) in
-         let k_in : k < length bounds = omega (arith, h.len) in
-         let e : arc_at arcs p ≡ other_of (arc_at bounds k) (get_or amounts k 0) = ap (λ q. arc_at arcs q) (sym sum) ∙ h.against k k_in in
-         elim (none_or_some2 (get_or amounts k 0)) [
-           inl none ↦ rw (high.0) ((λ e2. absurd (both (get_or amounts k 0 == 0) none.0 e2)), (λ _. rw (e, none.0) refl))
-         | inr some ↦ rw (high.0) ((λ _. some.1), (λ e2. absurd (both (get_or amounts k 0 == 0) e2 some.0))) ]) ]
+      | inl low ↦ rw (low.0) ((λ e. absurd (both true refl e)), (λ _. h.along p (omega (arith, low.1))))
+      | inr high ↦
+          (let k = p - m in
+          let sum : length bounds + k ≡ p = omega (arith, high.1) in
+          let k_in : k < length bounds = omega (arith, h.len) in
+          let e : arc_at arcs p ≡ other_of (arc_at bounds k) (get_or amounts k 0) = ap (λ q. arc_at arcs q) (sym sum) ∙ h.against k k_in in
+          elim (none_or_some2 (get_or amounts k 0)) [
+            | inl none ↦ rw (high.0) ((λ e2. absurd (both (get_or amounts k 0 == 0) none.0 e2)), (λ _. rw (e, none.0) refl))
+            | inr some ↦ rw (high.0) ((λ _. some.1), (λ e2. absurd (both (get_or amounts k 0 == 0) e2 some.0)))
+          ])
+    ]

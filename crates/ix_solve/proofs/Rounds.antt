@@ -19,8 +19,10 @@ pub so_far_met : (arcs : List Arc) (old reach new : List ℕ) (grown now : Bool)
 so_far_met arcs old reach new grown now i h b met same kept =
     let at : Meets (λ v. get_or reach v 0) (arc_at arcs i) = rw (← same) met in
     rw (same, kept) (record {
-      more = h.more; never_less = h.never_less;
-      settled = λ e. All-more (Meets (λ v. get_or reach v 0)) arcs i no_arc b (h.settled e) at })
+      more = h.more;
+      never_less = h.never_less;
+      settled = λ e. All-more (Meets (λ v. get_or reach v 0)) arcs i no_arc b (h.settled e) at;
+    })
 
 both_ways : (b : Bool) → b ≡ true → b ≡ false → ⊥
 both_ways b p q = cc

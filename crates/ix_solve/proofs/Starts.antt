@@ -42,40 +42,53 @@ begun_known n source base cap hub at arcs i extra reach last log k h small k_in 
     record {
       reach_len = length-append reach (x ∷ []) ∙ ap (λ y. y + 1) h.reach_len;
       last_len = length-append last (k ∷ []) ∙ ap (λ y. y + 1) h.last_len;
-      hub_in = h.hub_in; hub_to = h.hub_to; hub_at = h.hub_at; hub_low = h.hub_low; hub_source = h.hub_source;
-      first_to = h.first_to; first_reached = h.first_reached; steps = h.steps;
+      hub_in = h.hub_in;
+      hub_to = h.hub_to;
+      hub_at = h.hub_at;
+      hub_low = h.hub_low;
+      hub_source = h.hub_source;
+      first_to = h.first_to;
+      first_reached = h.first_reached;
+      steps = h.steps;
       nodes = λ v b. elim (lt_or_last v i b) [
-          inl low ↦ (let r = h.nodes v low in record { within = rw (old_last v low) r.within; ends = rw (old_last v low) r.ends; same = rw (old_last v low, old v low) r.same })
-        | inr e ↦ rw e (record { within = rw new_last k_in; ends = rw new_last to; same = rw (new_last, new) refl }) ];
+        | inl low ↦ (let r = h.nodes v low in record { within = rw (old_last v low) r.within; ends = rw (old_last v low) r.ends; same = rw (old_last v low, old v low) r.same })
+        | inr e ↦ rw e (record { within = rw new_last k_in; ends = rw new_last to; same = rw (new_last, new) refl })
+      ];
       root = λ b. elim (lt_or_last source i b) [
-          inl low ↦ rw (old source low) (h.root low)
-        | inr e ↦ rw (e, new) (is_source e) ];
+        | inl low ↦ rw (old source low) (h.root low)
+        | inr e ↦ rw (e, new) (is_source e)
+      ];
       low = λ v b. elim (lt_or_last v i b) [
-          inl low ↦ rw (old v low) (h.low v low)
-        | inr e ↦ rw (e, new) fits ];
+        | inl low ↦ rw (old v low) (h.low v low)
+        | inr e ↦ rw (e, new) fits
+      ];
       top = λ j b to_in. elim (lt_or_last (step_at log j).arc.to i to_in) [
-          inl low ↦ rw (old (step_at log j).arc.to low) (h.top j b low)
+        | inl low ↦ rw (old (step_at log j).arc.to low) (h.top j b low)
         | inr e ↦ elim (same_or_not j k) [
-            inl same ↦ rw (e, new, same) (omega arith)
-          | inr ne ↦ absurd (two_steps log j k ne b k_in (e ∙ sym to) h.apart) ] ];
+          | inl same ↦ rw (e, new, same) (omega arith)
+          | inr ne ↦ absurd (two_steps log j k ne b k_in (e ∙ sym to) h.apart)
+        ]
+      ];
       far = λ j b past. h.far j b (omega arith);
       apart = h.apart;
-      inside = h.inside }
+      inside = h.inside;
+    }
 
 pub begun_all : (n source base cap hub at : ℕ) (arcs : List Arc) (reach last : List ℕ) (log : List Step) → HasBegun n source base cap hub at arcs (n + 1) 0 reach last log → source ≤ n →
     HasReached n source base cap arcs reach last log
 begun_all n source base cap hub at arcs reach last log h source_in = record {
-    reach_len = h.reach_len;
-    last_len = h.last_len;
-    some = omega (arith, h.hub_in);
-    first_to = h.first_to;
-    first_reached = h.first_reached;
-    steps = h.steps;
-    nodes = λ v b. h.nodes v (omega arith);
-    root = h.root (omega arith);
-    low = λ v b. h.low v (omega arith);
-    top = λ j b. h.top j b (to_in n source log j h.first_to source_in h.inside b);
-    strict = λ j k before b same. absurd (h.apart j k before b same) }
+  reach_len = h.reach_len;
+  last_len = h.last_len;
+  some = omega (arith, h.hub_in);
+  first_to = h.first_to;
+  first_reached = h.first_reached;
+  steps = h.steps;
+  nodes = λ v b. h.nodes v (omega arith);
+  root = h.root (omega arith);
+  low = λ v b. h.low v (omega arith);
+  top = λ j b. h.top j b (to_in n source log j h.first_to source_in h.inside b);
+  strict = λ j k before b same. absurd (h.apart j k before b same);
+}
 
 grown_reached : (reach last : List ℕ) (log : List Step) (s : Step) (v : ℕ) → IsReached reach last log v → IsReached reach last (log ++ s ∷ []) v
 grown_reached reach last log s v is =
@@ -85,8 +98,9 @@ grown_reached reach last log s v is =
 not_there : (i to source n j hub : ℕ) (log : List Step) → i < n → i ≢ source → (step_at log 0).arc.to ≡ source → (step_at log hub).arc.to ≡ n →
     (j ≡ 0) ⊎ (j ≡ hub) → (step_at log j).arc.to ≢ i
 not_there i to source n j hub log b ne first last which same = elim which [
-    inl e ↦ (let a : (step_at log j).arc.to ≡ (step_at log 0).arc.to = ap (λ q. (step_at log q).arc.to) e in omega arith)
-  | inr e ↦ (let a : (step_at log j).arc.to ≡ (step_at log hub).arc.to = ap (λ q. (step_at log q).arc.to) e in omega arith) ]
+  | inl e ↦ (let a : (step_at log j).arc.to ≡ (step_at log 0).arc.to = ap (λ q. (step_at log q).arc.to) e in omega arith)
+  | inr e ↦ (let a : (step_at log j).arc.to ≡ (step_at log hub).arc.to = ap (λ q. (step_at log q).arc.to) e in omega arith)
+]
 
 lt_or_ge : (a b : ℕ) → (a < b) ⊎ (b ≤ a)
 lt_or_ge a b = grind arith
@@ -107,39 +121,49 @@ begun_more n source base cap hub at arcs i reach last log a r h framed b ne is e
     let down : a.down ≡ 0 = ap (λ (x : Arc). x.down) is ∙ early.3 in
     let in_arcs : i < length arcs = omega (arith, framed.enough) in
     let fresh : (j : ℕ) → j < length log → (step_at log j).arc.to ≢ i
-        = λ j j_in. elim (lt_or_ge (step_at log j).arc.to i) [
-            inl low ↦ (λ same. omega arith)
-          | inr high ↦ not_there i i source n j hub log b ne h.first_to h.hub_to (h.far j j_in (omega arith)) ] in
+    = λ j j_in. elim (lt_or_ge (step_at log j).arc.to i) [
+      | inl low ↦ (λ same. omega arith)
+      | inr high ↦ not_there i i source n j hub log b ne h.first_to h.hub_to (h.far j j_in (omega arith))
+    ] in
     record {
-      reach_len = h.reach_len; last_len = h.last_len;
+      reach_len = h.reach_len;
+      last_len = h.last_len;
       hub_in = omega (arith, h.hub_in);
       hub_to = rw (old hub h.hub_in) h.hub_to;
       hub_at = rw (old hub h.hub_in) h.hub_at;
-      hub_low = h.hub_low; hub_source = h.hub_source;
+      hub_low = h.hub_low;
+      hub_source = h.hub_source;
       first_to = rw (old 0 some) h.first_to;
       first_reached = rw (old 0 some) h.first_reached;
       steps = λ k pos k_in. elim (lt_or_last k (length log) (omega arith)) [
-          inl low ↦ keeps_step arcs log s k low (h.steps k pos low)
+        | inl low ↦ keeps_step arcs log s k low (h.steps k pos low)
         | inr e ↦ rw e (record {
-            earlier = rw at_end h.hub_in;
-            joined = rw (at_end, old hub h.hub_in) (from ∙ sym h.hub_to);
-            longer = rw (at_end, old hub h.hub_in) (omega (arith, h.hub_at));
-            placed = rw at_end (in_arcs, sym is) }) ];
+          earlier = rw at_end h.hub_in;
+          joined = rw (at_end, old hub h.hub_in) (from ∙ sym h.hub_to);
+          longer = rw (at_end, old hub h.hub_in) (omega (arith, h.hub_at));
+          placed = rw at_end (in_arcs, sym is);
+        })
+      ];
       nodes = λ v v_in. grown_reached reach last log s v (h.nodes v v_in);
       root = h.root;
       low = h.low;
       top = λ j j_in. elim (lt_or_last j (length log) (omega arith)) [
-          inl low ↦ rw (old j low) (h.top j low)
-        | inr e ↦ rw (e, at_end) (λ below. absurd (omega arith)) ];
+        | inl low ↦ rw (old j low) (h.top j low)
+        | inr e ↦ rw (e, at_end) (λ below. absurd (omega arith))
+      ];
       far = λ j j_in. elim (lt_or_last j (length log) (omega arith)) [
-          inl low ↦ rw (old j low) (λ past. h.far j low (omega arith))
-        | inr e ↦ rw (e, at_end) (λ past. absurd (omega arith)) ];
+        | inl low ↦ rw (old j low) (λ past. h.far j low (omega arith))
+        | inr e ↦ rw (e, at_end) (λ past. absurd (omega arith))
+      ];
       apart = λ j k before k_in. elim (lt_or_last k (length log) (omega arith)) [
-          inl low ↦ (let j_old : j < length log = omega arith in rw (old j j_old, old k low) (h.apart j k before low))
-        | inr e ↦ (let j_old : j < length log = omega arith in rw (e, at_end, old j j_old) (λ same. fresh j j_old (same ∙ to))) ];
+        | inl low ↦ (let j_old : j < length log = omega arith in rw (old j j_old, old k low) (h.apart j k before low))
+        | inr e ↦ (let j_old : j < length log = omega arith in rw (e, at_end, old j j_old) (λ same. fresh j j_old (same ∙ to)))
+      ];
       inside = λ k pos k_in. elim (lt_or_last k (length log) (omega arith)) [
-          inl low ↦ rw (old k low) (h.inside k pos low)
-        | inr e ↦ rw (e, at_end) (omega arith) ] }
+        | inl low ↦ rw (old k low) (h.inside k pos low)
+        | inr e ↦ rw (e, at_end) (omega arith)
+      ];
+    }
 
 -- the next operation by its first arc
 pub begun_next : (n source base cap hub at : ℕ) (arcs : List Arc) (i : ℕ) (reach last : List ℕ) (log new_log : List Step) (new_reach new_last : List ℕ) (a : Arc) (k r : ℕ) →
@@ -157,7 +181,7 @@ begun_next n source base cap hub at arcs i reach last log new_log new_reach new_
     let low = h.hub_low in
     let same : (step_at (log ++ s ∷ []) (length log)).reached ≡ r = ap (λ (x : Step). x.reached) at_end in
     let k2 = begun_known n source base cap hub at arcs i 1 reach last (log ++ s ∷ []) (length log) m (omega arith) (omega arith)
-        (rw at_end to) (rw at_end (omega arith)) (λ e. absurd (ne (sym e))) in
+    (rw at_end to) (rw at_end (omega arith)) (λ e. absurd (ne (sym e))) in
     let k3 : HasBegun n source base cap hub at arcs (i + 1) 0 (reach ++ r ∷ []) (last ++ length log ∷ []) (log ++ s ∷ []) = rw same at k2 in
     rw (eg, ere, ela, ek) k3
 
@@ -177,7 +201,7 @@ pub begun_root : (n source base cap hub at : ℕ) (arcs : List Arc) (reach last 
 begun_root n source base cap hub at arcs reach last log new_reach new_last h source_in room er el =
     let low = h.hub_low in
     let k2 = begun_known n source base cap hub at arcs n 0 reach last log hub h (omega arith) h.hub_in h.hub_to (omega (arith, h.hub_at))
-        (λ e. (let z : (step_at log hub).reached ≡ (step_at log 0).reached = ap (λ q. (step_at log q).reached) (h.hub_source e) in omega (arith, h.first_reached))) in
+    (λ e. (let z : (step_at log hub).reached ≡ (step_at log 0).reached = ap (λ q. (step_at log q).reached) (h.hub_source e) in omega (arith, h.first_reached))) in
     let k3 : HasBegun n source base cap hub at arcs (n + 1) 0 (reach ++ at ∷ []) (last ++ hub ∷ []) log = rw h.hub_at at k2 in
     rw (er, el) (begun_all n source base cap hub at arcs (reach ++ at ∷ []) (last ++ hub ∷ []) log k3 source_in)
 
@@ -187,7 +211,7 @@ none_or_one j h = grind arith
 -- the source, and the step from it to the root
 pub begun_two : (n source : ℕ) (arcs : List Arc) (a first : Arc) → IsFramed n arcs → source < n → a ≡ arc_at arcs (n + source) → first.to ≡ source →
     HasBegun n source 255 510 1 (255 - a.down) arcs 0 0 [] []
-      (record { arc = first; place = 0; parent = 0; reached = 255 } ∷ record { arc = a; place = n + source; parent = 0; reached = 255 - a.down } ∷ [])
+    (record { arc = first; place = 0; parent = 0; reached = 255 } ∷ record { arc = a; place = n + source; parent = 0; reached = 255 - a.down } ∷ [])
 begun_two n source arcs a first framed b is to0 =
     let s0 : Step = record { arc = first; place = 0; parent = 0; reached = 255 } in
     let s1 : Step = record { arc = a; place = n + source; parent = 0; reached = 255 - a.down } in
@@ -198,20 +222,29 @@ begun_two n source arcs a first framed b is to0 =
     let down : a.down ≤ 255 = rw is late.3 in
     let in_arcs : n + source < length arcs = omega (arith, framed.enough) in
     record {
-      reach_len = refl; last_len = refl; hub_in = omega arith; hub_to = to; hub_at = refl; hub_low = omega arith; hub_source = λ e. absurd (omega arith);
-      first_to = to0; first_reached = refl;
+      reach_len = refl;
+      last_len = refl;
+      hub_in = omega arith;
+      hub_to = to;
+      hub_at = refl;
+      hub_low = omega arith;
+      hub_source = λ e. absurd (omega arith);
+      first_to = to0;
+      first_reached = refl;
       steps = λ k pos k_in. (let e : k ≡ 1 = omega arith in rw e (record {
-          earlier = omega arith;
-          joined = from ∙ sym to0;
-          longer = omega arith;
-          placed = (in_arcs, sym is) }));
+        earlier = omega arith;
+        joined = from ∙ sym to0;
+        longer = omega arith;
+        placed = (in_arcs, sym is);
+      }));
       nodes = λ v v_in. absurd (omega arith);
       root = λ v_in. absurd (omega arith);
       low = λ v v_in. absurd (omega arith);
       top = λ j j_in below. absurd (omega arith);
       far = λ j j_in past. none_or_one j j_in;
       apart = λ j k before k_in. (let e : j ≡ 0 = omega arith in let e2 : k ≡ 1 = omega arith in rw (e, e2) (λ same. omega arith));
-      inside = λ k pos k_in. (let e : k ≡ 1 = omega arith in rw e (omega arith)) }
+      inside = λ k pos k_in. (let e : k ≡ 1 = omega arith in rw e (omega arith));
+    }
 
 -- no node is below the root, and none more than the limit above it
 pub above_root : (n : ℕ) (arcs : List Arc) (t : ℕ → ℕ) → IsFramed n arcs → All (Meets t) arcs → (v : ℕ) → v ≤ n → (t n ≤ t v) × (t v ≤ t n + LIMIT)
@@ -244,13 +277,13 @@ met_from_root n reach times arcs inside each met k d b =
 pub least_times : (n base cap : ℕ) (arcs : List Arc) (reach last times : List ℕ) (log : List Step) → HasReached n n base cap arcs reach last log → IsFramed n arcs →
     All (Meets (λ v. get_or reach v 0)) arcs → length times ≡ n + 1 → ((v : ℕ) → v ≤ n → get_or times v 0 + get_or reach n 0 ≡ get_or reach v 0) → AreLeast n arcs times
 least_times n base cap arcs reach last times log h framed met len each = record {
-    len = len;
-    root = (let e = each n (omega arith) in omega arith);
-    met = met_from_root n reach times arcs framed.inside each met;
-    least = λ t all zero_root v b.
+  len = len;
+  root = (let e = each n (omega arith) in omega arith);
+  met = met_from_root n reach times arcs framed.inside each met;
+  least = λ t all zero_root v b.
       (let up : All (Meets (λ q. t q + base)) arcs = All-weaker (Meets t) (Meets (λ q. t q + base)) (λ a m. omega arith) arcs all in
       let l = least n n base cap arcs reach last log h (λ q. t q + base) up (omega arith) v b in
       let e = each v b in
       let r = h.root in
       omega arith);
-  }
+}

@@ -154,18 +154,18 @@ flow_none node (b ∷ bs) (x ∷ xs) v h =
 pub first_state : (n : ℕ) (bounds : List Arc) (state : State) → IsFramed n bounds → AreDue n state.need.items state.spare.items → AreLeast n bounds state.times.items →
     length state.amounts.items ≡ length bounds → ((k : ℕ) → get_or state.amounts.items k 0 ≡ 0) → IsState n bounds state
 first_state n bounds state framed due least same none = record {
-    amounts_len = same;
-    need_len = due.need_len;
-    spare_len = due.spare_len;
-    times = record {
-      root = least.root;
-      low = λ v b. (let a = above_root n bounds (λ v. get_or state.times.items v 0) framed least.met v b in let z = least.root in omega (arith, a.1));
-      met = least.met;
-      used = λ k b pos. (let z = none k in absurd (omega arith));
-    };
-    even = due.even;
-    room = λ k b. (let z = none k in omega (arith, due.small));
-  }
+  amounts_len = same;
+  need_len = due.need_len;
+  spare_len = due.spare_len;
+  times = record {
+    root = least.root;
+    low = λ v b. (let a = above_root n bounds (λ v. get_or state.times.items v 0) framed least.met v b in let z = least.root in omega (arith, a.1));
+    met = least.met;
+    used = λ k b pos. (let z = none k in absurd (omega arith));
+  };
+  even = due.even;
+  room = λ k b. (let z = none k in omega (arith, due.small));
+}
 
 -- amounts that started at 0 and meet all needs
 pub balances_met : (n : ℕ) (bounds : List Arc) (old new : State) → KeepsBalance bounds old new → ((k : ℕ) → get_or old.amounts.items k 0 ≡ 0) → IsState n bounds new → sum new.need.items ≡ 0 →

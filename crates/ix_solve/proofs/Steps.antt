@@ -24,7 +24,8 @@ keeps_step arcs log s k h is =
       earlier = rw here is.earlier;
       joined = rw (here, there) is.joined;
       longer = rw (here, there) is.longer;
-      placed = rw here is.placed }
+      placed = rw here is.placed;
+    }
 
 keeps_reached : (reach last : List ℕ) (log : List Step) (s : Step) (w r v : ℕ) → v ≢ w → IsReached reach last log v →
     IsReached (set reach w r) (set last w (length log)) (log ++ s ∷ []) v
@@ -35,7 +36,8 @@ keeps_reached reach last log s w r v ne is =
     record {
       within = rw (l, length-append log (s ∷ [])) (omega (arith, is.within));
       ends = rw (l, here) is.ends;
-      same = rw (l, here, e) is.same }
+      same = rw (l, here, e) is.same;
+    }
 
 new_reached : (reach last : List ℕ) (log : List Step) (s : Step) (w : ℕ) → w < length reach → w < length last → s.arc.to ≡ w →
     IsReached (set reach w s.reached) (set last w (length log)) (log ++ s ∷ []) w
@@ -46,7 +48,8 @@ new_reached reach last log s w hr hl to =
     record {
       within = rw (l, length-append log (s ∷ [])) (omega arith);
       ends = rw (l, here) to;
-      same = rw (l, here, e) refl }
+      same = rw (l, here, e) refl;
+    }
 
 same_or_not : (v w : ℕ) → (v ≡ w) ⊎ (v ≢ w)
 same_or_not v w = grind arith
@@ -76,13 +79,15 @@ raised n source base cap arcs reach last log arc place r h from to ne_source pla
     let in_last : arc.to < length last = omega (arith, h.last_len) in
     let grown : length (log ++ s ∷ []) ≡ length log + 1 = length-append log (s ∷ []) in
     let each : (P : ℕ → ℕ → Type 0) → P arc.to r → ((v : ℕ) → v ≤ n → P v (get_or reach v 0)) → (v : ℕ) → v ≤ n → P v (get_or (set reach arc.to r) v 0)
-        = λ P new old v b. elim (same_or_not v arc.to) [
-            inl e ↦ rw (e, get_or-set_same reach arc.to r 0 in_reach) new
-          | inr ne ↦ rw (get_or-set_other reach arc.to v r 0 ne) (old v b) ] in
+    = λ P new old v b. elim (same_or_not v arc.to) [
+      | inl e ↦ rw (e, get_or-set_same reach arc.to r 0 in_reach) new
+      | inr ne ↦ rw (get_or-set_other reach arc.to v r 0 ne) (old v b)
+    ] in
     let risen : (v : ℕ) → get_or reach v 0 ≤ get_or (set reach arc.to r) v 0
-        = λ v. elim (same_or_not v arc.to) [
-            inl e ↦ rw (e, get_or-set_same reach arc.to r 0 in_reach) (omega arith)
-          | inr ne ↦ rw (get_or-set_other reach arc.to v r 0 ne) (omega arith) ] in
+    = λ v. elim (same_or_not v arc.to) [
+      | inl e ↦ rw (e, get_or-set_same reach arc.to r 0 in_reach) (omega arith)
+      | inr ne ↦ rw (get_or-set_other reach arc.to v r 0 ne) (omega arith)
+    ] in
     record {
       reach_len = length-set reach arc.to r ∙ h.reach_len;
       last_len = length-set last arc.to (length log) ∙ h.last_len;
@@ -90,26 +95,32 @@ raised n source base cap arcs reach last log arc place r h from to ne_source pla
       first_to = rw zeroth h.first_to;
       first_reached = rw zeroth h.first_reached;
       steps = λ k pos b. elim (lt_or_last k (length log) (omega arith)) [
-          inl old ↦ keeps_step arcs log s k old (h.steps k pos old)
+        | inl old ↦ keeps_step arcs log s k old (h.steps k pos old)
         | inr e ↦ rw e (record {
-            earlier = rw at_end origin.within;
-            joined = rw (at_end, at_source) (sym origin.ends);
-            longer = rw (at_end, at_source) (sum ∙ ap (λ x. x + arc.up) (sym origin.same));
-            placed = rw at_end placed }) ];
+          earlier = rw at_end origin.within;
+          joined = rw (at_end, at_source) (sym origin.ends);
+          longer = rw (at_end, at_source) (sum ∙ ap (λ x. x + arc.up) (sym origin.same));
+          placed = rw at_end placed;
+        })
+      ];
       nodes = λ v b. elim (same_or_not v arc.to) [
-          inl e ↦ rw e (new_reached reach last log s arc.to in_reach in_last refl)
-        | inr ne ↦ keeps_reached reach last log s arc.to r v ne (h.nodes v b) ];
+        | inl e ↦ rw e (new_reached reach last log s arc.to in_reach in_last refl)
+        | inr ne ↦ keeps_reached reach last log s arc.to r v ne (h.nodes v b)
+      ];
       root = rw (get_or-set_other reach arc.to source r 0 (λ e. ne_source (sym e))) h.root;
       low = each (λ _ x. x ≤ cap) low h.low;
       top = λ j b. elim (lt_or_last j (length log) (omega arith)) [
-          inl old ↦ rw (step_old log s j old) (omega (arith, h.top j old, risen (step_at log j).arc.to))
-        | inr e ↦ rw (e, at_end, get_or-set_same reach arc.to r 0 in_reach) (omega arith) ];
+        | inl old ↦ rw (step_old log s j old) (omega (arith, h.top j old, risen (step_at log j).arc.to))
+        | inr e ↦ rw (e, at_end, get_or-set_same reach arc.to r 0 in_reach) (omega arith)
+      ];
       strict = λ j k before b. elim (lt_or_last k (length log) (omega arith)) [
-          inl old ↦ (let j_old : j < length log = omega arith in rw (step_old log s j j_old, step_old log s k old) (h.strict j k before old))
+        | inl old ↦ (let j_old : j < length log = omega arith in rw (step_old log s j j_old, step_old log s k old) (h.strict j k before old))
         | inr e ↦
             (let j_old : j < length log = omega arith in
-             rw (e, at_end, step_old log s j j_old)
-             (λ same. let t = h.top j j_old in let a : get_or reach (step_at log j).arc.to 0 ≡ get_or reach arc.to 0 = ap (λ v. get_or reach v 0) same in omega arith)) ] }
+            rw (e, at_end, step_old log s j j_old)
+            (λ same. let t = h.top j j_old in let a : get_or reach (step_at log j).arc.to 0 ≡ get_or reach arc.to 0 = ap (λ v. get_or reach v 0) same in omega arith))
+      ];
+    }
 
 pub raised_at : (n source base cap : ℕ) (arcs : List Arc) (reach last : List ℕ) (log new : List Step) (arc : Arc) (place k p r : ℕ) →
     HasReached n source base cap arcs reach last log → arc.from ≤ n → arc.to ≤ n → arc.to ≢ source → (place < length arcs) × (arc_at arcs place ≡ arc) →
@@ -152,4 +163,5 @@ pushed_reached reach last log s x y v hr hl is =
     record {
       within = rw (l, length-append log (s ∷ [])) (omega (arith, is.within));
       ends = rw (l, here) is.ends;
-      same = rw (l, here, e) is.same }
+      same = rw (l, here, e) is.same;
+    }

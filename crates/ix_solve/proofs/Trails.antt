@@ -37,22 +37,27 @@ trail_more n source base cap arcs reach last log x t k steps h met settled pos w
     let e : x a.from ≡ x (step_at log p).arc.to = ap x s.joined in
     let first : IsLater log x p k = record { after = s.earlier; within = w.within; longest = omega (arith, s.longer) } in
     let later : All (IsLater log x p) (k ∷ steps) = All-cons (IsLater log x p) k steps first
-        (λ i d b. let l = w.later i d b in record {
-            after = omega (arith, l.after, s.earlier);
-            within = l.within;
-            longest = omega (arith, l.longest, first.longest) }) in
+    (λ i d b. let l = w.later i d b in record {
+      after = omega (arith, l.after, s.earlier);
+      within = l.within;
+      longest = omega (arith, l.longest, first.longest);
+    }) in
     record {
       within = omega (arith, s.earlier, w.within);
       leads = (refl, w.within, w.leads);
-      apart = ((λ i d b same.
-          (let l = later i d b in
-           let j = get_or (k ∷ steps) i d in
-           let up = h.strict p j l.after l.within (sym same) in
-           let at : x (step_at log j).arc.to ≡ x (step_at log p).arc.to = ap x same in
-           omega (arith, l.longest))), w.apart);
+      apart = (
+        (λ i d b same.
+            (let l = later i d b in
+            let j = get_or (k ∷ steps) i d in
+            let up = h.strict p j l.after l.within (sym same) in
+            let at : x (step_at log j).arc.to ≡ x (step_at log p).arc.to = ap x same in
+            omega (arith, l.longest))),
+        w.apart,
+      );
       later = later;
       exact = omega (arith, s.longer, w.exact);
-      tight = All-cons (λ j. IsTight (λ v. get_or reach v 0) (step_at log j).arc) k steps (omega (arith, s.longer, w.exact)) w.tight }
+      tight = All-cons (λ j. IsTight (λ v. get_or reach v 0) (step_at log j).arc) k steps (omega (arith, s.longer, w.exact)) w.tight;
+    }
 
 pub trail_more_at : (n source base cap : ℕ) (arcs : List Arc) (reach last : List ℕ) (log : List Step) (x : ℕ → ℕ) (t k : ℕ) (back new : List ℕ) (s : Step) →
     HasReached n source base cap arcs reach last log → All (Meets x) arcs → All (Meets (λ v. get_or reach v 0)) arcs → 0 < k → IsTrail reach log x t k (reverse back) → s ≡ step_at log k → new ≡ back ++ k ∷ [] →

@@ -50,20 +50,20 @@ pub back_at_root : (arcs : List Arc) (n v base reach : ℕ) (walk : List ℕ) (a
     All (λ x. x < length arcs) walk → a < length arcs → (arc_at arcs a).from ≡ v → (arc_at arcs a).to ≡ n → base + (arc_at arcs a).down < reach + (arc_at arcs a).up →
     IsClosed arcs (walk ++ a ∷ [])
 back_at_root arcs n v base reach walk a leads sum within a_in from to more = record {
-    within = All-push (λ x. x < length arcs) walk a within a_in;
-    closed = (n, Leads-append arcs n v n walk (a ∷ []) leads (from, to));
-    positive = rw (sum_by_push (λ x. (arc_at arcs x).up) walk a, sum_by_push (λ x. (arc_at arcs x).down) walk a) (omega arith);
-  }
+  within = All-push (λ x. x < length arcs) walk a within a_in;
+  closed = (n, Leads-append arcs n v n walk (a ∷ []) leads (from, to));
+  positive = rw (sum_by_push (λ x. (arc_at arcs x).up) walk a, sum_by_push (λ x. (arc_at arcs x).down) walk a) (omega arith);
+}
 
 -- a walk from the root, an arc, and one more arc back to it
 pub back_late : (arcs : List Arc) (n v base reach : ℕ) (walk : List ℕ) (a b : ℕ) → Leads arcs n walk v → ups arcs walk + base ≡ reach + downs arcs walk →
     All (λ x. x < length arcs) walk → a < length arcs → b < length arcs → (arc_at arcs a).from ≡ v → (arc_at arcs b).from ≡ (arc_at arcs a).to → (arc_at arcs b).to ≡ n →
     base + (arc_at arcs b).down + (arc_at arcs a).down < reach + (arc_at arcs a).up + (arc_at arcs b).up → IsClosed arcs ((walk ++ a ∷ []) ++ b ∷ [])
 back_late arcs n v base reach walk a b leads sum within a_in b_in from joined to more = record {
-    within = All-push (λ x. x < length arcs) (walk ++ a ∷ []) b (All-push (λ x. x < length arcs) walk a within a_in) b_in;
-    closed = (n, Leads-append arcs n (arc_at arcs a).to n (walk ++ a ∷ []) (b ∷ []) (Leads-append arcs n v (arc_at arcs a).to walk (a ∷ []) leads (from, refl)) (joined, to));
-    positive = rw (sum_by_push (λ x. (arc_at arcs x).up) (walk ++ a ∷ []) b, sum_by_push (λ x. (arc_at arcs x).down) (walk ++ a ∷ []) b, sum_by_push (λ x. (arc_at arcs x).up) walk a, sum_by_push (λ x. (arc_at arcs x).down) walk a) (omega arith);
-  }
+  within = All-push (λ x. x < length arcs) (walk ++ a ∷ []) b (All-push (λ x. x < length arcs) walk a within a_in) b_in;
+  closed = (n, Leads-append arcs n (arc_at arcs a).to n (walk ++ a ∷ []) (b ∷ []) (Leads-append arcs n v (arc_at arcs a).to walk (a ∷ []) leads (from, refl)) (joined, to));
+  positive = rw (sum_by_push (λ x. (arc_at arcs x).up) (walk ++ a ∷ []) b, sum_by_push (λ x. (arc_at arcs x).down) (walk ++ a ∷ []) b, sum_by_push (λ x. (arc_at arcs x).up) walk a, sum_by_push (λ x. (arc_at arcs x).down) walk a) (omega arith);
+}
 
 -- times that meet the arcs of a closed list show that its numbers do not sum to more than 0
 along : (arcs : List Arc) (t : ℕ → ℕ) (a b : ℕ) (ks : List ℕ) → ((k : ℕ) → k < length arcs → t (arc_at arcs k).from + (arc_at arcs k).up ≤ t (arc_at arcs k).to + (arc_at arcs k).down) →
@@ -84,7 +84,7 @@ not_closed arcs t ks met bad =
 -- one arc from a node to itself
 pub loop_closed : (arcs : List Arc) (k : ℕ) → k < length arcs → (arc_at arcs k).from ≡ (arc_at arcs k).to → (arc_at arcs k).down < (arc_at arcs k).up → IsClosed arcs (k ∷ [])
 loop_closed arcs k b same more = record {
-    within = All-cons (λ x. x < length arcs) k [] b (All-nil (λ x. x < length arcs));
-    closed = ((arc_at arcs k).from, (refl, sym same));
-    positive = omega arith;
-  }
+  within = All-cons (λ x. x < length arcs) k [] b (All-nil (λ x. x < length arcs));
+  closed = ((arc_at arcs k).from, (refl, sym same));
+  positive = omega arith;
+}

@@ -30,7 +30,7 @@ used (b ∷ bs) (x ∷ xs) = if x == 0 then used bs xs else (b, x) ∷ used bs x
 pub record AreOptimal (p : Problem) (bounds : List Bound) (times amounts : List ℕ) : Type 0 where
   pub amounts_len : length amounts ≡ length bounds
   pub balanced : (v : ℕ) → v < length p.ops →
-    flow_in (map (arc_of p) bounds) amounts v + weight_out p v ≡ flow_out (map (arc_of p) bounds) amounts v + (1 + weight_in p v)
+      flow_in (map (arc_of p) bounds) amounts v + weight_out p v ≡ flow_out (map (arc_of p) bounds) amounts v + (1 + weight_in p v)
   pub least : AreLeastOver (length p.ops) (map (arc_of p) bounds) amounts times
 
 -- the times are the chosen schedule, the cost is theirs, and the flow is dual and has the cost as its value

@@ -69,7 +69,7 @@ pub record IsResidual (bounds : List Arc) (amounts : List ℕ) (arcs : List Arc)
 abbrev pub place_of : List ℕ → ℕ → Place
 place_of amounts p =
     cond (nat_lt p (length amounts)) (record { at = p; along = true })
-        (record { at = p - length amounts; along = slice_index amounts (p - length amounts) == 0 })
+    (record { at = p - length amounts; along = slice_index amounts (p - length amounts) == 0 })
 
 abbrev pub places : List ℕ → List Step → List ℕ → List Place
 places amounts log [] = []

@@ -32,7 +32,7 @@ pub record IsLongest (n : ℕ) (bounds : List Arc) (amounts : List ℕ) (source 
   pub ends : node_after bounds source found.path.items (length found.path.items) ≡ target
   pub times : AreTimes n bounds amounts found.times.items
   pub tight : (k : ℕ) → k < length found.path.items → (place_at found.path.items k).along ≡ true →
-    IsTight (slice_index found.times.items) (arc_at bounds (place_at found.path.items k).at)
+      IsTight (slice_index found.times.items) (arc_at bounds (place_at found.path.items k).at)
 
 -- what each node needs, less what it has to spare, has changed by what has come to it
 abbrev pub KeepsBalance : List Arc → State → State → Type 0
@@ -48,7 +48,7 @@ pub record AreLeastOver (n : ℕ) (bounds : List Arc) (amounts times : List ℕ)
   pub met : All (Meets (slice_index times)) bounds
   pub back : (k : ℕ) → k < length bounds → 0 < slice_index amounts k → Meets (slice_index times) (turned (arc_at bounds k))
   pub least : (t : ℕ → ℕ) → t n ≡ 0 → All (Meets t) bounds → ((k : ℕ) → k < length bounds → 0 < slice_index amounts k → Meets t (turned (arc_at bounds k))) →
-    (v : ℕ) → v ≤ n → slice_index times v ≤ t v
+      (v : ℕ) → v ≤ n → slice_index times v ≤ t v
 
 -- what is needed at first is what there is to spare, and it can be counted
 pub record AreDue (n : ℕ) (need spare : List ℕ) : Type 0 where

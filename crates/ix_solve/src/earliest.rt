@@ -24,7 +24,13 @@ pub enum Outcome {
 }
 
 // the places of the arcs by which a node was reached from the root
-fn walk_to(alloc: Global, search: &Search, node: u32, root: u32, arcs: &[Arc]) -> Result<Vec<usize>, AllocError>
+fn walk_to(
+    alloc: Global,
+    search: &Search,
+    node: u32,
+    root: u32,
+    arcs: &[Arc],
+) -> Result<Vec<usize>, AllocError>
     requires search { IsSearch root root arcs.now search.now }
     requires inside { node ≤ root }
     ensures leads { IfOk result (λ walk. Leads arcs.now root walk.items node) }
@@ -43,7 +49,13 @@ fn walk_to(alloc: Global, search: &Search, node: u32, root: u32, arcs: &[Arc]) -
 }
 
 // the walk to an arc that is not met, the arc, and the way back to the root
-fn cycle_by(alloc: Global, search: &Search, place: usize, root: u32, arcs: &[Arc]) -> Result<Vec<usize>, AllocError>
+fn cycle_by(
+    alloc: Global,
+    search: &Search,
+    place: usize,
+    root: u32,
+    arcs: &[Arc],
+) -> Result<Vec<usize>, AllocError>
     requires framed { IsFramed root arcs.now }
     requires search { IsSearch root root arcs.now search.now }
     requires within { place < length arcs.now }
@@ -73,7 +85,13 @@ fn is_late(search: &Search, arc: Arc, back: Arc, root: u32) -> bool
 }
 
 // raises the end of the arc at `place` if it is not met
-fn visit(alloc: Global, search: &mut Search, place: usize, root: u32, arcs: &[Arc]) -> Result<Round, AllocError>
+fn visit(
+    alloc: Global,
+    search: &mut Search,
+    place: usize,
+    root: u32,
+    arcs: &[Arc],
+) -> Result<Round, AllocError>
     requires framed { IsFramed root arcs.now }
     requires search { IsSearch root root arcs.now search.old }
     requires within { place < length arcs.now }
@@ -96,7 +114,12 @@ fn visit(alloc: Global, search: &mut Search, place: usize, root: u32, arcs: &[Ar
 }
 
 // visits each arc once
-fn visit_all(alloc: Global, search: &mut Search, root: u32, arcs: &[Arc]) -> Result<Round, AllocError>
+fn visit_all(
+    alloc: Global,
+    search: &mut Search,
+    root: u32,
+    arcs: &[Arc],
+) -> Result<Round, AllocError>
     requires framed { IsFramed root arcs.now }
     requires search { IsSearch root root arcs.now search.old }
     ensures search { IfOk result (λ _. IsSearch root root arcs.now search.new) }
@@ -110,7 +133,11 @@ fn visit_all(alloc: Global, search: &mut Search, root: u32, arcs: &[Arc]) -> Res
             Round::Cycle(cycle) => return Ok(Round::Cycle(cycle)),
         }
     }
-    if grown { Ok(Round::Raised) } else { Ok(Round::Settled) }
+    if grown {
+        Ok(Round::Raised)
+    } else {
+        Ok(Round::Settled)
+    }
 }
 
 /// The least times that meet all arcs, or a contradiction among the arcs.

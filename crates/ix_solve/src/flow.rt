@@ -26,7 +26,15 @@ pub struct Longest {
     pub times: Vec<u32>,
 }
 
-fn longest_path(alloc: Global, amounts: &[u64], times: &[u32], source: u32, target: u32, root: u32, bounds: &[Arc]) -> Result<Longest, AllocError>
+fn longest_path(
+    alloc: Global,
+    amounts: &[u64],
+    times: &[u32],
+    source: u32,
+    target: u32,
+    root: u32,
+    bounds: &[Arc],
+) -> Result<Longest, AllocError>
     requires framed { IsFramed root bounds.now }
     requires ends { (source ≤ root) × (target ≤ root) }
     requires same { length amounts.now ≡ length bounds.now }
@@ -57,7 +65,13 @@ fn augment(state: &mut State, longest: Longest, source: u32, target: u32, root: 
     let Longest { path, times } = longest;
     let most = state.need[target as usize].min(state.spare[source as usize]);
     let amount = room(path.as_slice(), state.amounts.as_slice(), most);
-    push_along(state.amounts.as_mut_slice(), bounds, path.as_slice(), amount, source);
+    push_along(
+        state.amounts.as_mut_slice(),
+        bounds,
+        path.as_slice(),
+        amount,
+        source,
+    );
     state.need[target as usize] -= amount;
     state.spare[source as usize] -= amount;
     state.times = times;
@@ -76,7 +90,13 @@ fn first_above(amounts: &[u64]) -> Option<usize>
 }
 
 /// The least times that meet the bounds, and turned round those that carry an amount.
-pub fn least(alloc: Global, amounts: &[u64], times: &[u32], root: u32, bounds: &[Arc]) -> Result<Vec<u32>, AllocError>
+pub fn least(
+    alloc: Global,
+    amounts: &[u64],
+    times: &[u32],
+    root: u32,
+    bounds: &[Arc],
+) -> Result<Vec<u32>, AllocError>
     requires framed { IsFramed root bounds.now }
     requires same { length amounts.now ≡ length bounds.now }
     requires times { AreTimes root bounds.now amounts.now times.now }
@@ -107,7 +127,15 @@ pub fn meet(alloc: Global, state: &mut State, root: u32, bounds: &[Arc]) -> Resu
         };
         let source = source as u32;
         let target = target as u32;
-        let longest = longest_path(alloc, state.amounts.as_slice(), state.times.as_slice(), source, target, root, bounds)?;
+        let longest = longest_path(
+            alloc,
+            state.amounts.as_slice(),
+            state.times.as_slice(),
+            source,
+            target,
+            root,
+            bounds,
+        )?;
         augment(state, longest, source, target, root, bounds);
     }
 }

@@ -9,7 +9,14 @@ use ix_sheet::Arc;
 use std::alloc::{AllocError, Global};
 
 // raises the end of the arc at `place` if it is not met, and says so
-fn lift(search: &mut Search, place: usize, root: u32, source: u32, arcs: &[Arc], times: &[u32]) -> Result<bool, AllocError>
+fn lift(
+    search: &mut Search,
+    place: usize,
+    root: u32,
+    source: u32,
+    arcs: &[Arc],
+    times: &[u32],
+) -> Result<bool, AllocError>
     requires search { IsSearch root source arcs.now search.old }
     requires network { IsNetwork root source arcs.now times.now }
     requires within { place < length arcs.now }
@@ -24,7 +31,13 @@ fn lift(search: &mut Search, place: usize, root: u32, source: u32, arcs: &[Arc],
     Ok(true)
 }
 
-fn lift_all(search: &mut Search, root: u32, source: u32, arcs: &[Arc], times: &[u32]) -> Result<bool, AllocError>
+fn lift_all(
+    search: &mut Search,
+    root: u32,
+    source: u32,
+    arcs: &[Arc],
+    times: &[u32],
+) -> Result<bool, AllocError>
     requires search { IsSearch root source arcs.now search.old }
     requires network { IsNetwork root source arcs.now times.now }
     ensures search { IfOk result (λ _. IsSearch root source arcs.now search.new) }
@@ -41,7 +54,13 @@ fn lift_all(search: &mut Search, root: u32, source: u32, arcs: &[Arc], times: &[
 }
 
 /// Follows arcs until all are met, which happens since `times` meet them.
-pub fn settle(search: &mut Search, root: u32, source: u32, arcs: &[Arc], times: &[u32]) -> Result<(), AllocError>
+pub fn settle(
+    search: &mut Search,
+    root: u32,
+    source: u32,
+    arcs: &[Arc],
+    times: &[u32],
+) -> Result<(), AllocError>
     requires search { IsSearch root source arcs.now search.old }
     requires network { IsNetwork root source arcs.now times.now }
     ensures search { IfOk result (λ _. IsSearch root source arcs.now search.new) }
@@ -55,7 +74,15 @@ pub fn settle(search: &mut Search, root: u32, source: u32, arcs: &[Arc], times: 
 }
 
 /// The steps by which a node was reached, first to last.
-pub fn trail(alloc: Global, search: &Search, target: u32, root: u32, source: u32, arcs: &[Arc], times: &[u32]) -> Result<Vec<usize>, AllocError>
+pub fn trail(
+    alloc: Global,
+    search: &Search,
+    target: u32,
+    root: u32,
+    source: u32,
+    arcs: &[Arc],
+    times: &[u32],
+) -> Result<Vec<usize>, AllocError>
     requires search { IsSearch root source arcs.now search.now }
     requires inside { target ≤ root }
     requires times { All (Meets (slice_index times.now)) arcs.now }

@@ -40,7 +40,13 @@ fn zeros(alloc: Global, len: usize) -> Result<Vec<u64>, AllocError>
 }
 
 /// The least optimal times, or a contradiction among the bounds.
-pub fn optimum(alloc: Global, root: u32, bounds: &[Arc], need: Vec<u64>, spare: Vec<u64>) -> Result<Found, AllocError>
+pub fn optimum(
+    alloc: Global,
+    root: u32,
+    bounds: &[Arc],
+    need: Vec<u64>,
+    spare: Vec<u64>,
+) -> Result<Found, AllocError>
     requires framed { IsFramed root bounds.now }
     requires due { AreDue root need.items spare.items }
     ensures { IfOk result (IsFound root bounds.now need.items spare.items) }

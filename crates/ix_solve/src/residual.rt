@@ -48,7 +48,10 @@ fn place_for(place: usize, amounts: &[u64]) -> Place
     ensures { result ≡ place_of amounts.now place }
 {
     if place < amounts.len() {
-        return Place { at: place, along: true };
+        return Place {
+            at: place,
+            along: true,
+        };
     }
     let at = place - amounts.len();
     Place {
@@ -58,7 +61,12 @@ fn place_for(place: usize, amounts: &[u64]) -> Place
 }
 
 /// The bounds that a trail's steps go along or against.
-pub fn path_of(alloc: Global, steps: &[usize], log: &[Step], amounts: &[u64]) -> Result<Vec<Place>, AllocError>
+pub fn path_of(
+    alloc: Global,
+    steps: &[usize],
+    log: &[Step],
+    amounts: &[u64],
+) -> Result<Vec<Place>, AllocError>
     requires within { All (λ j. j < length log.now) steps.now }
     requires placed { All (λ j. (step_at log.now j).place < length amounts.now + length amounts.now) steps.now }
     ensures { IfOk result (λ path. path.items ≡ places amounts.now log.now steps.now) }

@@ -133,7 +133,13 @@ fn times_of(alloc: Global, times: &[u32], ops: usize) -> Result<Vec<u8>, AllocEr
 }
 
 // the answer for the least optimal times over the bounds
-fn answer(alloc: Global, p: &Problem, bounds: &[Bound], times: &[u32], amounts: &[u64]) -> Result<Solved, Memory>
+fn answer(
+    alloc: Global,
+    p: &Problem,
+    bounds: &[Bound],
+    times: &[u32],
+    amounts: &[u64],
+) -> Result<Solved, Memory>
     requires valid { IsValidProblem p.now }
     requires constraints { AreConstraints p.now bounds.now }
     requires optimal { AreOptimal p.now bounds.now times.now amounts.now }
@@ -164,7 +170,17 @@ pub fn solve(alloc: Global, p: &Problem) -> Result<Solved, SolveErr>
     windows_fit(p.ops.as_slice());
     let Balance { need, spare } = balances(alloc, p)?;
     match optimum(alloc, p.ops.len() as u32, arcs.as_slice(), need, spare)? {
-        Found::Optimum(times, amounts) => Ok(answer(alloc, p, bounds.as_slice(), times.as_slice(), amounts.as_slice())?),
-        Found::Cycle(places) => Err(SolveErr::Cycle(cycle_of(alloc, bounds.as_slice(), places.as_slice())?)),
+        Found::Optimum(times, amounts) => Ok(answer(
+            alloc,
+            p,
+            bounds.as_slice(),
+            times.as_slice(),
+            amounts.as_slice(),
+        )?),
+        Found::Cycle(places) => Err(SolveErr::Cycle(cycle_of(
+            alloc,
+            bounds.as_slice(),
+            places.as_slice(),
+        )?)),
     }
 }

@@ -84,7 +84,13 @@ fn begin(alloc: Global, root: u32, source: u32, arcs: &[Arc]) -> Result<Begun, A
 }
 
 // the walk to the next operation, by its first time
-fn begin_next(begun: &mut Begun, node: u32, root: u32, source: u32, arcs: &[Arc]) -> Result<(), AllocError>
+fn begin_next(
+    begun: &mut Begun,
+    node: u32,
+    root: u32,
+    source: u32,
+    arcs: &[Arc],
+) -> Result<(), AllocError>
     requires framed { IsFramed root arcs.now }
     requires begun { IsBegun root source arcs.now node 0 begun.old }
     requires inside { node < root }
@@ -119,7 +125,13 @@ pub fn start(alloc: Global, root: u32, source: u32, arcs: &[Arc]) -> Result<Sear
     for node in 0..root {
         begin_next(&mut begun, node, root, source, arcs)?;
     }
-    let Begun { mut reach, mut last, log, hub, at } = begun;
+    let Begun {
+        mut reach,
+        mut last,
+        log,
+        hub,
+        at,
+    } = begun;
     reach.push(at)?;
     last.push(hub)?;
     Ok(Search { reach, last, log })
@@ -138,7 +150,13 @@ pub fn is_met(search: &Search, arc: Arc, root: u32) -> bool
 }
 
 /// Follows one more arc, whose end it raises.
-pub fn raise(search: &mut Search, place: usize, root: u32, source: u32, arcs: &[Arc]) -> Result<(), AllocError>
+pub fn raise(
+    search: &mut Search,
+    place: usize,
+    root: u32,
+    source: u32,
+    arcs: &[Arc],
+) -> Result<(), AllocError>
     requires search { IsSearch root source arcs.now search.old }
     requires within { place < length arcs.now }
     requires inside { ((arc_at arcs.now place).from ≤ root) × ((arc_at arcs.now place).to ≤ root) }

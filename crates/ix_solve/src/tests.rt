@@ -20,7 +20,13 @@ fn node(delay: u32, early: u8, late: u8) -> Node {
 fn addition(alloc: Global) -> Result<Problem, AllocError>
     ensures { IfOk result IsValidProblem }
 {
-    let ops = vec![in alloc; node(0, 1, 2), node(0, 1, 2), node(300, 1, 64), node(0, 1, 64), node(0, 2, 4)]?;
+    let ops = vec![in alloc;
+        node(0, 1, 2),
+        node(0, 1, 2),
+        node(300, 1, 64),
+        node(0, 1, 64),
+        node(0, 2, 4),
+    ]?;
     let edges = vec![in alloc; (0, 2), (1, 2), (2, 3), (3, 4)]?;
     Ok(Problem {
         ops: List::from_vec(ops),

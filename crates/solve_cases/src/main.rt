@@ -30,7 +30,11 @@ fn node(words: &mut SplitAsciiWhitespace<'_>) -> Option<Node> {
     })
 }
 
-fn nodes(alloc: Global, words: &mut SplitAsciiWhitespace<'_>, count: u32) -> Result<List<Node>, Memory>
+fn nodes(
+    alloc: Global,
+    words: &mut SplitAsciiWhitespace<'_>,
+    count: u32,
+) -> Result<List<Node>, Memory>
     requires { count ≤ 65536 }
     ensures { IfOk result (λ ops. length ops ≤ 65536) }
 {

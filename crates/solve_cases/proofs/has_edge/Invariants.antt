@@ -1,4 +1,4 @@
-use Rattle.std.proofs.Common.{◌≡◌, ◌≢◌, ℕ, ◌<◌, get_or}
+use Rattle.std.proofs.Common.{◌≢◌, ℕ, ◌<◌, get_or}
 use Rattle.solve_cases.proofs.has_edge.Given as goal
 
 abbrev pub invariant-loop-edge : goal.invariant-loop-edge

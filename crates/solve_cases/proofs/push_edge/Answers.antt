@@ -1,4 +1,4 @@
-use Rattle.std.proofs.Common.{◌≡◌, ◌≢◌, ℕ, ◌<◌, arith, get_or, length}
+use Rattle.std.proofs.Common.{◌≢◌, ℕ, ◌<◌, arith, get_or, length}
 use Rattle.solve_cases.proofs.Valid.{valid_more}
 use Rattle.solve_cases.proofs.push_edge.Goals as goal
 

@@ -7,5 +7,5 @@ use Rattle.ix_solve.proofs.cost.cost_of.Goals as goal
 pub returns : goal.returns
 returns c =
     let times : sum_below (λ k. get_or c.args.times.now k 0) (length c.args.p.now.ops) ≡ sum c.args.times.now
-        = sum_placed c.args.times.now (length c.args.p.now.ops) (sym c.requires.schedule.count) in
+    = sum_placed c.args.times.now (length c.args.p.now.ops) (sym c.requires.schedule.count) in
     omega (arith, times, c.total.ensures.sum, c.total_kept.ensures.sum)

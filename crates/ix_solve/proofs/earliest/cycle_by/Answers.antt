@@ -12,7 +12,7 @@ returns c =
     let to : a.to ≡ c.args.root = omega (arith, inside.1) in
     rw c.in_ok-push.ensures.items
     (back_at_root arcs c.args.root a.from 255 (get_or c.args.search.now.reach.items a.from 0) c.in_ok-cycle.cycle.items c.args.place
-        e.leads e.sum e.within c.requires.within refl to (c.requires.at_root to))
+    e.leads e.sum e.within c.requires.within refl to (c.requires.at_root to))
 
 pub returns-then-arc-root : goal.returns-then-arc-root
 returns-then-arc-root c =
@@ -23,4 +23,4 @@ returns-then-arc-root c =
     let over = c.requires.late c.if-arc-root.true in
     rw (c.in_ok-push-2.ensures.items, c.in_ok-push.ensures.items)
     (back_late arcs c.args.root a.from 255 (get_or c.args.search.now.reach.items a.from 0) c.in_ok-cycle.cycle.items c.args.place (c.args.root + a.to)
-        e.leads e.sum e.within c.requires.within (omega (arith, c.requires.framed.enough)) refl late.0 late.1 (omega (arith, over)))
+    e.leads e.sum e.within c.requires.within (omega (arith, c.requires.framed.enough)) refl late.0 late.1 (omega (arith, over)))

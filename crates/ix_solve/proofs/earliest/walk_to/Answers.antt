@@ -10,4 +10,4 @@ loop-k-preserved c =
     let w = c.loop-k.invariant in
     let x = get_or_read s.log.items c.loop-k.k c.index-step.result.now w.within c.index-step.ensures no_step in
     walk_more_at c.args.root c.args.root 255 510 c.args.arcs.now s.reach.items s.last.items s.log.items c.args.node _ c.loop-k.k c.loop-k.walk.items _ _
-        c.requires.search (omega arith) w x c.in_ok-push.ensures.items
+    c.requires.search (omega arith) w x c.in_ok-push.ensures.items

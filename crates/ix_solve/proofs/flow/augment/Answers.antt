@@ -19,9 +19,9 @@ returns-clause-state c =
     let same : length new ≡ length st.amounts.items = rw c.as_mut_slice.ensures.value at c.push_along.auto.amounts in
     let back = written_back st.amounts.items new st.amounts.len st.amounts.ok.0 same in
     let gains : GainsAlong st.amounts.items new d path (length path)
-        = rw (c.as_mut_slice.ensures.value, c.as_slice-3.ensures.value) at c.push_along.ensures.gains in
+    = rw (c.as_mut_slice.ensures.value, c.as_slice-3.ensures.value) at c.push_along.ensures.gains in
     moved_state c.args.root c.args.bounds.now st _ c.args.source c.args.target d c.args.longest
-        c.requires.state c.requires.longest c.requires.ends.0 c.requires.ends.1 d_need d_spare (rw back same) (rw back gains) (rw p refl) (rw q refl) refl
+    c.requires.state c.requires.longest c.requires.ends.0 c.requires.ends.1 d_need d_spare (rw back same) (rw back gains) (rw p refl) (rw q refl) refl
 
 pub returns-clause-kept : goal.returns-clause-kept
 returns-clause-kept c =
@@ -38,6 +38,6 @@ returns-clause-kept c =
     let same : length new ≡ length st.amounts.items = rw c.as_mut_slice.ensures.value at c.push_along.auto.amounts in
     let back = written_back st.amounts.items new st.amounts.len st.amounts.ok.0 same in
     let moved : HasMoved c.args.bounds.now st.amounts.items new c.args.source c.args.target d
-        = rw (c.as_mut_slice.ensures.value, c.as_slice-3.ensures.value, c.requires.longest.ends) at c.push_along.ensures.moved in
+    = rw (c.as_mut_slice.ensures.value, c.as_slice-3.ensures.value, c.requires.longest.ends) at c.push_along.ensures.moved in
     moved_balance c.args.root c.args.bounds.now st (take st.amounts.len (new ++ drop (length new) st.amounts.items)) _ _ c.args.source c.args.target d
-        c.requires.state c.requires.ends.0 c.requires.ends.1 d_need d_spare (rw back moved) (rw p refl) (rw q refl)
+    c.requires.state c.requires.ends.0 c.requires.ends.1 d_need d_spare (rw back moved) (rw p refl) (rw q refl)

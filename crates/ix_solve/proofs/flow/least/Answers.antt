@@ -33,4 +33,4 @@ returns c =
     let res : IsResidual c.args.bounds.now c.args.amounts.now arcs = rw (← c.as_slice-arcs.ensures.value) at c.in_ok-arcs.ensures in
     let times = c.in_ok-least.ensures in
     least_over c.args.root 255 510 arcs s.reach.items s.last.items c.in_ok-least.least.items s.log.items c.args.bounds.now c.args.amounts.now
-        c.in_ok-settle.ensures.search res c.requires.framed c.in_ok-settle.ensures.settled times.0 times.1
+    c.in_ok-settle.ensures.search res c.requires.framed c.in_ok-settle.ensures.settled times.0 times.1

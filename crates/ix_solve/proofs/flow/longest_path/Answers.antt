@@ -42,4 +42,4 @@ returns c =
     let is : c.in_ok-path.path.items ≡ places amounts s.log.items js = rw (c.as_slice.ensures.value, c.as_slice-2.ensures.value) at c.in_ok-path.ensures in
     let t = c.in_ok-steps.ensures in
     longest c.args.root c.args.source c.args.target 255 510 arcs s.reach.items s.last.items s.log.items c.args.bounds.now amounts c.in_ok-times.times.items js _
-        c.in_ok-settle.ensures.search res c.requires.framed c.in_ok-settle.ensures.settled t.leads t.apart t.steps t.tight c.in_ok-times.ensures.1 is _ refl refl
+    c.in_ok-settle.ensures.search res c.requires.framed c.in_ok-settle.ensures.settled t.leads t.apart t.steps t.tight c.in_ok-times.ensures.1 is _ refl refl

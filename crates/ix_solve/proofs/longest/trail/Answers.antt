@@ -10,7 +10,7 @@ loop-k-preserved c =
     let w = c.loop-k.invariant in
     let x = get_or_read s.log.items c.loop-k.k c.index.result.now w.within c.index.ensures no_step in
     trail_more_at c.args.root c.args.source 255 510 c.args.arcs.now s.reach.items s.last.items s.log.items _ c.args.target c.loop-k.k c.loop-k.trail.items _ _
-        c.requires.search c.requires.times c.requires.settled (omega arith) w x c.in_ok-push.ensures.items
+    c.requires.search c.requires.times c.requires.settled (omega arith) w x c.in_ok-push.ensures.items
 
 pub loop-k-smaller : goal.loop-k-smaller
 loop-k-smaller c =

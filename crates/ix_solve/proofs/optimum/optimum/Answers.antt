@@ -24,6 +24,6 @@ returns c =
     record {
       amounts_len = h.amounts_len;
       balanced = balances_met c.args.root c.args.bounds.now (record { amounts = c.in_ok-amounts.amounts; need = c.args.need; spare = c.args.spare; times = c.in-Times.times }) st
-        c.in_ok-meet.ensures.kept c.in_ok-amounts.ensures.zero h c.in_ok-meet.ensures.met;
+          c.in_ok-meet.ensures.kept c.in_ok-amounts.ensures.zero h c.in_ok-meet.ensures.met;
       least = least;
     }

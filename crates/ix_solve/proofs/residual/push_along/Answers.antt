@@ -21,5 +21,5 @@ loop-step-preserved c =
       | else-step w ↦
           rw w.amounts-is
           (next (get_or l.amounts p.at 0 - d) c.requires.path l.invariant c.loop-step-test.true (λ e. absurd (one_way p.along e w.if-step.false))
-              (λ e. let fits = room.1 e in omega arith))
+          (λ e. let fits = room.1 e in omega arith))
     ]

@@ -14,7 +14,7 @@ loop-k-preserved c =
     elim c.if-amount-gt0.branch [
       | then-amount-gt0+in_ok-bound+in_ok-push w ↦
           (let there : w.in_ok-bound.bound ≡ bound_at bounds l.k
-              = w.in_ok-bound.ensures ∙ w.index-bounds-k.is ∙ get_or_default bounds l.k _ (Early 0) c.loop-k-test.true in
+          = w.in_ok-bound.ensures ∙ w.index-bounds-k.is ∙ get_or_default bounds l.k _ (Early 0) c.loop-k-test.true in
           rw w.flow-is
           (used_more_some bounds amounts l.k l.flow _ w.in_ok-bound.bound c.requires c.loop-k-test.true w.if-amount-gt0.true l.invariant there w.in_ok-push.ensures.ok))
       | else-amount-gt0 w ↦

@@ -35,5 +35,5 @@ returns-clause-refused c =
     let closed : IsClosed (arcs_for p bounds) c.in-Cycle.places.items = rw c.in-Cycle.is at found in
     let bad : IsContradiction p (map (bound_at bounds) c.in-Cycle.places.items) = contradiction p bounds c.in-Cycle.places.items c.in_ok-bounds.ensures.are.of closed in
     let cycle : c.in_ok-cycle_of-in-Cycle.field-0 ≡ map (bound_at bounds) c.in-Cycle.places.items
-        = rw (c.as_slice-in-Cycle.ensures, c.as_slice-in-Cycle-2.ensures.value) at c.in_ok-cycle_of-in-Cycle.ensures in
+    = rw (c.as_slice-in-Cycle.ensures, c.as_slice-in-Cycle-2.ensures.value) at c.in_ok-cycle_of-in-Cycle.ensures in
     rw cycle (bad, λ some. no_schedule p c.requires (map (bound_at bounds) c.in-Cycle.places.items) bad some.0 some.1)

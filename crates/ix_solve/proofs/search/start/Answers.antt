@@ -8,4 +8,4 @@ returns c =
     let st = l.begun in
     let end : l.node ≡ c.args.root = omega arith in
     begun_root c.args.root c.args.source 255 510 st.hub st.at c.args.arcs.now st.reach.items st.last.items st.log.items _ _
-        (rw end at l.invariant) c.requires.inside (omega arith) c.in_ok-push.ensures.items c.in_ok-push-2.ensures.items
+    (rw end at l.invariant) c.requires.inside (omega arith) c.in_ok-push.ensures.items c.in_ok-push-2.ensures.items
