@@ -1,14 +1,13 @@
 -- The least times over the residual arcs of a flow are the chosen schedule.
-use Rattle.std.proofs.Common.{◌≡◌, ℕ, ◌+◌, ◌≤◌, ◌<◌, List, length, map, get_or, take, refl, sym, ◌∙◌, ap, arith, ◌⊎◌, inl, inr}
+use Rattle.std.proofs.Common.{◌≡◌, ℕ, ◌≤◌, ◌<◌, List, length, get_or, take, sym, ◌∙◌, arith, ◌⊎◌, inl, inr}
 use Rattle.std.specs.Prelude.{All, slice_index}
 use Rattle.std.proofs.lemmas.List.{get_or-take, length-take-le}
 use Rattle.std.proofs.lemmas.List.Elements.{All-weaker, All-from_get_or}
-use Rattle.ix_sheet.specs.declared.problem.Arc.{Arc}
 use Rattle.ix_sheet.specs.declared.problem.Bound.{Bound}
 use Rattle.ix_sheet.specs.declared.problem.Bound.TheVariants.{Early}
 use Rattle.ix_sheet.specs.declared.problem.Problem.{Problem}
-use Rattle.ix_sheet.specs.Schedules.{IsValidProblem, IsSchedule, IsChosen, cost}
-use Rattle.ix_sheet.specs.Bounds.{arc_of, rooted, Meets, MeetsBound, MeetsTurned, MeetsAll, turned, IsBoundOf, HasValue}
+use Rattle.ix_sheet.specs.Schedules.{IsValidProblem, IsSchedule}
+use Rattle.ix_sheet.specs.Bounds.{arc_of, rooted, Meets, MeetsBound, MeetsTurned, turned, IsBoundOf}
 use Rattle.ix_sheet.specs.Laws.{AreLeastTimes, IsChosenAtValue}
 use Rattle.ix_sheet.proofs.BoundLemmas.{ends_inside}
 use Rattle.ix_sheet.proofs.Duality.{chosen_by_flow}
@@ -16,7 +15,6 @@ use Rattle.ix_sheet.proofs.Rooted.{rooted_below, rooted_root}
 use Rattle.ix_problem.specs.Constraints.{AreConstraints}
 use Rattle.ix_solve.specs.Answers.{bound_at, used, AreOptimal}
 use Rattle.ix_solve.specs.Search.{no_arc, arc_at}
-use Rattle.ix_solve.specs.State.{AreLeastOver}
 use Rattle.ix_solve.proofs.Links.{arcs_for, arc_there, arcs_long, each_used, of_used, dual_flow}
 
 below_or_not : (a b : ℕ) → (a < b) ⊎ (b ≤ a)

@@ -1,7 +1,6 @@
 -- The balances of a problem, counted edge by edge, and how many edges there are.
-use Rattle.std.proofs.Common.{◌≡◌, ℕ, zero, suc, ◌≢◌, ◌+◌, ◌-◌, ◌*◌, ◌≤◌, ◌<◌, ◌^◌, ◌==◌, cond, true, false, List, [], ◌∷◌, length, map, get_or, set, take, min, refl, sym, ◌∙◌, ap, arith, ◌⊎◌, inl, inr, length-set}
-use Rattle.std.specs.Prelude.{All, AllPairs, Contains, sum, sum_by}
-use Rattle.std.specs.List.{IsDistinct}
+use Rattle.std.proofs.Common.{◌≡◌, ℕ, zero, suc, ◌≢◌, ◌+◌, ◌-◌, ◌*◌, ◌≤◌, ◌<◌, ◌==◌, cond, true, false, List, length, map, get_or, set, take, min, refl, ◌∙◌, ap, arith, ◌⊎◌, inl, inr, length-set}
+use Rattle.std.specs.Prelude.{All, AllPairs, sum, sum_by}
 use Rattle.std.proofs.lemmas.Bool.Decides.{nat_tests, Decides-eqb}
 use Rattle.std.proofs.lemmas.List.{get_or-set_same, get_or-set_other, get_or-map, length-map, take_all}
 use Rattle.std.proofs.lemmas.List.Elements.{All-contains, All-map}
@@ -10,10 +9,10 @@ use Rattle.std.proofs.lemmas.Map.Made.{IsDistinct-from_AllPairs}
 use Rattle.std.proofs.lemmas.Map.Steps.{length-le_from_distinct_below}
 use Rattle.std.proofs.lemmas.Map.Views.{Contains-from_any}
 use Rattle.ix_sheet.specs.declared.problem.Problem.{Problem}
-use Rattle.ix_sheet.specs.Schedules.{node_at, weight_of, IsValidProblem, IsForward, sum_below}
+use Rattle.ix_sheet.specs.Schedules.{node_at, weight_of, IsValidProblem, sum_below}
 use Rattle.ix_sheet.specs.Bounds.{weight_in, weight_out}
 use Rattle.ix_solve.specs.declared.balance.Balance.{Balance}
-use Rattle.ix_solve.specs.Balances.{need_to, spare_to, IsCountedTo, AreBalances, AreNetted}
+use Rattle.ix_solve.specs.Balances.{need_to, spare_to, IsCountedTo, AreNetted}
 use Rattle.ix_solve.proofs.States.{lowered, lowered_sum}
 
 -- a number for each edge

@@ -1,5 +1,5 @@
 -- Arcs that are followed where known times meet all.
-use Rattle.std.proofs.Common.{◌≡◌, ℕ, ◌≢◌, ◌+◌, ◌-◌, ◌*◌, ◌≤◌, ◌<◌, List, length, get_or, refl, sym, ◌∙◌, ap, arith}
+use Rattle.std.proofs.Common.{◌≡◌, ℕ, ◌≢◌, ◌+◌, ◌-◌, ◌*◌, ◌≤◌, ◌<◌, List, get_or, ◌∙◌, ap, arith}
 use Rattle.std.specs.Prelude.{All, Contains, sum}
 use Rattle.std.proofs.lemmas.List.Elements.{All-contains, All-weaker, All-from_get_or}
 use Rattle.std.proofs.lemmas.List.Sums.{sum_by-le}
@@ -7,8 +7,8 @@ use Rattle.ix_sheet.specs.declared.problem.Arc.{Arc}
 use Rattle.ix_sheet.specs.Bounds.{Meets}
 use Rattle.ix_solve.specs.declared.search.Step.{Step}
 use Rattle.ix_solve.specs.declared.search.TheConstants.{LIMIT}
-use Rattle.ix_solve.specs.Search.{arc_at, HasReached, IsNetwork}
-use Rattle.ix_solve.proofs.Steps.{least, placed_one}
+use Rattle.ix_solve.specs.Search.{HasReached, IsNetwork}
+use Rattle.ix_solve.proofs.Steps.{least}
 
 -- an arc that is not met does not end at the source, and its end stays within the cap
 pub lift_allowed : (n source : ℕ) (arcs : List Arc) (times reach last : List ℕ) (log : List Step) (a : Arc) →

@@ -1,7 +1,6 @@
 -- Amounts moved along a path, step by step.
-use Rattle.std.proofs.Common.{◌≡◌, ℕ, zero, suc, ◌≢◌, ◌+◌, ◌-◌, ◌≤◌, ◌<◌, ◌^◌, ◌==◌, List, [], ◌∷◌, length, get_or, set, cond, Bool, true, false, refl, sym, ◌∙◌, ap, arith, add-one, length-set, ◌⊎◌, inl, inr}
+use Rattle.std.proofs.Common.{◌≡◌, ℕ, zero, suc, ◌≢◌, ◌+◌, ◌≤◌, ◌<◌, ◌==◌, List, [], ◌∷◌, length, get_or, set, cond, Bool, true, false, refl, sym, ◌∙◌, ap, arith, add-one, length-set, ◌⊎◌, inl, inr}
 use Rattle.std.proofs.lemmas.List.{get_or-set_other, get_or-set_same}
-use Rattle.std.proofs.lemmas.Bool.Decides.{nat_tests}
 use Rattle.ix_sheet.specs.declared.problem.Arc.{Arc}
 use Rattle.ix_solve.specs.declared.residual.Place.{Place}
 use Rattle.ix_solve.specs.Search.{arc_at}

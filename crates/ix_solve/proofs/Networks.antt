@@ -1,5 +1,5 @@
 -- Residual arcs, and the path of a longest walk over them.
-use Rattle.std.proofs.Common.{◌≡◌, ℕ, ◌≢◌, ◌+◌, ◌-◌, ◌≤◌, ◌<◌, ◌==◌, true, false, List, length, get_or, refl, sym, ◌∙◌, ap, arith, ◌⊎◌, inl, inr}
+use Rattle.std.proofs.Common.{◌≡◌, ℕ, ◌+◌, ◌-◌, ◌≤◌, ◌<◌, ◌==◌, true, false, List, length, get_or, sym, ◌∙◌, ap, arith, ◌⊎◌, inl, inr}
 use Rattle.std.specs.Prelude.{All}
 use Rattle.std.proofs.lemmas.List.Elements.{All-from_get_or, All-weaker}
 use Rattle.std.proofs.lemmas.Bool.Decides.{nat_tests}
@@ -9,7 +9,7 @@ use Rattle.ix_solve.specs.declared.flow.Longest.{Longest}
 use Rattle.ix_solve.specs.declared.residual.Place.{Place}
 use Rattle.ix_solve.specs.declared.search.Step.{Step}
 use Rattle.ix_solve.specs.Search.{no_arc, arc_at, step_at, IsInside, HasReached, IsFramed, IsNetwork, Follows, AreApart}
-use Rattle.ix_solve.specs.Residual.{place_at, place_of, places, node_after, IsPath, IsResidual, other_of}
+use Rattle.ix_solve.specs.Residual.{place_at, place_of, places, IsResidual, other_of}
 use Rattle.ix_solve.specs.State.{AreTimes, IsLongest, AreLeastOver}
 use Rattle.ix_solve.proofs.Starts.{above_root, met_from_root, least_times}
 use Rattle.ix_solve.proofs.Paths.{at_places, path_joined, path_once, path_end, place_way}

@@ -1,14 +1,14 @@
 -- The first walks.
 use Rattle.std.proofs.Common.{◌≡◌, ℕ, zero, suc, ◌≢◌, ◌+◌, ◌-◌, ◌≤◌, ◌<◌, List, [], ◌∷◌, ◌++◌, length, get_or, refl, sym, ◌∙◌, ap, arith, ◌⊎◌, inl, inr, length-append}
-use Rattle.std.specs.Prelude.{All, Contains}
-use Rattle.std.proofs.lemmas.List.{get_or_append_left, get_or_push, get_or_default}
+use Rattle.std.specs.Prelude.{All}
+use Rattle.std.proofs.lemmas.List.{get_or_append_left, get_or_push}
 use Rattle.ix_sheet.specs.declared.problem.Arc.{Arc}
 use Rattle.ix_sheet.specs.Bounds.{Meets}
 use Rattle.std.proofs.lemmas.List.Elements.{All-weaker}
 use Rattle.ix_solve.specs.declared.search.Step.{Step}
 use Rattle.ix_solve.specs.declared.search.TheConstants.{LIMIT}
-use Rattle.ix_solve.specs.Search.{no_arc, no_step, arc_at, step_at, IsStep, IsReached, HasReached, IsFramed, HasBegun, IsInside, AreLeast}
-use Rattle.ix_solve.proofs.Steps.{step_old, step_new, keeps_step, placed_one, pushed_reached, least}
+use Rattle.ix_solve.specs.Search.{no_arc, arc_at, step_at, IsReached, HasReached, IsFramed, HasBegun, IsInside, AreLeast}
+use Rattle.ix_solve.proofs.Steps.{step_old, step_new, keeps_step, least}
 
 same_or_not : (v w : ℕ) → (v ≡ w) ⊎ (v ≢ w)
 same_or_not v w = grind arith

@@ -1,5 +1,5 @@
 -- States before and after an amount is moved.
-use Rattle.std.proofs.Common.{◌≡◌, ℕ, zero, suc, ◌≢◌, ◌+◌, ◌-◌, ◌≤◌, ◌<◌, ◌^◌, ◌==◌, cond, Bool, true, false, List, [], ◌∷◌, ◌++◌, length, get_or, set, take, drop, refl, sym, ◌∙◌, ap, arith, ◌⊎◌, inl, inr, length-set}
+use Rattle.std.proofs.Common.{◌≡◌, ℕ, zero, suc, ◌≢◌, ◌+◌, ◌-◌, ◌≤◌, ◌<◌, ◌==◌, cond, Bool, true, false, List, [], ◌∷◌, ◌++◌, length, get_or, set, take, drop, refl, ◌∙◌, arith, ◌⊎◌, inl, inr, length-set}
 use Rattle.std.specs.Prelude.{All, sum}
 use Rattle.std.proofs.lemmas.List.{get_or-set_same, get_or-set_other, take-append-le, take_all}
 use Rattle.std.proofs.lemmas.List.Sums.{sum_by-set, sum_by-le, get_or-le-sum_by}
@@ -10,8 +10,8 @@ use Rattle.ix_sheet.specs.Bounds.{IsTight}
 use Rattle.ix_solve.specs.declared.flow.State.{State}
 use Rattle.ix_solve.specs.declared.flow.Longest.{Longest}
 use Rattle.ix_solve.specs.Search.{arc_at, IsFramed, AreLeast}
-use Rattle.ix_solve.specs.Residual.{flow_at, flow_in, flow_out, place_at, node_after, HasRoom, HasMoved, GainsAlong}
-use Rattle.ix_solve.specs.State.{AreTimes, IsState, IsLongest, KeepsBalance, AreDue, MeetBalances}
+use Rattle.ix_solve.specs.Residual.{flow_at, flow_in, flow_out, place_at, HasRoom, HasMoved, GainsAlong}
+use Rattle.ix_solve.specs.State.{IsState, IsLongest, KeepsBalance, AreDue, MeetBalances}
 use Rattle.ix_solve.proofs.Starts.{above_root}
 
 same_or_not : (v w : ℕ) → (v ≡ w) ⊎ (v ≢ w)

@@ -1,9 +1,8 @@
 -- Steps of a log.
-use Rattle.std.proofs.Common.{◌≡◌, Bool, true, false, take, ℕ, zero, suc, ◌+◌, ◌*◌, ◌-◌, ◌≤◌, ◌<◌, ◌≢◌, List, [], ◌∷◌, ◌++◌, length, get_or, set, refl, sym, ◌∙◌, ap, subst, arith, ◌⊎◌, inl, inr, length-append, length-set, add-one, reverse}
-use Rattle.std.specs.Prelude.{sum, sum_by, All, Contains}
-use Rattle.std.proofs.lemmas.List.{reverse-append, take_all, get_or_default, get_or_append_left, get_or_push, get_or-set_same, get_or-set_other}
-use Rattle.std.proofs.lemmas.List.Elements.{All-contains, All-cons, All-nil, All-from_get_or, All-more}
-use Rattle.std.proofs.lemmas.List.Sums.{sum_by-cons, sum_by_push, sum_by-le}
+use Rattle.std.proofs.Common.{◌≡◌, ℕ, zero, suc, ◌+◌, ◌≤◌, ◌<◌, ◌≢◌, List, [], ◌∷◌, ◌++◌, length, get_or, set, refl, sym, ◌∙◌, ap, arith, ◌⊎◌, inl, inr, length-append, length-set}
+use Rattle.std.specs.Prelude.{sum, All, Contains}
+use Rattle.std.proofs.lemmas.List.{get_or_default, get_or_append_left, get_or_push, get_or-set_same, get_or-set_other}
+use Rattle.std.proofs.lemmas.List.Elements.{All-contains}
 use Rattle.ix_sheet.specs.declared.problem.Arc.{Arc}
 use Rattle.ix_sheet.specs.Bounds.{Meets}
 use Rattle.ix_solve.specs.declared.search.Step.{Step}

@@ -1,6 +1,6 @@
 -- The walk from the root by which a node was reached, and the way back.
 use Rattle.std.proofs.Common.{◌≡◌, ℕ, ◌+◌, ◌≤◌, ◌<◌, List, [], ◌∷◌, ◌++◌, length, get_or, refl, sym, arith, reverse}
-use Rattle.std.specs.Prelude.{sum_by, All}
+use Rattle.std.specs.Prelude.{All}
 use Rattle.std.proofs.lemmas.List.{reverse-append}
 use Rattle.std.proofs.lemmas.List.Elements.{All-cons, All-nil, All-push, All-head, All-tail}
 use Rattle.std.proofs.lemmas.List.Sums.{sum_by-cons, sum_by_push}

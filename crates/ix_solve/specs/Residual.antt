@@ -1,5 +1,5 @@
 -- Amounts on bounds, one per bound, and paths that raise or lower them (residual networks of flows).
-use Rattle.std.specs.Prelude.{ℕ, zero, suc, ◌≡◌, ◌≢◌, ◌+◌, ◌-◌, ◌≤◌, ◌<◌, ◌^◌, ◌==◌, ◌⊎◌, nat_lt, List, [], ◌∷◌, length, slice_index, slice_index_or, cond, Bool, true, false}
+use Rattle.std.specs.Prelude.{ℕ, zero, suc, ◌≡◌, ◌≢◌, ◌+◌, ◌-◌, ◌≤◌, ◌<◌, ◌^◌, ◌==◌, ◌⊎◌, nat_lt, List, [], ◌∷◌, length, slice_index, slice_index_or, cond, true, false}
 use Rattle.ix_sheet.specs.declared.problem.Arc.{Arc}
 use Rattle.ix_sheet.specs.Bounds.{turned}
 use Rattle.ix_solve.specs.declared.residual.Place.{Place}

@@ -55,11 +55,11 @@ fn schedule_of_an_addition(rt: HostRuntime) -> Result<(), Fail> {
     };
     assert_eq!(rt; solved.times.as_slice(), [1, 1, 1, 1, 2].as_slice());
     assert_eq!(rt; solved.cost, 7);
-    let mut value = 0;
+    let mut value: u64 = 0;
     for (bound, amount) in solved.flow.as_slice() {
         match bound {
-            Bound::Early(4) => value += 2 * amount,
-            Bound::Early(_) => value += amount,
+            Bound::Early(4) => value = value.saturating_add(amount.saturating_mul(2)),
+            Bound::Early(_) => value = value.saturating_add(*amount),
             Bound::Dep(_, _) => {}
             Bound::Late(_) | Bound::Chain(_) => return Err(Fail::from("not tight")),
         }

@@ -1,8 +1,7 @@
-use Rattle.std.proofs.Common.{◌≡◌, ◌+◌, ◌<◌, ◌≤◌, ◌*◌, ℕ, length, get_or, refl, arith, slice_index_or}
+use Rattle.std.proofs.Common.{◌≤◌, get_or, refl, arith}
 use Rattle.std.specs.Prelude.{sum}
 use Rattle.std.proofs.lemmas.List.{get_or_read}
 use Rattle.std.proofs.lemmas.List.Sums.{get_or-le-sum_by}
-use Rattle.ix_sheet.specs.Schedules.{node_at, weight_of}
 use Rattle.ix_solve.proofs.Counts.{few_edges, counted_more}
 use Rattle.ix_solve.proofs.balance.count.Goals as goal
 

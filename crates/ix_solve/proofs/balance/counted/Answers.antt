@@ -1,4 +1,4 @@
-use Rattle.std.proofs.Common.{◌≡◌, ◌≤◌, arith, length}
+use Rattle.std.proofs.Common.{arith}
 use Rattle.ix_solve.proofs.Counts.{counted_all}
 use Rattle.ix_solve.proofs.balance.counted.Goals as goal
 

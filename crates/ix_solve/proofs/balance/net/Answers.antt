@@ -1,4 +1,4 @@
-use Rattle.std.proofs.Common.{◌≡◌, ◌<◌, ◌-◌, length, get_or, refl, arith, min}
+use Rattle.std.proofs.Common.{◌<◌, length, refl, arith}
 use Rattle.std.proofs.lemmas.List.{get_or_read}
 use Rattle.ix_solve.proofs.Counts.{netted_more}
 use Rattle.ix_solve.proofs.balance.net.Goals as goal

@@ -1,4 +1,4 @@
-use Rattle.std.proofs.Common.{◌≡◌, ◌+◌, arith, refl, get_or, length, sym}
+use Rattle.std.proofs.Common.{◌≡◌, arith, get_or, length, sym}
 use Rattle.std.specs.Prelude.{sum}
 use Rattle.ix_sheet.specs.Schedules.{sum_below}
 use Rattle.ix_solve.proofs.Counts.{sum_placed}

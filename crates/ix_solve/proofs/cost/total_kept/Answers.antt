@@ -1,4 +1,4 @@
-use Rattle.std.proofs.Common.{◌≡◌, ◌+◌, ◌*◌, ◌≤◌, ◌<◌, arith, length}
+use Rattle.std.proofs.Common.{arith}
 use Rattle.ix_solve.proofs.Counts.{few_edges}
 use Rattle.ix_solve.proofs.cost.total_kept.Goals as goal
 

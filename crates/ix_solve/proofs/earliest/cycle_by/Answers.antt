@@ -1,4 +1,4 @@
-use Rattle.std.proofs.Common.{◌≡◌, ◌+◌, ◌≤◌, ◌<◌, arith, refl, get_or, length}
+use Rattle.std.proofs.Common.{◌≡◌, ◌+◌, arith, refl, get_or}
 use Rattle.ix_solve.specs.Search.{arc_at}
 use Rattle.ix_solve.proofs.Walks.{back_at_root, back_late}
 use Rattle.ix_solve.proofs.earliest.cycle_by.Goals as goal

@@ -1,4 +1,4 @@
-use Rattle.std.proofs.Common.{◌≡◌, ◌<◌, arith, get_or}
+use Rattle.std.proofs.Common.{◌<◌, arith, get_or}
 use Rattle.std.specs.Prelude.{sum, All}
 use Rattle.ix_sheet.specs.Bounds.{Meets}
 use Rattle.ix_solve.specs.Search.{IsRound}

@@ -1,4 +1,4 @@
-use Rattle.std.proofs.Common.{◌≡◌, ◌+◌, ◌<◌, ◌≤◌, arith, refl, length}
+use Rattle.std.proofs.Common.{arith}
 use Rattle.ix_solve.specs.Search.{arc_at, no_arc, IsInside}
 use Rattle.ix_solve.proofs.earliest.visit.Goals as goal
 

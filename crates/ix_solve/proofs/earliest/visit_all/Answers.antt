@@ -1,4 +1,3 @@
-use Rattle.std.proofs.Common.{◌≡◌, ◌<◌, ◌≤◌, arith, length}
 use Rattle.ix_solve.specs.Search.{arc_at, IsVisit}
 use Rattle.ix_solve.proofs.Rounds.{so_far_met, so_far_raised, all_visited}
 use Rattle.ix_solve.proofs.earliest.visit_all.Goals as goal

@@ -1,4 +1,4 @@
-use Rattle.std.proofs.Common.{◌≡◌, ◌+◌, ◌≤◌, arith, get_or, length, reverse}
+use Rattle.std.proofs.Common.{arith}
 use Rattle.std.proofs.lemmas.List.{get_or_read}
 use Rattle.ix_solve.specs.Search.{no_step}
 use Rattle.ix_solve.proofs.Walks.{walk_more_at}

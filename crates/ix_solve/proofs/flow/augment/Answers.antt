@@ -1,7 +1,7 @@
-use Rattle.std.proofs.Common.{◌≡◌, ◌+◌, ◌-◌, ◌<◌, ◌≤◌, ◌++◌, arith, get_or, length, take, drop, refl}
+use Rattle.std.proofs.Common.{◌≡◌, ◌≤◌, ◌++◌, arith, get_or, length, take, drop, refl}
 use Rattle.std.proofs.lemmas.List.{get_or_read}
 use Rattle.ix_solve.specs.Residual.{HasMoved, GainsAlong}
-use Rattle.ix_solve.proofs.States.{moved_state, moved_balance, need_falls, written_back}
+use Rattle.ix_solve.proofs.States.{moved_state, moved_balance, written_back}
 use Rattle.ix_solve.proofs.flow.augment.Goals as goal
 
 pub returns-clause-state : goal.returns-clause-state

@@ -1,4 +1,4 @@
-use Rattle.std.proofs.Common.{◌≡◌, ◌≤◌, refl, get_or, length}
+use Rattle.std.proofs.Common.{◌≡◌, refl, get_or}
 use Rattle.std.specs.Prelude.{All}
 use Rattle.ix_sheet.specs.Bounds.{Meets}
 use Rattle.ix_solve.specs.Residual.{IsResidual, places}

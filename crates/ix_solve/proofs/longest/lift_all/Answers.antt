@@ -1,4 +1,3 @@
-use Rattle.std.proofs.Common.{◌≡◌, ◌<◌, ◌≤◌, arith, length, true, false}
 use Rattle.ix_solve.specs.Search.{arc_at, IsLifted}
 use Rattle.ix_solve.proofs.Rounds.{so_far_met, so_far_raised, all_visited}
 use Rattle.ix_solve.proofs.longest.lift_all.Goals as goal

@@ -1,4 +1,4 @@
-use Rattle.std.proofs.Common.{◌≡◌, ◌<◌, arith, rules}
+use Rattle.std.proofs.Common.{◌<◌, arith, rules}
 use Rattle.std.specs.Prelude.{sum}
 use Rattle.ix_solve.proofs.Lifts.{reach_cap}
 use Rattle.ix_solve.proofs.longest.settle.Goals as goal

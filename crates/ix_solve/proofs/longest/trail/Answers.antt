@@ -1,4 +1,4 @@
-use Rattle.std.proofs.Common.{◌≡◌, ◌<◌, arith, get_or, reverse}
+use Rattle.std.proofs.Common.{arith}
 use Rattle.std.proofs.lemmas.List.{get_or_read}
 use Rattle.ix_solve.specs.Search.{no_step}
 use Rattle.ix_solve.proofs.Trails.{trail_more_at}

@@ -1,4 +1,3 @@
-use Rattle.std.proofs.Common.{◌≡◌, refl, length, ◌∷◌, []}
 use Rattle.ix_solve.specs.Search.{IsOutcome, AreLeast}
 use Rattle.ix_solve.specs.State.{AreLeastOver}
 use Rattle.ix_solve.proofs.States.{first_state, balances_met}

@@ -1,4 +1,4 @@
-use Rattle.std.proofs.Common.{◌≡◌, ◌+◌, ◌∷◌, [], ◌++◌, arith, get_or, take, refl}
+use Rattle.std.proofs.Common.{◌≡◌, ◌+◌, ◌∷◌, [], ◌++◌, get_or, take, refl}
 use Rattle.std.proofs.lemmas.List.{take_more}
 use Rattle.ix_solve.specs.Search.{step_at}
 use Rattle.ix_solve.specs.Residual.{places, place_of}

@@ -1,4 +1,4 @@
-use Rattle.std.proofs.Common.{◌≡◌, ◌+◌, ◌-◌, ◌<◌, ◌≤◌, arith, refl, true, false, get_or}
+use Rattle.std.proofs.Common.{◌+◌, ◌-◌, arith, refl, get_or}
 use Rattle.ix_solve.specs.Residual.{place_at}
 use Rattle.ix_solve.proofs.Moves.{pushed_more, one_way}
 use Rattle.ix_solve.proofs.residual.push_along.Goals as goal

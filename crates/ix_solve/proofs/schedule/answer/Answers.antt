@@ -1,7 +1,5 @@
-use Rattle.std.proofs.Common.{◌≡◌, take, length, refl, slice_index}
-use Rattle.ix_sheet.specs.Schedules.{IsSchedule, cost}
-use Rattle.ix_sheet.specs.Bounds.{HasValue}
-use Rattle.ix_solve.specs.Answers.{used}
+use Rattle.std.proofs.Common.{◌≡◌, take, length, slice_index}
+use Rattle.ix_sheet.specs.Schedules.{cost}
 use Rattle.ix_solve.proofs.Links.{dual_flow}
 use Rattle.ix_solve.proofs.Chosen.{settled}
 use Rattle.ix_solve.proofs.schedule.answer.Goals as goal

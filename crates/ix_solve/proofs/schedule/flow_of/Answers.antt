@@ -1,4 +1,4 @@
-use Rattle.std.proofs.Common.{◌≡◌, ◌<◌, arith, get_or, refl, length, ◌∙◌}
+use Rattle.std.proofs.Common.{◌≡◌, arith, ◌∙◌}
 use Rattle.std.proofs.lemmas.List.{get_or_default}
 use Rattle.ix_sheet.specs.declared.problem.Bound.TheVariants.{Early}
 use Rattle.ix_solve.specs.Answers.{bound_at}

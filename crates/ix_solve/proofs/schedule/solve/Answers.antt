@@ -1,4 +1,4 @@
-use Rattle.std.proofs.Common.{◌≡◌, ℕ, ◌<◌, ◌≤◌, map, length, refl, ◌∙◌}
+use Rattle.std.proofs.Common.{◌≡◌, ℕ, ◌<◌, ◌≤◌, map, length, ◌∙◌}
 use Rattle.ix_sheet.specs.Schedules.{node_at}
 use Rattle.ix_sheet.specs.Bounds.{IsContradiction}
 use Rattle.ix_sheet.proofs.Cycles.{no_schedule}

@@ -1,4 +1,4 @@
-use Rattle.std.proofs.Common.{◌≡◌, ℕ, ◌<◌, ◌≤◌, get_or}
+use Rattle.std.proofs.Common.{ℕ, ◌<◌, ◌≤◌, get_or}
 use Rattle.ix_solve.specs.Answers.{no_node}
 use Rattle.ix_solve.proofs.schedule.windows_fit.Given as goal
 

@@ -1,4 +1,4 @@
-use Rattle.std.proofs.Common.{◌≡◌, ◌+◌, refl, arith, ◌<◌}
+use Rattle.std.proofs.Common.{◌+◌, refl, arith, ◌<◌}
 use Rattle.ix_solve.specs.Search.{arc_at}
 use Rattle.ix_solve.proofs.Starts.{begun_two}
 use Rattle.ix_solve.proofs.search.begin.Goals as goal

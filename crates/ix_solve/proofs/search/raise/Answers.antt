@@ -1,4 +1,4 @@
-use Rattle.std.proofs.Common.{◌≡◌, ◌+◌, ◌-◌, ◌≤◌, arith, get_or, length, refl}
+use Rattle.std.proofs.Common.{arith, refl}
 use Rattle.std.proofs.lemmas.List.{get_or_read}
 use Rattle.ix_solve.specs.Search.{arc_at}
 use Rattle.ix_solve.proofs.Steps.{raised_at}

@@ -1,4 +1,4 @@
-use Rattle.std.proofs.Common.{◌≡◌, refl, arith}
+use Rattle.std.proofs.Common.{◌≡◌, arith}
 use Rattle.ix_solve.proofs.Starts.{begun_root}
 use Rattle.ix_solve.proofs.search.start.Goals as goal
 
