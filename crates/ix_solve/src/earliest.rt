@@ -38,11 +38,11 @@ fn walk_to(
     ensures within { IfOk result (λ walk. All (λ k. k < length arcs.now) walk.items) }
 {
     let mut walk = Vec::new(alloc);
-    let mut k = search.last[node as usize];
-    while k != 0 {
-        let step = search.log[k];
+    let mut at = search.last[node as usize];
+    while at != 0 {
+        let step = search.log[at];
         walk.push(step.place)?;
-        k = step.parent;
+        at = step.parent;
     }
     walk.reverse();
     Ok(walk)

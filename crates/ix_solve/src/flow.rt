@@ -81,9 +81,9 @@ fn first_above(amounts: &[u64]) -> Option<usize>
     ensures some { IfSome result (λ i. (i < length amounts.now) × (0 < slice_index amounts.now i)) }
     ensures none { IsNone result → All (λ x. x ≡ 0) amounts.now }
 {
-    for (i, amount) in amounts.iter().enumerate() {
+    for (node, amount) in amounts.iter().enumerate() {
         if *amount > 0 {
-            return Some(i);
+            return Some(node);
         }
     }
     None

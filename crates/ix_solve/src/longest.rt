@@ -93,10 +93,10 @@ pub fn trail(
     ensures tight { IfOk result (λ trail. All (λ j. IsTight (reach_at search.now) (step_at search.now.log.items j).arc) trail.items) }
 {
     let mut trail = Vec::new(alloc);
-    let mut k = search.last[target as usize];
-    while k != 0 {
-        trail.push(k)?;
-        k = search.log[k].parent;
+    let mut at = search.last[target as usize];
+    while at != 0 {
+        trail.push(at)?;
+        at = search.log[at].parent;
     }
     trail.reverse();
     Ok(trail)

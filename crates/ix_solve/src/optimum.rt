@@ -20,9 +20,9 @@ pub enum Found {
 fn first_loop(arcs: &[Arc]) -> Option<usize>
     ensures { IfSome result (λ k. (k < length arcs.now) × ((arc_at arcs.now k).from ≡ (arc_at arcs.now k).to) × ((arc_at arcs.now k).down < (arc_at arcs.now k).up)) }
 {
-    for (k, arc) in arcs.iter().enumerate() {
+    for (place, arc) in arcs.iter().enumerate() {
         if arc.from == arc.to && arc.up > arc.down {
-            return Some(k);
+            return Some(place);
         }
     }
     None
@@ -70,8 +70,8 @@ pub fn optimum(
         amounts,
         need: _,
         spare: _,
-        times,
+        times: own,
     } = state;
-    let times = least(alloc, amounts.as_slice(), times.as_slice(), root, bounds)?;
+    let times = least(alloc, amounts.as_slice(), own.as_slice(), root, bounds)?;
     Ok(Found::Optimum(times, amounts))
 }

@@ -36,8 +36,8 @@ pub fn residual(alloc: Global, bounds: &[Arc], amounts: &[u64]) -> Result<Vec<Ar
     ensures { IfOk result (λ arcs. IsResidual bounds.now amounts.now arcs.items) }
 {
     let mut arcs = bounds.to_vec(alloc)?;
-    for k in 0..bounds.len() {
-        let arc = other_way(bounds[k], amounts[k]);
+    for place in 0..bounds.len() {
+        let arc = other_way(bounds[place], amounts[place]);
         arcs.push(arc)?;
     }
     Ok(arcs)
@@ -72,8 +72,8 @@ pub fn path_of(
     ensures { IfOk result (λ path. path.items ≡ places amounts.now log.now steps.now) }
 {
     let mut path = Vec::new(alloc);
-    for j in steps {
-        let step = log[*j];
+    for number in steps {
+        let step = log[*number];
         let place = place_for(step.place, amounts);
         path.push(place)?;
     }

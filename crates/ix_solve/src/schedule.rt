@@ -60,8 +60,8 @@ impl From<AllocError> for SolveErr {
 fn windows_fit(ops: &[Node])
     ensures { (k : ℕ) → k < length ops.now → ((slice_index_or ops.now k no_node).early ≤ LIMIT) × ((slice_index_or ops.now k no_node).late ≤ LIMIT) }
 {
-    for k in 0..ops.len() {
-        let Node { early, late, .. } = ops[k];
+    for op in 0..ops.len() {
+        let Node { early, late, .. } = ops[op];
         prove!(early <= 255 && late <= 255);
     }
 }
@@ -109,10 +109,10 @@ fn flow_of(alloc: Global, bounds: &[Bound], amounts: &[u64]) -> Result<List<(Bou
     ensures { IfOk result (λ flow. flow ≡ used bounds.now amounts.now) }
 {
     let mut flow = List::new(alloc);
-    for k in 0..bounds.len() {
-        let amount = amounts[k];
+    for place in 0..bounds.len() {
+        let amount = amounts[place];
         if amount > 0 {
-            let bound = copy_of(alloc, &bounds[k])?;
+            let bound = copy_of(alloc, &bounds[place])?;
             flow.push((bound, amount))?;
         }
     }

@@ -102,7 +102,7 @@ fn begin_next(
         return Ok(());
     }
     let arc = arcs[node as usize];
-    let k = begun.log.len();
+    let count = begun.log.len();
     let reached = begun.at + arc.up;
     begun.log.push(Step {
         arc,
@@ -111,7 +111,7 @@ fn begin_next(
         reached,
     })?;
     begun.reach.push(reached)?;
-    begun.last.push(k)?;
+    begun.last.push(count)?;
     Ok(())
 }
 
@@ -169,7 +169,7 @@ pub fn raise(
     let arc = arcs[place];
     let reached = (search.reach[arc.from as usize] as u64 + arc.up as u64 - arc.down as u64) as u32;
     let parent = search.last[arc.from as usize];
-    let k = search.log.len();
+    let count = search.log.len();
     search.log.push(Step {
         arc,
         place,
@@ -177,7 +177,7 @@ pub fn raise(
         reached,
     })?;
     search.reach[arc.to as usize] = reached;
-    search.last[arc.to as usize] = k;
+    search.last[arc.to as usize] = count;
     Ok(())
 }
 

@@ -6,18 +6,18 @@ use Rattle.ix_solve.proofs.Links.{used_more_none, used_more_some}
 use Rattle.ix_solve.proofs.schedule.flow_of.Goals as goal
 use Rattle.ix_solve.proofs.schedule.flow_of.Goals.{then-amount-gt0+in_ok-bound+in_ok-push, else-amount-gt0}
 
-pub loop-k-preserved : goal.loop-k-preserved
-loop-k-preserved c =
+pub loop-place-preserved : goal.loop-place-preserved
+loop-place-preserved c =
     let bounds = c.args.bounds.now in
     let amounts = c.args.amounts.now in
-    let l = c.loop-k in
+    let l = c.loop-place in
     elim c.if-amount-gt0.branch [
       | then-amount-gt0+in_ok-bound+in_ok-push w ↦
-          (let there : w.in_ok-bound.bound ≡ bound_at bounds l.k
-          = w.in_ok-bound.ensures ∙ w.index-bounds-k.is ∙ get_or_default bounds l.k _ (Early 0) c.loop-k-test.true in
+          (let there : w.in_ok-bound.bound ≡ bound_at bounds l.place
+          = w.in_ok-bound.ensures ∙ w.index-bounds-place.is ∙ get_or_default bounds l.place _ (Early 0) c.loop-place-test.true in
           rw w.flow-is
-          (used_more_some bounds amounts l.k l.flow _ w.in_ok-bound.bound c.requires c.loop-k-test.true w.if-amount-gt0.true l.invariant there w.in_ok-push.ensures.ok))
+          (used_more_some bounds amounts l.place l.flow _ w.in_ok-bound.bound c.requires c.loop-place-test.true w.if-amount-gt0.true l.invariant there w.in_ok-push.ensures.ok))
       | else-amount-gt0 w ↦
           rw w.flow-is
-          (used_more_none bounds amounts l.k l.flow c.requires c.loop-k-test.true (omega (arith, w.if-amount-gt0.false)) l.invariant)
+          (used_more_none bounds amounts l.place l.flow c.requires c.loop-place-test.true (omega (arith, w.if-amount-gt0.false)) l.invariant)
     ]
