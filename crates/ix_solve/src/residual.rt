@@ -1,6 +1,6 @@
 //! Amounts on bounds, the inequalities that they allow to be gone against, and paths along which amounts move.
 
-ghost use Rattle.std.specs.Prelude.{◌≡◌, ℕ, ◌+◌, ◌<◌, ◌≤◌, false, length, IfOk, slice_index, All};
+ghost use Rattle.std.specs.Prelude.{◌⊎◌, ◌≡◌, ℕ, ◌+◌, ◌<◌, ◌≤◌, false, length, IfOk, slice_index, All};
 ghost use Rattle.ix_solve.specs.Search.{step_at};
 ghost use Rattle.ix_solve.specs.Residual.{IsPath, HasRoom, HasMoved, GainsAlong, IsResidual, node_after, other_of, place_at, place_of, places};
 
@@ -88,6 +88,7 @@ pub fn room(path: &[Place], amounts: &[u64], most: u64) -> u64
     ensures some { 0 < result }
     ensures most { result ≤ most }
     ensures each { (k : ℕ) → k < length path.now → (place_at path.now k).along ≡ false → result ≤ slice_index amounts.now (place_at path.now k).at }
+    ensures greatest { (result ≡ most) ⊎ ((k : ℕ) × (k < length path.now) × ((place_at path.now k).along ≡ false) × (result ≡ slice_index amounts.now (place_at path.now k).at)) }
 {
     let mut least = most;
     for step in path {
