@@ -17,6 +17,7 @@ abbrev pub IsRefusal : Problem → SolveErr → Type 0
 IsRefusal p (Cycle cycle) = IsContradiction p cycle × (HasSchedule p → ⊥)
 IsRefusal p Memory = Unit {0}
 
+-- the bound at a place
 abbrev pub bound_at : List Bound → ℕ → Bound
 bound_at bounds k = slice_index_or bounds k (Early 0)
 
@@ -41,5 +42,6 @@ pub record IsSolved (p : Problem) (solved : Solved) : Type 0 where
   pub flow : IsDualFlow p solved.flow
   pub value : HasValue p solved.flow solved.cost
 
+-- what is read past the end of operations
 abbrev pub no_node : Node
 no_node = record { delay = 0; latency = 0; early = 0; late = 0 }

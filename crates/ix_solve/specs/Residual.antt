@@ -12,15 +12,18 @@ flow_at node [] amounts v = 0
 flow_at node (b ∷ bs) [] v = 0
 flow_at node (b ∷ bs) (x ∷ xs) v = cond (node b == v) x 0 + flow_at node bs xs v
 
+-- what comes to a node, and what leaves it
 abbrev pub flow_in : List Arc → List ℕ → ℕ → ℕ
 flow_in = flow_at (λ b. b.to)
 
 abbrev pub flow_out : List Arc → List ℕ → ℕ → ℕ
 flow_out = flow_at (λ b. b.from)
 
+-- what is read past the end of a path
 abbrev pub no_place : Place
 no_place = record { at = 0; along = false }
 
+-- the step of a path at a place
 abbrev pub place_at : List Place → ℕ → Place
 place_at path k = slice_index_or path k no_place
 
@@ -71,6 +74,7 @@ place_of amounts p =
     cond (nat_lt p (length amounts)) (record { at = p; along = true })
     (record { at = p - length amounts; along = slice_index amounts (p - length amounts) == 0 })
 
+-- .. of the steps of a trail
 abbrev pub places : List ℕ → List Step → List ℕ → List Place
 places amounts log [] = []
 places amounts log (j ∷ js) = place_of amounts (step_at log j).place ∷ places amounts log js

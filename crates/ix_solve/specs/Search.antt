@@ -12,9 +12,11 @@ use Rattle.ix_solve.specs.declared.earliest.Round.TheVariants as rounds
 use Rattle.ix_solve.specs.declared.earliest.Outcome.{Outcome}
 use Rattle.ix_solve.specs.declared.earliest.Outcome.TheVariants as outcomes
 
+-- what is read past the end of arcs
 abbrev pub no_arc : Arc
 no_arc = record { from = 0; to = 0; up = 0; down = 0 }
 
+-- what is read past the end of a log
 abbrev pub no_step : Step
 no_step = record { arc = no_arc; place = 0; parent = 0; reached = 0 }
 
@@ -85,6 +87,7 @@ pub record HasBegun (n source base cap hub at : ℕ) (arcs : List Arc) (i e : �
   pub apart : (j k : ℕ) → j < k → k < length log → (step_at log j).arc.to ≢ (step_at log k).arc.to
   pub inside : (k : ℕ) → 0 < k → k < length log → (step_at log k).arc.to ≤ n
 
+-- .. as the first walks have them, which begin with the limit
 abbrev pub IsBegun : ℕ → ℕ → List Arc → ℕ → ℕ → Begun → Type 0
 IsBegun n source arcs i e st = HasBegun n source LIMIT (LIMIT + LIMIT) st.hub st.at arcs i e st.reach.items st.last.items st.log.items
 
@@ -100,6 +103,7 @@ abbrev pub Leads : List Arc → ℕ → List ℕ → ℕ → Type 0
 Leads arcs a [] b = a ≡ b
 Leads arcs a (k ∷ ks) b = ((arc_at arcs k).from ≡ a) × Leads arcs (arc_at arcs k).to ks b
 
+-- the sums of what the numbers of these arcs add and take off
 abbrev pub ups : List Arc → List ℕ → ℕ
 ups arcs = sum_by (λ k. (arc_at arcs k).up)
 
@@ -153,6 +157,7 @@ pub record IsNetwork (n source : ℕ) (arcs : List Arc) (times : List ℕ) : Typ
   pub source_low : slice_index times source ≤ LIMIT
   pub bounded : (v : ℕ) → v ≤ n → slice_index times v + LIMIT ≤ LIMIT + LIMIT + slice_index times source
 
+-- what came of one arc: its end was raised, or it was met
 abbrev pub IsLifted : Arc → Search → Search → Bool → Type 0
 IsLifted arc old new true = sum old.reach.items < sum new.reach.items
 IsLifted arc old new false = Meets (reach_at new) arc × (new.reach.items ≡ old.reach.items)

@@ -62,6 +62,7 @@ abbrev pub MeetBalances : ℕ → List Arc → List ℕ → List ℕ → List �
 MeetBalances n bounds need spare amounts = (v : ℕ) → v < n →
     flow_in bounds amounts v + slice_index spare v ≡ flow_out bounds amounts v + slice_index need v
 
+-- amounts that meet the balances, and the least times that go with them
 pub record IsOptimum (n : ℕ) (bounds : List Arc) (need spare times amounts : List ℕ) : Type 0 where
   pub amounts_len : length amounts ≡ length bounds
   pub balanced : MeetBalances n bounds need spare amounts
