@@ -1,0 +1,13 @@
+mod Steps
+mod Starts
+mod Rounds
+mod Walks
+mod Lifts
+mod Trails
+mod Paths
+mod Moves
+mod Networks
+mod States
+mod Counts
+mod Links
+mod Chosen

@@ -1,0 +1,5 @@
+pub mod Answers
+pub mod Balances
+pub mod Residual
+pub mod Search
+pub mod State

@@ -1,0 +1,134 @@
+//! Reads problems, one a line, and tells of each the cost and the times of its schedule, or `cycle` where
+//! there is none. A line has the period, the count of operations, the delay, latency, first and last time of each, and the edges.
+#![tactic(auto)]
+
+ghost use Rattle.std.specs.Prelude.{◌≡◌, ◌≢◌, ◌≤◌, ◌<◌, ℕ, false, length, slice_index_or, IfOk, IfSome};
+ghost use Rattle.ix_sheet.specs.Schedules.{IsValidProblem};
+
+use ix_bits::{List, Memory};
+use ix_sheet::{Node, Problem};
+use ix_solve::{SolveErr, solve};
+use std::alloc::Global;
+use std::io;
+use std::io::Read;
+use std::str::SplitAsciiWhitespace;
+
+fn number(words: &mut SplitAsciiWhitespace<'_>) -> Option<u32> {
+    words.next()?.parse().ok()
+}
+
+fn byte(words: &mut SplitAsciiWhitespace<'_>) -> Option<u8> {
+    words.next()?.parse().ok()
+}
+
+fn node(words: &mut SplitAsciiWhitespace<'_>) -> Option<Node> {
+    Some(Node {
+        delay: number(words)?,
+        latency: byte(words)?,
+        early: byte(words)?,
+        late: byte(words)?,
+    })
+}
+
+fn nodes(
+    alloc: Global,
+    words: &mut SplitAsciiWhitespace<'_>,
+    count: u32,
+) -> Result<List<Node>, Memory>
+    requires { count ≤ 65536 }
+    ensures { IfOk result (λ ops. length ops ≤ 65536) }
+{
+    let mut ops = List::new(alloc);
+    for _ in 0..count {
+        let Some(node) = node(words) else {
+            return Ok(ops);
+        };
+        ops.push(node)?;
+    }
+    Ok(ops)
+}
+
+fn has_edge(edges: &[(u32, u32)], from: u32, to: u32) -> bool
+    ensures { result ≡ false → (k : ℕ) → k < length edges.now → slice_index_or edges.now k (0, 0) ≢ (from, to) }
+{
+    for edge in edges {
+        if *edge == (from, to) {
+            return true;
+        }
+    }
+    false
+}
+
+// puts an edge to a problem, if the problem is valid with it
+fn push_edge(p: &mut Problem, from: u32, to: u32) -> Result<(), Memory>
+    requires { IsValidProblem p.old }
+    ensures { IfOk result (λ _. IsValidProblem p.new) }
+{
+    if from >= to {
+        return Ok(());
+    }
+    if to as usize >= p.ops.len() {
+        return Ok(());
+    }
+    if has_edge(p.edges.as_slice(), from, to) {
+        return Ok(());
+    }
+    p.edges.push((from, to))?;
+    Ok(())
+}
+
+// the problem of a line without its edges
+fn without_edges(alloc: Global, words: &mut SplitAsciiWhitespace<'_>) -> Result<Problem, Memory>
+    ensures { IfOk result IsValidProblem }
+{
+    let period = number(words).unwrap_or(0);
+    let count = number(words).unwrap_or(0).min(65536);
+    let ops = nodes(alloc, words, count)?;
+    Ok(Problem {
+        ops,
+        edges: List::new(alloc),
+        period,
+    })
+}
+
+fn problem(alloc: Global, line: &str) -> Result<Problem, Memory>
+    ensures { IfOk result IsValidProblem }
+{
+    let mut words = line.split_ascii_whitespace();
+    let mut p = without_edges(alloc, &mut words)?;
+    for _ in 0..line.len() {
+        let (Some(from), Some(to)) = (number(&mut words), number(&mut words)) else {
+            return Ok(p);
+        };
+        push_edge(&mut p, from, to)?;
+    }
+    Ok(p)
+}
+
+fn tell(rt: &impl Print, alloc: Global, p: &Problem) -> io::Result<()>
+    requires { IsValidProblem p.now }
+{
+    match solve(alloc, p) {
+        Ok(solved) => {
+            print!(rt; "{}:", solved.cost)?;
+            for time in solved.times.as_slice() {
+                print!(rt; " {time}")?;
+            }
+            println!(rt)
+        }
+        Err(SolveErr::Cycle(_)) => println!(rt; "cycle"),
+        Err(SolveErr::Memory) => println!(rt; "memory"),
+    }
+}
+
+fn main(rt: HostRuntime) -> io::Result<()> {
+    let mut text = String::new(rt.alloc());
+    rt.reader().read_to_string(&mut text)?;
+    for line in text.lines() {
+        match problem(rt.alloc(), line) {
+            Ok(p) => tell(&rt, rt.alloc(), &p)?,
+            Err(Memory) => println!(rt; "memory")?,
+        }
+    }
+    Ok(())
+}
