@@ -17,3 +17,5 @@ pub mod KeptSteps
 pub mod Viable
 pub mod ViableStates
 pub mod Verdicts
+pub mod Views
+pub mod Names

@@ -8,3 +8,6 @@ pub mod Lexing
 pub mod Laws
 pub mod View
 pub mod Example
+pub mod LoopHeads
+pub mod Unrolling
+pub mod Rows
