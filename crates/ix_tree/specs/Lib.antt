@@ -8,3 +8,5 @@ pub mod Lexing
 pub mod Laws
 pub mod View
 pub mod Example
+pub mod LoopHeads
+pub mod Unrolling
