@@ -10,3 +10,4 @@ pub mod View
 pub mod Example
 pub mod LoopHeads
 pub mod Unrolling
+pub mod Rows

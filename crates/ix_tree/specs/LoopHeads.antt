@@ -16,7 +16,7 @@ use Rattle.ix_tree.specs.declared.expr.CastTo.TheVariants as C
 use Rattle.ix_tree.specs.Lexing.{same_bytes}
 use Rattle.ix_tree.specs.Trees.{ExprTree, e_literal, e_name, e_pc, e_x, e_mem, e_index, e_range, e_unary, e_cast, e_binary, e_choose}
 
--- ---- loop variables and their values
+-- ---- loop variables and their values, the innermost first
 pub record Binding : Type 0 where
   pub name : List ℕ
   pub value : ℤ

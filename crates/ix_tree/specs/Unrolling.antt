@@ -28,9 +28,9 @@ pub record Head : Type 0 where
   pub test : ExprTree
   pub last : AssignTree
 
--- the loop's variable after the enclosing ones
+-- the loop's variable before the enclosing ones
 abbrev pub with_value : List Binding → List ℕ → ℤ → List Binding
-with_value bs name value = bs ++ record { name = name; value = value } ∷ []
+with_value bs name value = record { name = name; value = value } ∷ bs
 
 -- what the test gives for this value of the variable
 abbrev pub test_value : List Binding → Head → ℤ → Option Valued
@@ -157,8 +157,11 @@ put_target bs l_pc = l_pc
 put_target bs (l_x e) = l_x (put bs e)
 put_target bs (l_mem e f) = l_mem (put bs e) (put_option bs f)
 
+abbrev pub put_place : List Binding → Place → Place
+put_place bs p = record { span = p.span; tree = put_target bs p.tree }
+
 abbrev pub put_assign : List Binding → AssignTree → AssignTree
-put_assign bs a = record { span = a.span; target = record { span = a.target.span; tree = put_target bs a.target.tree }; op = a.op; value = put bs a.value }
+put_assign bs a = record { span = a.span; target = put_place bs a.target; op = a.op; value = put bs a.value }
 
 abbrev pub put_decl : List Binding → DeclTree → DeclTree
 put_decl bs d = record { span = d.span; name = d.name; value = put_option bs d.value }
