@@ -29,7 +29,7 @@ ty_same s t w v a b c d e f =
     ∙ ap (λ (r : w ≤ 128). let x : Ty = record { signed = t; width = w; some_width = p; most_width = r } in x) (le_prop b q))
     c d
 
-ty_is : (x y : Ty) → x.signed ≡ y.signed → x.width ≡ y.width → x ≡ y
+pub ty_is : (x y : Ty) → x.signed ≡ y.signed → x.width ≡ y.width → x ≡ y
 ty_is x y e f = ty_same x.signed y.signed x.width y.width x.some_width x.most_width y.some_width y.most_width e f
 
 bits_same : (r s w v : ℕ) (a : 1 ≤ w) (b : w ≤ 128) (c : r < 2 ^ w) (a' : 1 ≤ v) (b' : v ≤ 128) (c' : s < 2 ^ v) → r ≡ s → w ≡ v
@@ -56,7 +56,7 @@ bits_same r s w v a b c a' b' c' e f =
     ∙ ap (λ (k : r < 2 ^ w). let x : Bits = record { raw = r; width = w; some_width = p; most_width = q; in_width = k } in x) (le_prop c u)))
     a' b' c'
 
-bits_are : (x y : Bits) → x.raw ≡ y.raw → x.width ≡ y.width → x ≡ y
+pub bits_are : (x y : Bits) → x.raw ≡ y.raw → x.width ≡ y.width → x ≡ y
 bits_are x y e f =
     bits_same x.raw y.raw x.width y.width x.some_width x.most_width x.in_width y.some_width y.most_width y.in_width e f
 

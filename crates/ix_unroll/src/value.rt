@@ -1,4 +1,5 @@
 ghost use Rattle.std.specs.Prelude.{◌≡◌, ◌≤◌, pos, int_lt};
+ghost use Rattle.ix_bits.specs.ResultTypes.{Embeds};
 ghost use Rattle.ix_bits.specs.Operators.{is_true};
 ghost use Rattle.ix_tree.specs.Unrolling.{stepped};
 ghost use Rattle.ix_tree.specs.View.{view};
@@ -209,13 +210,24 @@ fn choice_value(c: Option<Value>, x: Option<Value>, y: Option<Value>) -> Option<
                 Err(_) => return None,
                 Ok(ty) => ty,
             };
-            let chosen = if holds(c) { x } else { y };
-            Some(Value {
-                ty,
-                bits: cast(chosen.ty, ty, chosen.bits),
+            Some(if holds(c) {
+                embedded(ty, x)
+            } else {
+                embedded(ty, y)
             })
         }
         _ => None,
+    }
+}
+
+// The same number as one of a type that holds it.
+fn embedded(ty: Ty, x: Value) -> Value
+    requires { Embeds x.ty ty }
+    ensures { seen result ≡ record { ty = ty; number = (seen x).number } }
+{
+    Value {
+        ty,
+        bits: cast(x.ty, ty, x.bits),
     }
 }
 
