@@ -6,3 +6,5 @@ pub mod Unique
 pub mod Lexemes
 pub mod Parts
 pub mod Derived
+pub mod Views
+pub mod Names

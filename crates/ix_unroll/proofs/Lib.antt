@@ -1,1 +1,4 @@
 pub mod Typed
+pub mod Assigning
+pub mod Literals
+pub mod Mapped

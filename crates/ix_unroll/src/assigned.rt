@@ -1,9 +1,10 @@
-ghost use Rattle.std.specs.Prelude.{◌≡◌, map};
+ghost use Rattle.std.specs.Prelude.{◌≡◌, map, ◌||◌};
+ghost use Rattle.ix_tree.specs.Lexing.{same_bytes};
 ghost use Rattle.ix_tree.specs.View.{view_stmt, view_decl, view_lvalue};
 ghost use Rattle.ix_tree.specs.Rows.{view_whole, view_items};
 ghost use Rattle.ix_tree.specs.Unrolling.{touches, touches_row, declares, is_variable};
 
-use ix_tree::{Decl, LvalueKind, Stmt, StmtKind};
+use ix_tree::{Decl, Loop, LvalueKind, Stmt, StmtKind};
 
 /// Whether the statement assigns the name, declares it, or has a loop over it or whose last part assigns it.
 #[cycle(touching)]
@@ -17,11 +18,7 @@ pub fn touches(name: &str, stmt: &Stmt) -> bool
         StmtKind::Assign(assign) => is_variable(name, &assign.target.kind),
         StmtKind::If(_, x, None) => touches(name, x),
         StmtKind::If(_, x, Some(y)) => touches(name, x) || touches(name, y),
-        StmtKind::For(inner) => {
-            inner.name.as_str() == name
-                || is_variable(name, &inner.last.target.kind)
-                || touches(name, &inner.body)
-        }
+        StmtKind::For(inner) => is_head_of(name, inner) || touches(name, &inner.body),
         StmtKind::Spawn(x) => touches(name, x),
     }
 }
@@ -36,6 +33,13 @@ fn touches_row(name: &str, all: &[Stmt]) -> bool
         }
     }
     false
+}
+
+// Whether the loop is over the name, or its last part assigns it.
+fn is_head_of(name: &str, head: &Loop) -> bool
+    ensures { result ≡ (same_bytes head.now.name name.now || is_variable name.now (view_lvalue head.now.last.target.kind)) }
+{
+    head.name.as_str() == name || is_variable(name, &head.last.target.kind)
 }
 
 // Whether one of the declarations is of the name.
