@@ -3,3 +3,6 @@ pub mod Assigning
 pub mod Literals
 pub mod Mapped
 pub mod Turned
+pub mod Marks
+pub mod Going
+pub mod Statements

@@ -2,6 +2,7 @@
 use Rattle.std.specs.Prelude.{◌≡◌, ℕ, ◌+◌, List, [], ◌∷◌, Option, Some, None, Result, Ok, Err, ◌⊎◌}
 use Rattle.ix_tree.specs.Unrolling.{Mark, statement, fault, Refusal, bound_at, turns_at, assigned_at, size_at, first_refusal}
 use Rattle.ix_tree.specs.declared.section.Tree.{Tree}
+use Rattle.ix_tree.specs.declared.stmt.Stmt.{Stmt}
 use Rattle.ix_unroll.specs.declared.error.UnrollErr.{UnrollErr}
 use Rattle.ix_unroll.specs.declared.error.UnrollErr.TheVariants.{Bound, Turns, Assigned, Size, Memory}
 
@@ -28,3 +29,8 @@ Refuses (Size s) n ms = first_refusal n ms ≡ Some (size_at s)
 pub record ComesWhere (result : Result Tree UnrollErr) (e : UnrollErr) (P : Type 0) : Type 0 where
   pub only : result ≡ Err e → P
   pub whenever : P → (result ≡ Err e) ⊎ (result ≡ Err Memory)
+
+-- an error that is passed on, or want of memory where there was none
+abbrev pub KeepsErr : Result Stmt UnrollErr → UnrollErr → Type 0
+KeepsErr (Ok x) e = e ≡ Memory
+KeepsErr (Err d) e = e ≡ d

@@ -3,7 +3,8 @@ use Rattle.std.specs.Prelude.{◌≡◌, ℕ, ℤ, List, []}
 use Rattle.ix_tree.specs.declared.token.Span.{Span}
 use Rattle.ix_tree.specs.declared.stmt.Loop.{Loop}
 use Rattle.ix_tree.specs.View.{view, view_assign}
-use Rattle.ix_tree.specs.Trees.{StmtTree, StmtRow}
+use Rattle.ix_tree.specs.Rows.{view_whole}
+use Rattle.ix_tree.specs.Trees.{StmtTree, s_for, StmtRow}
 use Rattle.ix_tree.specs.LoopHeads.{Binding}
 use Rattle.ix_tree.specs.Unrolling.{Head, Turns, these, breaks, bound, turns, assigned, Mark, with_value, alone, opened, met, opened_marks}
 use Rattle.ix_unroll.specs.declared.error.UnrollErr.{UnrollErr}
@@ -14,6 +15,10 @@ use Rattle.ix_unroll.specs.declared.turns.Step.TheVariants as S
 -- the head of a loop of the code
 abbrev pub head_of : Loop → Head
 head_of l = record { name = l.name; start = view l.start; test = view l.test; last = view_assign l.last }
+
+-- a loop of the code as a statement
+abbrev pub loop_tree : Span → Loop → StmtTree
+loop_tree s l = s_for s l.ty l.name (view l.start) (view l.test) (view_assign l.last) (view_whole l.body)
 
 -- what a statement comes to in a block, and what is met there
 abbrev pub opened_row : StmtTree → List Binding → StmtRow

@@ -4,6 +4,7 @@
 mod assigned;
 mod error;
 mod number;
+mod parts;
 mod put;
 mod scope;
 mod statement;

@@ -1,18 +1,15 @@
-ghost use Rattle.std.specs.Prelude.{◌≡◌, ◌∷◌, [], map, IfOk, OnOk, IfErr};
-ghost use Rattle.ix_tree.specs.Trees.{s_block, s_locals, s_assign};
-ghost use Rattle.ix_tree.specs.View.{view_decl, view_assign};
+ghost use Rattle.std.specs.Prelude.{◌≡◌, ◌∷◌, [], IfOk, OnOk, IfErr};
 ghost use Rattle.ix_tree.specs.Rows.{view_whole, view_items};
 ghost use Rattle.ix_tree.specs.Unrolling.{statement, alone, inside, copies, row_join, met, met_row, copy_marks};
 ghost use Rattle.ix_unroll.specs.Scopes.{bindings};
 ghost use Rattle.ix_unroll.specs.Telling.{Passes, Refuses};
-ghost use Rattle.ix_unroll.specs.Turning.{opened_row, row_marks, body_row, body_marks};
+ghost use Rattle.ix_unroll.specs.Turning.{loop_tree, opened_row, row_marks, body_row, body_marks};
 
 use crate::UnrollErr;
-use crate::put::{put, put_assign, put_decls};
+use crate::parts::{assignment, block, choice, choice_else, empty, locals, spawned};
 use crate::scope::Scope;
 use crate::turns::judged;
-use ix_bits::{List, Memory};
-use ix_tree::{Assign, Decl, Loop, Span, Stmt, StmtKind, TypeText};
+use ix_tree::{Loop, Span, Stmt, StmtKind};
 use std::alloc::Global;
 
 /// The greatest count of statements in the result.
@@ -31,112 +28,89 @@ fn counted(count: &mut u32, span: Span) -> Result<(), UnrollErr>
     }
 }
 
-// A block of these statements.
-fn block(span: Span, all: Vec<Stmt>) -> Stmt
-    ensures { view_whole result ≡ s_block span (view_items all.items) }
-{
-    Stmt {
-        span,
-        kind: StmtKind::Block(List::from_vec(all)),
-    }
-}
-
-fn locals(
-    alloc: Global,
-    scope: &Scope,
-    span: Span,
-    ty: TypeText,
-    decls: &[Decl],
-) -> Result<Stmt, Memory>
-    ensures { IfOk result (λ x. view_whole x ≡ alone (s_locals span ty (map view_decl decls.now)) (bindings scope.now)) }
-{
-    Ok(Stmt {
-        span,
-        kind: StmtKind::Locals(ty, put_decls(alloc, scope, decls)?),
-    })
-}
-
-fn assignment(
-    alloc: Global,
-    scope: &Scope,
-    span: Span,
-    assign: &Assign,
-) -> Result<Stmt, Memory>
-    ensures { IfOk result (λ x. view_whole x ≡ alone (s_assign span (view_assign assign.now)) (bindings scope.now)) }
-{
-    Ok(Stmt {
-        span,
-        kind: StmtKind::Assign(put_assign(alloc, scope, assign)?),
-    })
-}
-
 /// The statement without loops, where it does not stand in a block: a loop becomes one block of its copies.
 /// `count` is the count of the result's statements so far.
 #[cycle(statements)]
-pub fn alone(
+pub fn alone<'x>(
     alloc: Global,
-    scope: &Scope,
+    scope: &'x Scope<'x>,
     count: &mut u32,
-    stmt: &Stmt,
+    stmt: &'x Stmt,
 ) -> Result<Stmt, UnrollErr>
     ensures tree { IfOk result (λ x. view_whole x ≡ alone (view_whole stmt.now) (bindings scope.now)) }
     ensures passed { OnOk result (Passes count.old (met (view_whole stmt.now) (bindings scope.now)) count.new) }
     ensures refused { IfErr result (λ e. Refuses e count.old (met (view_whole stmt.now) (bindings scope.now))) }
 {
     let span = stmt.span;
-    let kind = match &stmt.kind {
+    match &stmt.kind {
         StmtKind::Block(all) => {
             counted(count, span)?;
-            return Ok(block(span, inside(alloc, scope, count, all.as_slice())?));
+            let all = inside(alloc, scope, count, all.as_slice())?;
+            Ok(block(span, all))
         }
         StmtKind::Empty => {
             counted(count, span)?;
-            StmtKind::Empty
+            Ok(empty(span))
         }
         StmtKind::Locals(ty, decls) => {
             counted(count, span)?;
-            return Ok(locals(alloc, scope, span, *ty, decls.as_slice())?);
+            Ok(locals(alloc, scope, span, *ty, decls.as_slice())?)
         }
         StmtKind::Assign(assign) => {
             counted(count, span)?;
-            return Ok(assignment(alloc, scope, span, assign)?);
+            Ok(assignment(alloc, scope, span, assign)?)
         }
         StmtKind::If(condition, x, None) => {
             counted(count, span)?;
-            let condition = put(alloc, scope, condition)?;
             let x = alone(alloc, scope, count, x)?;
-            StmtKind::If(condition, Box::new(alloc, x)?, None)
+            Ok(choice(alloc, scope, span, condition, x)?)
         }
         StmtKind::If(condition, x, Some(y)) => {
             counted(count, span)?;
-            let condition = put(alloc, scope, condition)?;
-            let x = alone(alloc, scope, count, x)?;
-            let y = alone(alloc, scope, count, y)?;
-            StmtKind::If(condition, Box::new(alloc, x)?, Some(Box::new(alloc, y)?))
+            match alone(alloc, scope, count, x) {
+                Err(error) => Err(error),
+                Ok(x) => {
+                    let y = alone(alloc, scope, count, y);
+                    choice_else(alloc, scope, span, condition, x, y)
+                }
+            }
         }
-        StmtKind::For(head) => {
-            let values = judged(alloc, scope, span, head)?;
-            counted(count, span)?;
-            let mut all = Vec::new(alloc);
-            copies(alloc, scope, count, span, head, values.as_slice(), &mut all)?;
-            return Ok(block(span, all));
-        }
+        StmtKind::For(head) => looped(alloc, scope, count, span, head),
         StmtKind::Spawn(x) => {
             counted(count, span)?;
             let x = alone(alloc, scope, count, x)?;
-            StmtKind::Spawn(Box::new(alloc, x)?)
+            Ok(spawned(alloc, span, x)?)
         }
-    };
-    Ok(Stmt { span, kind })
+    }
+}
+
+// The block of a loop's copies.
+#[cycle(statements)]
+fn looped<'x>(
+    alloc: Global,
+    scope: &'x Scope<'x>,
+    count: &mut u32,
+    span: Span,
+    head: &'x Loop,
+) -> Result<Stmt, UnrollErr>
+    ensures tree { IfOk result (λ x. view_whole x ≡ alone (loop_tree span head.now) (bindings scope.now)) }
+    ensures passed { OnOk result (Passes count.old (met (loop_tree span head.now) (bindings scope.now)) count.new) }
+    ensures refused { IfErr result (λ e. Refuses e count.old (met (loop_tree span head.now) (bindings scope.now))) }
+{
+    let values = judged(alloc, scope, span, head)?;
+    counted(count, span)?;
+    let mut all = Vec::new(alloc);
+    copies(alloc, scope, count, span, head, values.as_slice(), &mut all)?;
+    Ok(block(span, all))
 }
 
 // The statements of a block without loops.
 #[cycle(statements)]
-fn inside(
+fn inside<'x>(
     alloc: Global,
-    scope: &Scope,
+    scope: &'x Scope<'x>,
     count: &mut u32,
-    all: &[Stmt],
+    all: &'x [Stmt],
 ) -> Result<Vec<Stmt>, UnrollErr>
     ensures tree { IfOk result (λ xs. view_items xs.items ≡ inside (view_items all.now) (bindings scope.now)) }
     ensures passed { OnOk result (Passes count.old (met_row (view_items all.now) (bindings scope.now)) count.new) }
@@ -151,11 +125,11 @@ fn inside(
 
 // Puts what stands in a block for the statement behind `out`: of a loop its copies.
 #[cycle(statements)]
-fn opened(
+fn opened<'x>(
     alloc: Global,
-    scope: &Scope,
+    scope: &'x Scope<'x>,
     count: &mut u32,
-    stmt: &Stmt,
+    stmt: &'x Stmt,
     out: &mut Vec<Stmt>,
 ) -> Result<(), UnrollErr>
     ensures tree { OnOk result (view_items out.new.items ≡ row_join (view_items out.old.items) (opened_row (view_whole stmt.now) (bindings scope.now))) }
@@ -177,12 +151,12 @@ fn opened(
 
 // Puts a copy of the loop's body for each value behind `out`.
 #[cycle(statements)]
-fn copies(
+fn copies<'x>(
     alloc: Global,
-    scope: &Scope,
+    scope: &'x Scope<'x>,
     count: &mut u32,
     span: Span,
-    head: &Loop,
+    head: &'x Loop,
     values: &[i32],
     out: &mut Vec<Stmt>,
 ) -> Result<(), UnrollErr>
