@@ -6,3 +6,5 @@ pub mod Turned
 pub mod Marks
 pub mod Going
 pub mod Statements
+pub mod Texts
+pub mod Flat
