@@ -40,12 +40,7 @@ pub fn locals(
 }
 
 /// An assignment with the values of the loop variables in their places.
-pub fn assignment(
-    alloc: Global,
-    scope: &Scope,
-    span: Span,
-    assign: &Assign,
-) -> Result<Stmt, Memory>
+pub fn assignment(alloc: Global, scope: &Scope, span: Span, assign: &Assign) -> Result<Stmt, Memory>
     ensures { IfOk result (λ x. view_whole x ≡ alone (s_assign span (view_assign assign.now)) (bindings scope.now)) }
 {
     Ok(Stmt {

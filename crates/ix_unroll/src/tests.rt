@@ -1,8 +1,8 @@
 use crate::{UnrollErr, unroll};
 use ix_bits::{BinOp, Bits, List, Memory, Name, Ty, UnOp};
 use ix_tree::{
-    Assign, BlockText, Decl, Expr, ExprKind, Loop, Lvalue, LvalueKind, Section, SectionKind, Span,
-    Stmt, StmtKind, Tree, TypeKind, TypeText,
+    Assign, BlockText, Expr, ExprKind, Loop, Lvalue, LvalueKind, Section, SectionKind, Span, Stmt,
+    StmtKind, Tree,
 };
 use std::alloc::{AllocError, Global};
 use std::test::Fail;
@@ -46,11 +46,7 @@ fn boxed(alloc: Global, e: Expr) -> Result<Box<Expr>, Memory> {
 }
 
 fn join(alloc: Global, op: BinOp, x: Expr, y: Expr) -> Result<Expr, Memory> {
-    Ok(expr(ExprKind::Binary(
-        op,
-        boxed(alloc, x)?,
-        boxed(alloc, y)?,
-    )))
+    Ok(expr(ExprKind::Binary(op, boxed(alloc, x)?, boxed(alloc, y)?)))
 }
 
 fn minus(alloc: Global, x: Expr) -> Result<Expr, Memory> {
@@ -61,12 +57,7 @@ fn stmt(n: u32, kind: StmtKind) -> Stmt {
     Stmt { span: at(n), kind }
 }
 
-fn assign(
-    alloc: Global,
-    word: &str,
-    op: Option<BinOp>,
-    value: Expr,
-) -> Result<Assign, Memory> {
+fn assign(alloc: Global, word: &str, op: Option<BinOp>, value: Expr) -> Result<Assign, Memory> {
     Ok(Assign {
         span: at(0),
         target: Lvalue {
@@ -84,6 +75,7 @@ fn set(alloc: Global, n: u32, word: &str, value: Expr) -> Result<Stmt, Memory> {
 }
 
 // `for (word = start; word test end; word step by) body`
+#[derive(Drop)]
 struct Heading<'a> {
     word: &'a str,
     start: Expr,
@@ -227,13 +219,298 @@ fn unrolled(alloc: Global, body: Stmt) -> Result<Result<String, UnrollErr>, Memo
     Ok(Ok(out))
 }
 
+// Whether a behaviour comes to this text.
+fn comes_to(alloc: Global, body: Stmt, want: &str) -> Result<bool, Memory> {
+    match unrolled(alloc, body)? {
+        Ok(out) => Ok(out.as_str() == want),
+        Err(_) => Ok(false),
+    }
+}
+
+// Whether a behaviour is refused so.
+fn is_refused(alloc: Global, body: Stmt, want: UnrollErr) -> Result<bool, Memory> {
+    match unrolled(alloc, body)? {
+        Ok(_) => Ok(false),
+        Err(error) => Ok(error == want),
+    }
+}
+
+// `x = word;`
+fn take(alloc: Global, n: u32, word: &str) -> Result<Stmt, Memory> {
+    set(alloc, n, "x", name(alloc, word)?)
+}
+
+fn empty(n: u32) -> Stmt {
+    stmt(n, StmtKind::Empty)
+}
+
 #[test]
-fn small(rt: HostRuntime) -> Result<(), Fail> {
+fn a_copy_for_each_value(rt: HostRuntime) -> Result<(), Fail> {
     let alloc = rt.alloc();
-    let inner = set(alloc, 3, "x", name(alloc, "i")?)?;
-    let all = block(alloc, 1, [count_to(alloc, 2, "i", 3, inner)?])?;
+    let body = take(alloc, 3, "i")?;
+    let all = block(alloc, 1, [count_to(alloc, 2, "i", 3, body)?])?;
+    assert!(rt; comes_to(alloc, all, "{{x=0;}{x=1;}{x=2;}}")?);
+    Ok(())
+}
+
+#[test]
+fn steps_of_eight(rt: HostRuntime) -> Result<(), Fail> {
+    let alloc = rt.alloc();
+    let head = Heading {
+        word: "i",
+        start: number(0),
+        test: BinOp::Lt,
+        end: number(32),
+        step: BinOp::Add,
+        by: number(8),
+    };
+    let body = block(alloc, 3, [take(alloc, 4, "i")?])?;
+    let all = block(alloc, 1, [loop_over(alloc, 2, head, body)?])?;
+    assert!(rt; comes_to(alloc, all, "{{{x=0;}}{{x=8;}}{{x=16;}}{{x=24;}}}")?);
+    Ok(())
+}
+
+#[test]
+fn thirty_down_to_zero(rt: HostRuntime) -> Result<(), Fail> {
+    let alloc = rt.alloc();
+    let head = Heading {
+        word: "i",
+        start: number(30),
+        test: BinOp::Ge,
+        end: number(0),
+        step: BinOp::Sub,
+        by: number(2),
+    };
+    let all = block(alloc, 1, [loop_over(alloc, 2, head, take(alloc, 3, "i")?)?])?;
+    assert!(rt;
+        comes_to(
+            alloc,
+            all,
+            "{{x=30;}{x=28;}{x=26;}{x=24;}{x=22;}{x=20;}{x=18;}{x=16;}{x=14;}{x=12;}{x=10;}{x=8;}{x=6;}{x=4;}{x=2;}{x=0;}}",
+        )?
+    );
+    Ok(())
+}
+
+#[test]
+fn negative_values_have_a_minus(rt: HostRuntime) -> Result<(), Fail> {
+    let alloc = rt.alloc();
+    let head = Heading {
+        word: "i",
+        start: number(1),
+        test: BinOp::Ge,
+        end: minus(alloc, number(2))?,
+        step: BinOp::Sub,
+        by: number(1),
+    };
+    let all = block(alloc, 1, [loop_over(alloc, 2, head, take(alloc, 3, "i")?)?])?;
+    assert!(rt; comes_to(alloc, all, "{{x=1;}{x=0;}{x=-1;}{x=-2;}}")?);
+    Ok(())
+}
+
+#[test]
+fn steps_by_shifts(rt: HostRuntime) -> Result<(), Fail> {
+    let alloc = rt.alloc();
+    let head = Heading {
+        word: "i",
+        start: number(1),
+        test: BinOp::Lt,
+        end: number(20),
+        step: BinOp::Shl,
+        by: number(1),
+    };
+    let all = block(alloc, 1, [loop_over(alloc, 2, head, take(alloc, 3, "i")?)?])?;
+    assert!(rt; comes_to(alloc, all, "{{x=1;}{x=2;}{x=4;}{x=8;}{x=16;}}")?);
+    Ok(())
+}
+
+#[test]
+fn nested_loops_stand_in_the_copies(rt: HostRuntime) -> Result<(), Fail> {
+    let alloc = rt.alloc();
+    let sum = join(alloc, BinOp::Add, name(alloc, "i")?, name(alloc, "j")?)?;
+    let inner = count_to(alloc, 3, "j", 2, set(alloc, 4, "x", sum)?)?;
+    let all = block(alloc, 1, [count_to(alloc, 2, "i", 2, inner)?])?;
+    assert!(rt; comes_to(alloc, all, "{{{x=0+0;}{x=0+1;}}{{x=1+0;}{x=1+1;}}}")?);
+    Ok(())
+}
+
+#[test]
+fn no_turn_leaves_nothing_in_a_block(rt: HostRuntime) -> Result<(), Fail> {
+    let alloc = rt.alloc();
+    let all = block(alloc, 1, [count_to(alloc, 2, "i", 0, empty(3))?])?;
+    assert!(rt; comes_to(alloc, all, "{}")?);
+    Ok(())
+}
+
+#[test]
+fn no_turn_leaves_a_block_elsewhere(rt: HostRuntime) -> Result<(), Fail> {
+    let alloc = rt.alloc();
+    assert!(rt; comes_to(alloc, count_to(alloc, 2, "i", 0, empty(3))?, "{}")?);
+    let branch = Box::new(alloc, count_to(alloc, 2, "i", 0, empty(3))?)?;
+    let choice = stmt(1, StmtKind::If(number(1), branch, None));
+    assert!(rt; comes_to(alloc, choice, "if {}")?);
+    let body = Box::new(alloc, count_to(alloc, 2, "i", 0, empty(3))?)?;
+    assert!(rt; comes_to(alloc, stmt(1, StmtKind::Spawn(body)), "spawn {}")?);
+    Ok(())
+}
+
+#[test]
+fn greatest_count_of_turns(rt: HostRuntime) -> Result<(), Fail> {
+    let alloc = rt.alloc();
+    let all = block(alloc, 1, [count_to(alloc, 2, "i", 128, empty(3))?])?;
     match unrolled(alloc, all)? {
-        Ok(out) => assert_eq!(rt; out.as_str(), "{{x=0;}{x=1;}{x=2;}}"),
+        Ok(out) => assert_eq!(rt; out.len(), 2 + 3 * 128),
+        Err(_) => assert!(rt; false),
+    }
+    let more = block(alloc, 1, [count_to(alloc, 2, "i", 129, empty(3))?])?;
+    assert!(rt; is_refused(alloc, more, UnrollErr::Turns { span: at(2) })?);
+    Ok(())
+}
+
+#[test]
+fn bounds_are_literals_and_variables(rt: HostRuntime) -> Result<(), Fail> {
+    let alloc = rt.alloc();
+    let field = name(alloc, "rs1")?;
+    let register = expr(ExprKind::Index(boxed(alloc, expr(ExprKind::X))?, boxed(alloc, field)?));
+    let head = Heading {
+        word: "i",
+        start: number(0),
+        test: BinOp::Lt,
+        end: register,
+        step: BinOp::Add,
+        by: number(1),
+    };
+    let all = block(alloc, 1, [loop_over(alloc, 2, head, empty(3))?])?;
+    assert!(rt; is_refused(alloc, all, UnrollErr::Bound { span: at(2) })?);
+    Ok(())
+}
+
+#[test]
+fn a_body_assigns_its_variable(rt: HostRuntime) -> Result<(), Fail> {
+    let alloc = rt.alloc();
+    let body = set(alloc, 3, "i", number(5))?;
+    let all = block(alloc, 1, [count_to(alloc, 2, "i", 3, body)?])?;
+    assert!(rt; is_refused(alloc, all, UnrollErr::Assigned { span: at(2) })?);
+    Ok(())
+}
+
+#[test]
+fn a_body_without_turn_assigns_its_variable(rt: HostRuntime) -> Result<(), Fail> {
+    let alloc = rt.alloc();
+    let body = set(alloc, 3, "i", number(5))?;
+    let all = block(alloc, 1, [count_to(alloc, 2, "i", 0, body)?])?;
+    assert!(rt; is_refused(alloc, all, UnrollErr::Assigned { span: at(2) })?);
+    // Turns come before Assigned.
+    let body = set(alloc, 3, "i", number(5))?;
+    let more = block(alloc, 1, [count_to(alloc, 2, "i", 129, body)?])?;
+    assert!(rt; is_refused(alloc, more, UnrollErr::Turns { span: at(2) })?);
+    Ok(())
+}
+
+#[test]
+fn refusals_of_inner_loops(rt: HostRuntime) -> Result<(), Fail> {
+    let alloc = rt.alloc();
+    let inner = count_to(alloc, 3, "j", 129, empty(4))?;
+    assert!(rt;
+        is_refused(
+            alloc,
+            count_to(alloc, 2, "i", 2, inner)?,
+            UnrollErr::Turns { span: at(3) },
+        )?
+    );
+    let inner = count_to(alloc, 3, "j", 2, set(alloc, 4, "j", number(1))?)?;
+    assert!(rt;
+        is_refused(
+            alloc,
+            count_to(alloc, 2, "i", 2, inner)?,
+            UnrollErr::Assigned { span: at(3) },
+        )?
+    );
+    let inner = count_to(alloc, 3, "i", 2, empty(4))?;
+    assert!(rt;
+        is_refused(
+            alloc,
+            count_to(alloc, 2, "i", 2, inner)?,
+            UnrollErr::Assigned { span: at(2) },
+        )?
+    );
+    Ok(())
+}
+
+#[test]
+fn an_inner_bound_names_nothing(rt: HostRuntime) -> Result<(), Fail> {
+    let alloc = rt.alloc();
+    let head = Heading {
+        word: "j",
+        start: name(alloc, "k")?,
+        test: BinOp::Lt,
+        end: number(1),
+        step: BinOp::Add,
+        by: number(1),
+    };
+    let inner = loop_over(alloc, 3, head, empty(4))?;
+    assert!(rt;
+        is_refused(
+            alloc,
+            count_to(alloc, 2, "i", 2, inner)?,
+            UnrollErr::Bound { span: at(3) },
+        )?
+    );
+    // In a loop of no turn it is not judged.
+    let head = Heading {
+        word: "j",
+        start: name(alloc, "k")?,
+        test: BinOp::Lt,
+        end: number(1),
+        step: BinOp::Add,
+        by: number(1),
+    };
+    let inner = loop_over(alloc, 3, head, empty(4))?;
+    assert!(rt; comes_to(alloc, count_to(alloc, 2, "i", 0, inner)?, "{}")?);
+    Ok(())
+}
+
+#[test]
+fn three_nested_loops_pass_the_size(rt: HostRuntime) -> Result<(), Fail> {
+    let alloc = rt.alloc();
+    let innermost = count_to(alloc, 4, "k", 128, empty(5))?;
+    let inner = count_to(alloc, 3, "j", 128, innermost)?;
+    let all = count_to(alloc, 2, "i", 128, inner)?;
+    assert!(rt; is_refused(alloc, all, UnrollErr::Size { span: at(4) })?);
+    Ok(())
+}
+
+// A block of empty statements.
+fn empties(alloc: Global, count: u32) -> Result<Stmt, Memory> {
+    let mut all = Vec::new(alloc);
+    for n in 0..count {
+        all.push(empty(n))?;
+    }
+    Ok(stmt(0, StmtKind::Block(List::from_vec(all))))
+}
+
+#[test]
+fn greatest_count_of_statements(rt: HostRuntime) -> Result<(), Fail> {
+    let alloc = rt.alloc();
+    match unrolled(alloc, empties(alloc, 16383)?)? {
+        Ok(out) => assert_eq!(rt; out.len(), 16385),
+        Err(_) => assert!(rt; false),
+    }
+    assert!(rt;
+        is_refused(
+            alloc,
+            empties(alloc, 16384)?,
+            UnrollErr::Size { span: at(16383) },
+        )?
+    );
+    // 1 + 128 * (1 + 126) statements, and then with two for each more.
+    let loops = block(
+        alloc,
+        1,
+        [count_to(alloc, 2, "i", 128, empties(alloc, 125)?)?],
+    )?;
+    match unrolled(alloc, loops)? {
+        Ok(out) => assert_eq!(rt; out.len(), 2 + 128 * (4 + 125)),
         Err(_) => assert!(rt; false),
     }
     Ok(())

@@ -44,10 +44,7 @@ pub fn unroll(alloc: Global, tree: Tree) -> Result<Tree, UnrollErr>
 }
 
 // The sections of a text without loops.
-fn unrolled_sections(
-    alloc: Global,
-    sections: List<Section>,
-) -> Result<List<Section>, UnrollErr>
+fn unrolled_sections(alloc: Global, sections: List<Section>) -> Result<List<Section>, UnrollErr>
     ensures tree { IfOk result (λ xs. map view_section xs ≡ map alone_section (map view_section sections)) }
     ensures passed { OnOk result (first_refusal 0 (met_sections (map view_section sections)) ≡ None) }
     ensures refused { IfErr result (λ e. Refuses e 0 (met_sections (map view_section sections))) }
@@ -62,11 +59,7 @@ fn unrolled_sections(
 }
 
 // The section without loops.
-fn unrolled_section(
-    alloc: Global,
-    count: &mut u32,
-    section: Section,
-) -> Result<Section, UnrollErr>
+fn unrolled_section(alloc: Global, count: &mut u32, section: Section) -> Result<Section, UnrollErr>
     ensures tree { IfOk result (λ s. view_section s ≡ alone_section (view_section section)) }
     ensures passed { OnOk result (Passes count.old (met_kind (view_section section).kind) count.new) }
     ensures refused { IfErr result (λ e. Refuses e count.old (met_kind (view_section section).kind)) }
@@ -111,11 +104,7 @@ fn unrolled_instructions(
     Ok(List::from_vec(out))
 }
 
-fn unrolled_instruction(
-    alloc: Global,
-    count: &mut u32,
-    instr: Instr,
-) -> Result<Instr, UnrollErr>
+fn unrolled_instruction(alloc: Global, count: &mut u32, instr: Instr) -> Result<Instr, UnrollErr>
     ensures tree { IfOk result (λ x. view_instr x ≡ alone_instr (view_instr instr)) }
     ensures passed { OnOk result (Passes count.old (met (view_whole instr.body) []) count.new) }
     ensures refused { IfErr result (λ e. Refuses e count.old (met (view_whole instr.body) [])) }
@@ -155,11 +144,7 @@ fn unrolled_blocks(
     Ok(List::from_vec(out))
 }
 
-fn unrolled_block(
-    alloc: Global,
-    count: &mut u32,
-    block: BlockText,
-) -> Result<BlockText, UnrollErr>
+fn unrolled_block(alloc: Global, count: &mut u32, block: BlockText) -> Result<BlockText, UnrollErr>
     ensures tree { IfOk result (λ x. view_block x ≡ alone_block (view_block block)) }
     ensures passed { OnOk result (Passes count.old (met (view_whole block.body) []) count.new) }
     ensures refused { IfErr result (λ e. Refuses e count.old (met (view_whole block.body) [])) }

@@ -90,12 +90,7 @@ fn turns(
 }
 
 /// The values of the loop's variable, one for each turn, or the rule that the loop breaks.
-pub fn judged(
-    alloc: Global,
-    scope: &Scope,
-    span: Span,
-    head: &Loop,
-) -> Result<Vec<i32>, UnrollErr>
+pub fn judged(alloc: Global, scope: &Scope, span: Span, head: &Loop) -> Result<Vec<i32>, UnrollErr>
     ensures values { IfOk result (λ vs. judged (bindings scope.now) (head_of head.now) (view_whole head.now.body) ≡ these vs.items) }
     ensures broken { IfErr result (λ e. ErrIs e span (judged (bindings scope.now) (head_of head.now) (view_whole head.now.body))) }
 {

@@ -16,4 +16,3 @@ pub touches_row-returns-then-touches : goal.touches_row-returns-then-touches
 touches_row-returns-then-touches t c =
     let e = sym c.touches.ensures ∙ c.if-touches.true in
     sym (c.loop-stmt.invariant ∙ touches_rest c.args.name.now c.args.all.now c.loop-stmt.stmt-index c.stmt-item.result c.loop-stmt-test.true c.stmt-item.is ∙ rw e refl)
-

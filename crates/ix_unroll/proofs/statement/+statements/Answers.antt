@@ -123,9 +123,9 @@ copies-loop-value-preserved t c =
     let passed = subst P turn c.in_ok-opened.ensures.passed in
     let turn_env : List Binding = (let b : Binding = record { name = c.as_str.result.now; value = cast_signed w32 (cast_unsigned w32 v) } in b) ∷ bs in
     let made : view_items c.opened.new.out.items ≡ row v =
-        c.in_ok-opened.ensures.tree
-        ∙ ap (λ (xs : List Stmt). row_join (view_items xs) (opened_row body turn_env)) c.new-body.ensures.items
-        ∙ ap (λ (env : List Binding). opened_row body env) turn in
+    c.in_ok-opened.ensures.tree
+    ∙ ap (λ (xs : List Stmt). row_join (view_items xs) (opened_row body turn_env)) c.new-body.ensures.items
+    ∙ ap (λ (env : List Binding). opened_row body env) turn in
     record {
       tree =
           copies_tree s row (view_items c.loop-value.out.items) (view_items c.push.new.self.items) vs k c.loop-value-test.true
