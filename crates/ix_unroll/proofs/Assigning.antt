@@ -1,9 +1,8 @@
 -- Whether a list of declarations or statements touches a name, one after another.
-use Rattle.std.proofs.Common.{◌≡◌, ℕ, ◌+◌, ◌<◌, List, [], ◌∷◌, length, get_or, drop, map, Bool, true, false, ◌||◌, refl, ap, sym, ◌∙◌, drop-cons, add-one}
+use Rattle.std.proofs.Common.{◌≡◌, ℕ, ◌+◌, ◌<◌, List, length, get_or, drop, map, ◌||◌, refl, ap, drop-cons, add-one}
 use Rattle.ix_tree.specs.declared.stmt.Decl.{Decl}
 use Rattle.ix_tree.specs.declared.stmt.Stmt.{Stmt}
 use Rattle.ix_tree.specs.Lexing.{same_bytes}
-use Rattle.ix_tree.specs.Trees.{StmtRow}
 use Rattle.ix_tree.specs.View.{view_decl}
 use Rattle.ix_tree.specs.Rows.{view_whole, view_items}
 use Rattle.ix_tree.specs.Unrolling.{touches, touches_row, declares}

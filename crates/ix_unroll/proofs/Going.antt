@@ -1,5 +1,5 @@
 -- Marks that are met one part after another.
-use Rattle.std.proofs.Common.{◌≡◌, ℕ, ◌+◌, List, [], ◌∷◌, ◌++◌, refl, ap, sym, ◌∙◌, subst, append_assoc}
+use Rattle.std.proofs.Common.{◌≡◌, ℕ, List, [], ◌++◌, refl, sym, ◌∙◌, subst, append_assoc}
 use Rattle.std.proofs.lemmas.List.{append-nil}
 use Rattle.ix_tree.specs.Unrolling.{Mark}
 use Rattle.ix_unroll.specs.declared.error.UnrollErr.{UnrollErr}

@@ -1,12 +1,12 @@
 -- The literal of a value.
-use Rattle.std.proofs.Common.{◌≡◌, ℕ, zero, ◌+◌, ◌-◌, ◌%◌, ◌^◌, ◌<◌, ◌≤◌, min, max, false, refl, ap, sym, ◌∙◌, subst, arith}
+use Rattle.std.proofs.Common.{◌≡◌, ℕ, ◌-◌, ◌%◌, ◌^◌, ◌<◌, min, max, false, refl, ap, sym, ◌∙◌, subst, arith}
 use Rattle.std.specs.Int.Count.{count_leading_zeros, leading_of_zero}
 use Rattle.std.proofs.lemmas.Nat.{leading_length}
 use Rattle.std.proofs.Math.Nat.{mod-eq_of_lt}
 use Rattle.ix_bits.specs.declared.number.Ty.{Ty}
 use Rattle.ix_bits.specs.declared.number.Bits.{Bits}
 use Rattle.ix_tree.specs.declared.token.Span.{Span}
-use Rattle.ix_tree.specs.Trees.{ExprTree, e_literal}
+use Rattle.ix_tree.specs.Trees.{e_literal}
 use Rattle.ix_tree.specs.LoopHeads.{type_near}
 use Rattle.ix_tree.specs.Unrolling.{literal, literal_width}
 use Rattle.ix_tree.proofs.Lexemes.{ty_is, bits_are}

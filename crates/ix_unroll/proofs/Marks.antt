@@ -1,10 +1,8 @@
 -- The first refusal of marks that are joined.
-use Rattle.std.proofs.Common.{◌≡◌, ℕ, ◌+◌, ◌<◌, List, [], ◌∷◌, ◌++◌, Bool, true, false, cond, Option, Some, None, refl, ap, sym, ◌∙◌, subst, arith, nat_lt}
-use Rattle.ix_tree.specs.declared.token.Span.{Span}
-use Rattle.ix_tree.specs.Unrolling.{Mark, statement, fault, Broken, bound, turns, assigned, Refusal, refusal_of, bound_at, turns_at, assigned_at, size_at, first_refusal}
+use Rattle.std.proofs.Common.{◌≡◌, ℕ, ◌+◌, List, [], ◌∷◌, ◌++◌, Bool, true, false, cond, Option, Some, None, refl, ap, sym, ◌∙◌, arith, nat_lt}
+use Rattle.ix_tree.specs.Unrolling.{Mark, statement, fault, Refusal, bound_at, turns_at, assigned_at, size_at, first_refusal}
 use Rattle.ix_unroll.specs.declared.error.UnrollErr.{UnrollErr}
 use Rattle.ix_unroll.specs.declared.error.UnrollErr.TheVariants as E
-use Rattle.ix_unroll.specs.Turning.{ErrIs}
 use Rattle.ix_unroll.specs.Telling.{statements, Passes, Refuses}
 
 chosen_none : (b : Bool) (x : Option Refusal) (r : Refusal) → cond b x (Some r) ≡ None → (b ≡ true) × (x ≡ None)

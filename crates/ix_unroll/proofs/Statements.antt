@@ -1,5 +1,5 @@
 -- What is made of statements, and what is met there, part by part.
-use Rattle.std.proofs.Common.{◌≡◌, ℕ, ◌+◌, ◌<◌, List, [], ◌∷◌, ◌++◌, length, get_or, drop, Bool, true, false, refl, ap, sym, ◌∙◌, subst, append_assoc, drop-cons, add-one, ℤ, pos, ◌≤◌, Result, Ok, Err, OnOk, IfErr, IsOk}
+use Rattle.std.proofs.Common.{◌≡◌, ℕ, ◌+◌, ◌<◌, List, [], ◌∷◌, ◌++◌, length, get_or, drop, false, refl, ap, sym, ◌∙◌, subst, drop-cons, add-one, ℤ, pos, ◌≤◌, Result, Ok, Err, OnOk, IfErr, IsOk}
 use Rattle.std.proofs.lemmas.List.{drop_all}
 use Rattle.ix_tree.specs.declared.token.Span.{Span}
 use Rattle.ix_tree.specs.declared.stmt.Stmt.{Stmt}
@@ -8,7 +8,7 @@ use Rattle.ix_tree.specs.declared.stmt.Loop.{Loop}
 use Rattle.ix_tree.specs.Trees.{StmtTree, StmtRow, s_block, row_end, row_more}
 use Rattle.ix_tree.specs.LoopHeads.{Binding}
 use Rattle.ix_tree.specs.Rows.{view_whole, view_items}
-use Rattle.ix_tree.specs.Unrolling.{Mark, statement, alone, inside, opened, row_join, met, met_row, opened_marks, copies, copies_of, copy_marks, loop_marks, judged, Turns, these, with_value, is_loop, unblocked}
+use Rattle.ix_tree.specs.Unrolling.{Mark, statement, alone, inside, row_join, met, met_row, copies, copies_of, copy_marks, loop_marks, judged, Turns, these, with_value, is_loop, unblocked}
 use Rattle.ix_tree.specs.View.{view_stmt}
 use Rattle.ix_tree.proofs.Views.{block_whole, items_rest, items_join, row_join_end, row_join_assoc}
 use Rattle.ix_unroll.specs.declared.error.UnrollErr.{UnrollErr}
@@ -16,7 +16,6 @@ use Rattle.ix_unroll.specs.declared.error.UnrollErr.TheVariants.{Memory}
 use Rattle.ix_unroll.specs.Telling.{Passes, Refuses, KeepsErr}
 use Rattle.ix_unroll.specs.Turning.{head_of, loop_tree, opened_row, row_marks, body_row, body_marks}
 use Rattle.ix_unroll.proofs.Marks.{passes_join, refuses_behind}
-use Rattle.ix_unroll.proofs.Going.{Going, going_as, going_step, going_refuse, going_end}
 
 -- ---- a block
 pub block_refused : (e : UnrollErr) (n m : ℕ) (x : Stmt) (all items : List Stmt) (bs : List Binding) → x.kind ≡ StmtKind.Block all → items ≡ all → Passes n (statement x.span ∷ []) m

@@ -1,5 +1,5 @@
 -- The behaviours of a text, one after another.
-use Rattle.std.proofs.Common.{◌≡◌, ℕ, suc, ◌+◌, ◌<◌, ◌≤◌, List, [], ◌∷◌, ◌++◌, length, get_or, drop, map, refl, ap, sym, ◌∙◌, drop-cons, add-one}
+use Rattle.std.proofs.Common.{◌≡◌, ℕ, ◌+◌, ◌<◌, List, [], ◌++◌, length, get_or, drop, map, refl, drop-cons, add-one}
 use Rattle.ix_tree.specs.declared.section.Instr.{Instr}
 use Rattle.ix_tree.specs.declared.section.BlockText.{BlockText}
 use Rattle.ix_tree.specs.declared.section.Section.{Section}

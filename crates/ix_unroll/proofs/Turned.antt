@@ -1,6 +1,5 @@
 -- The turns of a loop, one after another.
-use Rattle.std.proofs.Common.{◌≡◌, ℕ, zero, suc, Bool, true, false, cond, Some, None, ◌+◌, ◌-◌, ◌<◌, ◌≤◌, List, [], ◌∷◌, ◌++◌, ℤ, refl, ap, sym, ◌∙◌, subst, arith}
-use Rattle.ix_tree.specs.declared.token.Span.{Span}
+use Rattle.std.proofs.Common.{◌≡◌, ℕ, zero, suc, Bool, true, false, cond, Some, None, List, [], ◌∷◌, ◌++◌, ℤ, refl, ap}
 use Rattle.ix_tree.specs.LoopHeads.{Binding, Valued, is_int}
 use Rattle.ix_tree.specs.Unrolling.{Head, Turns, these, breaks, Broken, bound, turns, after, on_value, on_test, test_value, next_value, turns_from, unassigned}
 use Rattle.ix_unroll.specs.Values.{in_int}

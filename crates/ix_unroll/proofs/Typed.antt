@@ -1,6 +1,6 @@
 -- Values of head expressions: types with their numbers.
-use Rattle.std.proofs.Common.{◌≡◌, ℕ, suc, ◌+◌, ◌-◌, ◌*◌, ◌%◌, ◌^◌, ◌<◌, ◌≤◌, min, max, cond, ⊎_elim, Bool, true, false, Option, Some, None, refl, ap, sym, ◌∙◌, arith, ℤ, pos, negsuc, ◌-ℤ◌, ◌≤ℤ◌, ◌<ℤ◌}
-use Rattle.std.specs.Prelude.{nat_le, nat_lt, int_le, int_lt, FitsSigned}
+use Rattle.std.proofs.Common.{◌≡◌, ℕ, suc, ◌+◌, ◌-◌, ◌^◌, ◌<◌, ◌≤◌, min, max, cond, ⊎_elim, Bool, true, false, Some, None, refl, ap, sym, ◌∙◌, arith, ℤ, pos, negsuc, ◌-ℤ◌}
+use Rattle.std.specs.Prelude.{nat_le, nat_lt, int_lt, FitsSigned}
 use Rattle.std.proofs.lemmas.Int.{ints, to_z_pos, to_z-of_z}
 use Rattle.std.specs.Int.{cast_unsigned, cast_signed, w32}
 use Rattle.std.proofs.lemmas.Bool.{le-leb, lt-leb, lt-ltb, le-ltb, ltb-true, cases_lt}
@@ -9,12 +9,12 @@ use Rattle.ix_unroll.specs.Values.{in_int, place_of}
 use Rattle.ix_bits.specs.declared.number.Ty.{Ty}
 use Rattle.ix_bits.specs.declared.operator.BinOp.{BinOp}
 use Rattle.ix_bits.specs.declared.operator.UnOp.{UnOp}
-use Rattle.ix_bits.specs.Types.{HoldsNumber, IsFit, number_of, least_of}
-use Rattle.ix_bits.specs.ResultTypes.{Embeds, binary_signed, binary_width, unary_signed, unary_width, is_mixed, widest, common_signed, common_width}
+use Rattle.ix_bits.specs.Types.{HoldsNumber, IsFit, number_of}
+use Rattle.ix_bits.specs.ResultTypes.{Embeds, binary_signed, binary_width, unary_signed, unary_width, widest, common_signed, common_width}
 use Rattle.ix_bits.specs.Operators.{value_of, binary_number, unary_number, is_true, pattern_of, bits_between}
 use Rattle.ix_bits.proofs.Unique.{fit_is_the_one}
 use Rattle.ix_types.specs.Results.{IsBinaryType, IsUnaryType, IsCommon}
-use Rattle.ix_tree.specs.LoopHeads.{Valued, type_near, type_with, valued, unary_value, binary_value, choice_value, bits_at, int_type, is_int}
+use Rattle.ix_tree.specs.LoopHeads.{Valued, type_near, type_with, unary_value, binary_value, choice_value, bits_at, int_type, is_int}
 use Rattle.ix_tree.proofs.Lexemes.{ty_is}
 
 pub type_with_is : (ty : Ty) (s : Bool) (w : ℕ) → ty.signed ≡ s → ty.width ≡ w → type_with s w ≡ Some ty

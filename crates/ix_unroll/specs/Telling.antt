@@ -1,6 +1,6 @@
 -- What an answer says of the marks that are met.
-use Rattle.std.specs.Prelude.{◌≡◌, ℕ, ◌+◌, List, [], ◌∷◌, Option, Some, None, Result, Ok, Err, ◌⊎◌}
-use Rattle.ix_tree.specs.Unrolling.{Mark, statement, fault, Refusal, bound_at, turns_at, assigned_at, size_at, first_refusal}
+use Rattle.std.specs.Prelude.{◌≡◌, ℕ, ◌+◌, List, [], ◌∷◌, Some, None, Result, Ok, Err, ◌⊎◌}
+use Rattle.ix_tree.specs.Unrolling.{Mark, statement, fault, bound_at, turns_at, assigned_at, size_at, first_refusal}
 use Rattle.ix_tree.specs.declared.section.Tree.{Tree}
 use Rattle.ix_tree.specs.declared.stmt.Stmt.{Stmt}
 use Rattle.ix_unroll.specs.declared.error.UnrollErr.{UnrollErr}

@@ -1,4 +1,4 @@
-use Rattle.std.proofs.Common.{◌≡◌, ◌∙◌, List, sym, true, false, ap, refl}
+use Rattle.std.proofs.Common.{◌∙◌, List, sym, ap, refl}
 use Rattle.ix_tree.specs.declared.stmt.Stmt.{Stmt}
 use Rattle.ix_tree.specs.Rows.{view_items}
 use Rattle.ix_tree.specs.Unrolling.{touches, touches_row}

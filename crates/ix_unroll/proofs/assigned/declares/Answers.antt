@@ -1,4 +1,4 @@
-use Rattle.std.proofs.Common.{◌≡◌, ◌∙◌, sym, true, false, Bool, refl, ap}
+use Rattle.std.proofs.Common.{◌≡◌, ◌∙◌, sym, true, false, refl}
 use Rattle.ix_tree.specs.Lexing.{same_bytes}
 use Rattle.ix_tree.proofs.Names.{name_test}
 use Rattle.ix_unroll.proofs.Assigning.{declares_rest}

@@ -1,4 +1,3 @@
-use Rattle.std.proofs.Common.{◌∙◌}
 use Rattle.ix_tree.proofs.Names.{name_test}
 use Rattle.ix_unroll.proofs.assigned.is_variable.Goals as goal
 

@@ -1,4 +1,4 @@
-use Rattle.std.proofs.Common.{◌≡◌, ◌<◌, ◌^◌, refl, ap, sym, ◌∙◌}
+use Rattle.std.proofs.Common.{◌<◌, ◌^◌, refl, ap, ◌∙◌}
 use Rattle.ix_tree.specs.Unrolling.{literal_width}
 use Rattle.ix_unroll.proofs.Literals.{literal_is}
 use Rattle.ix_unroll.proofs.put.literal.Goals as goal

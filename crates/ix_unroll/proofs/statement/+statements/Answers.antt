@@ -1,4 +1,4 @@
-use Rattle.std.proofs.Common.{◌≡◌, ℕ, ◌+◌, ◌∙◌, sym, refl, ap, subst, rules, List, [], ◌∷◌, ◌++◌, drop, get_or, ℤ, pos}
+use Rattle.std.proofs.Common.{◌≡◌, ◌+◌, ◌∙◌, sym, ap, subst, rules, List, [], ◌∷◌, ◌++◌, drop, get_or, ℤ, pos}
 use Rattle.std.specs.Prelude.{FitsSigned}
 use Rattle.std.specs.Int.{w32, cast_signed, cast_unsigned}
 use Rattle.std.proofs.lemmas.Int.{to_z-of_z}
@@ -13,11 +13,10 @@ use Rattle.ix_tree.specs.Unrolling.{Mark, statement, met, met_row, copy_marks, r
 use Rattle.ix_unroll.specs.Scopes.{bindings}
 use Rattle.ix_unroll.specs.Telling.{Passes, Refuses}
 use Rattle.ix_unroll.specs.Turning.{head_of, loop_tree, body_row, body_marks, row_marks, opened_row}
-use Rattle.ix_unroll.proofs.Going.{Going, going_as, going_start, going_step, going_refuse, going_end}
+use Rattle.ix_unroll.proofs.Going.{going_as, going_start, going_step, going_refuse}
 use Rattle.ix_unroll.proofs.Marks.{passes_join, refuses_behind}
-use Rattle.ix_unroll.proofs.Statements.{block_refused, block_passed, block_tree, inside_marks, inside_tree, inside_end, copies_marks, copies_tree, copies_end, copy_row, turn_is, loop_met, loop_made, loop_row_marks, no_loop, no_loop_marks, pushed_row, ok_passes, else_refused, err_to}
+use Rattle.ix_unroll.proofs.Statements.{block_refused, block_passed, block_tree, inside_marks, inside_tree, inside_end, copies_marks, copies_tree, copies_end, copy_row, turn_is, loop_met, loop_row_marks, no_loop, no_loop_marks, pushed_row, ok_passes, else_refused, err_to}
 use Rattle.ix_tree.specs.declared.stmt.Loop.{Loop}
-use Rattle.ix_unroll.specs.declared.error.UnrollErr.{UnrollErr}
 use Rattle.ix_unroll.proofs.statement.+statements.Goals as goal
 
 pub alone-returns-in_err-all-in-Block-clause-refused : goal.alone-returns-in_err-all-in-Block-clause-refused

@@ -1,14 +1,12 @@
-use Rattle.std.proofs.Common.{◌≡◌, ℕ, ◌+◌, ◌≤◌, arith, List, [], ◌++◌, length, drop, map, rules, refl, ap, sym, ◌∙◌}
+use Rattle.std.proofs.Common.{◌≡◌, ℕ, ◌+◌, ◌≤◌, arith, List, ◌++◌, length, drop, map, rules, ap, sym, ◌∙◌}
 use Rattle.std.proofs.lemmas.Result.{err_from_is_err_and}
 use Rattle.std.proofs.lemmas.List.{length_push}
 use Rattle.std.proofs.lemmas.Iterator.Adapters.{YieldsList-from_vec}
 use Rattle.std.proofs.lemmas.Iterator.Consumers.{YieldsList-turn, YieldsList-end}
 use Rattle.ix_tree.specs.declared.section.Section.{Section}
-use Rattle.ix_tree.specs.Trees.{SectionTree}
 use Rattle.ix_tree.specs.View.{view_section}
-use Rattle.ix_tree.specs.Rows.{view_whole}
-use Rattle.ix_tree.specs.Unrolling.{alone_section, met, met_kind, met_sections}
-use Rattle.ix_unroll.proofs.Going.{Going, going_as, going_step, going_refuse}
+use Rattle.ix_tree.specs.Unrolling.{alone_section, met_kind, met_sections}
+use Rattle.ix_unroll.proofs.Going.{going_as, going_step, going_refuse}
 use Rattle.ix_unroll.proofs.Mapped.{mapped_step, mapped_end, map_twice}
 use Rattle.ix_unroll.proofs.Texts.{sections_rest}
 use Rattle.ix_unroll.proofs.text.unrolled_sections.Goals as goal

@@ -1,9 +1,8 @@
-use Rattle.std.proofs.Common.{◌≡◌, ℕ, suc, ◌+◌, ◌-◌, List, [], ◌∷◌, ◌++◌, ℤ, ap, ◌∙◌, sym, refl, arith, rules}
+use Rattle.std.proofs.Common.{◌≡◌, ℕ, ◌+◌, ◌-◌, List, [], ◌∷◌, ◌++◌, ℤ, ap, ◌∙◌, sym, refl, arith, rules}
 use Rattle.std.specs.Prelude.{FitsSigned}
 use Rattle.std.specs.Int.{w32}
 use Rattle.std.proofs.lemmas.Int.{to_z-of_z}
-use Rattle.ix_tree.specs.LoopHeads.{Valued}
-use Rattle.ix_tree.specs.Unrolling.{bound, turns, breaks, turns_from, next_value, after}
+use Rattle.ix_tree.specs.Unrolling.{bound, turns, turns_from, next_value}
 use Rattle.ix_unroll.specs.Scopes.{bindings}
 use Rattle.ix_unroll.specs.Values.{seen_option}
 use Rattle.ix_unroll.specs.Turning.{head_of}

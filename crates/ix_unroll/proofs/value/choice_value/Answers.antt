@@ -1,4 +1,4 @@
-use Rattle.std.proofs.Common.{cond, ap, ◌∙◌, ℤ, Bool, Some, sym}
+use Rattle.std.proofs.Common.{cond, ap, ◌∙◌, Bool, Some, sym}
 use Rattle.ix_tree.specs.LoopHeads.{Valued}
 use Rattle.ix_unroll.specs.Values.{seen}
 use Rattle.ix_unroll.proofs.Typed.{chosen_is}

@@ -1,4 +1,4 @@
-use Rattle.std.proofs.Common.{◌≡◌, ◌∙◌, sym, refl, ℕ, ◌-◌, ◌/◌, ◌<◌, ◌^◌, arith}
+use Rattle.std.proofs.Common.{◌≡◌, ◌∙◌, sym, ◌-◌, ◌/◌, ◌<◌, ◌^◌, arith}
 use Rattle.ix_bits.proofs.Results.{ones_of}
 use Rattle.ix_unroll.specs.Values.{seen}
 use Rattle.ix_unroll.proofs.Typed.{negative_is, down_fits, down_leaves}

@@ -1,4 +1,4 @@
-use Rattle.std.proofs.Common.{ap, ◌∙◌, ℕ, true, refl}
+use Rattle.std.proofs.Common.{ap, ◌∙◌, true, refl}
 use Rattle.std.specs.Int.{cast_unsigned, w32}
 use Rattle.std.proofs.lemmas.Int.{to_z-of_z}
 use Rattle.ix_bits.specs.Types.{number_of}
