@@ -1,0 +1,4 @@
+pub mod Scopes
+pub mod Values
+pub mod Turning
+pub mod Telling

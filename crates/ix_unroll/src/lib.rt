@@ -1,0 +1,18 @@
+//! Loops: each becomes its body once for each value of its variable.
+#![tactic(auto)]
+
+mod assigned;
+mod error;
+mod number;
+mod parts;
+mod put;
+mod scope;
+mod statement;
+#[cfg(test)]
+mod tests;
+mod text;
+mod turns;
+mod value;
+
+pub use error::UnrollErr;
+pub use text::unroll;

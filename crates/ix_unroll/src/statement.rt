@@ -1,0 +1,175 @@
+ghost use Rattle.std.specs.Prelude.{◌≡◌, ◌∷◌, [], IfOk, OnOk, IfErr};
+ghost use Rattle.ix_tree.specs.Rows.{view_whole, view_items};
+ghost use Rattle.ix_tree.specs.Unrolling.{statement, alone, inside, copies, row_join, met, met_row, copy_marks};
+ghost use Rattle.ix_unroll.specs.Scopes.{bindings};
+ghost use Rattle.ix_unroll.specs.Telling.{Passes, Refuses};
+ghost use Rattle.ix_unroll.specs.Turning.{loop_tree, opened_row, row_marks, body_row, body_marks};
+
+use crate::UnrollErr;
+use crate::parts::{assignment, block, choice, choice_else, empty, locals, spawned};
+use crate::scope::Scope;
+use crate::turns::judged;
+use ix_tree::{Loop, Span, Stmt, StmtKind};
+use std::alloc::Global;
+
+/// The greatest count of statements in the result.
+const MOST_STATEMENTS: u32 = 16384;
+
+// Counts one more statement of the result, which comes from the statement at the span.
+fn counted(count: &mut u32, span: Span) -> Result<(), UnrollErr>
+    ensures passed { OnOk result (Passes count.old (statement span ∷ []) count.new) }
+    ensures refused { IfErr result (λ e. Refuses e count.old (statement span ∷ [])) }
+{
+    if *count < MOST_STATEMENTS {
+        *count += 1;
+        Ok(())
+    } else {
+        Err(UnrollErr::Size { span })
+    }
+}
+
+/// The statement without loops, where it does not stand in a block: a loop becomes one block of its copies.
+/// `count` is the count of the result's statements so far.
+#[cycle(statements)]
+pub fn alone<'x>(
+    alloc: Global,
+    scope: &'x Scope<'x>,
+    count: &mut u32,
+    stmt: &'x Stmt,
+) -> Result<Stmt, UnrollErr>
+    ensures tree { IfOk result (λ x. view_whole x ≡ alone (view_whole stmt.now) (bindings scope.now)) }
+    ensures passed { OnOk result (Passes count.old (met (view_whole stmt.now) (bindings scope.now)) count.new) }
+    ensures refused { IfErr result (λ e. Refuses e count.old (met (view_whole stmt.now) (bindings scope.now))) }
+{
+    let span = stmt.span;
+    match &stmt.kind {
+        StmtKind::Block(all) => {
+            counted(count, span)?;
+            let all = inside(alloc, scope, count, all.as_slice())?;
+            Ok(block(span, all))
+        }
+        StmtKind::Empty => {
+            counted(count, span)?;
+            Ok(empty(span))
+        }
+        StmtKind::Locals(ty, decls) => {
+            counted(count, span)?;
+            Ok(locals(alloc, scope, span, *ty, decls.as_slice())?)
+        }
+        StmtKind::Assign(assign) => {
+            counted(count, span)?;
+            Ok(assignment(alloc, scope, span, assign)?)
+        }
+        StmtKind::If(condition, x, None) => {
+            counted(count, span)?;
+            let x = alone(alloc, scope, count, x)?;
+            Ok(choice(alloc, scope, span, condition, x)?)
+        }
+        StmtKind::If(condition, x, Some(y)) => {
+            counted(count, span)?;
+            match alone(alloc, scope, count, x) {
+                Err(error) => Err(error),
+                Ok(x) => {
+                    let y = alone(alloc, scope, count, y);
+                    choice_else(alloc, scope, span, condition, x, y)
+                }
+            }
+        }
+        StmtKind::For(head) => looped(alloc, scope, count, span, head),
+        StmtKind::Spawn(x) => {
+            counted(count, span)?;
+            let x = alone(alloc, scope, count, x)?;
+            Ok(spawned(alloc, span, x)?)
+        }
+    }
+}
+
+// The block of a loop's copies.
+#[cycle(statements)]
+fn looped<'x>(
+    alloc: Global,
+    scope: &'x Scope<'x>,
+    count: &mut u32,
+    span: Span,
+    head: &'x Loop,
+) -> Result<Stmt, UnrollErr>
+    ensures tree { IfOk result (λ x. view_whole x ≡ alone (loop_tree span head.now) (bindings scope.now)) }
+    ensures passed { OnOk result (Passes count.old (met (loop_tree span head.now) (bindings scope.now)) count.new) }
+    ensures refused { IfErr result (λ e. Refuses e count.old (met (loop_tree span head.now) (bindings scope.now))) }
+{
+    let values = judged(alloc, scope, span, head)?;
+    counted(count, span)?;
+    let mut all = Vec::new(alloc);
+    copies(alloc, scope, count, span, head, values.as_slice(), &mut all)?;
+    Ok(block(span, all))
+}
+
+// The statements of a block without loops.
+#[cycle(statements)]
+fn inside<'x>(
+    alloc: Global,
+    scope: &'x Scope<'x>,
+    count: &mut u32,
+    all: &'x [Stmt],
+) -> Result<Vec<Stmt>, UnrollErr>
+    ensures tree { IfOk result (λ xs. view_items xs.items ≡ inside (view_items all.now) (bindings scope.now)) }
+    ensures passed { OnOk result (Passes count.old (met_row (view_items all.now) (bindings scope.now)) count.new) }
+    ensures refused { IfErr result (λ e. Refuses e count.old (met_row (view_items all.now) (bindings scope.now))) }
+{
+    let mut out = Vec::new(alloc);
+    for stmt in all {
+        opened(alloc, scope, count, stmt, &mut out)?;
+    }
+    Ok(out)
+}
+
+// Puts what stands in a block for the statement behind `out`: of a loop its copies.
+#[cycle(statements)]
+fn opened<'x>(
+    alloc: Global,
+    scope: &'x Scope<'x>,
+    count: &mut u32,
+    stmt: &'x Stmt,
+    out: &mut Vec<Stmt>,
+) -> Result<(), UnrollErr>
+    ensures tree { OnOk result (view_items out.new.items ≡ row_join (view_items out.old.items) (opened_row (view_whole stmt.now) (bindings scope.now))) }
+    ensures passed { OnOk result (Passes count.old (row_marks (view_whole stmt.now) (bindings scope.now)) count.new) }
+    ensures refused { IfErr result (λ e. Refuses e count.old (row_marks (view_whole stmt.now) (bindings scope.now))) }
+{
+    match &stmt.kind {
+        StmtKind::For(head) => {
+            let values = judged(alloc, scope, stmt.span, head)?;
+            copies(alloc, scope, count, stmt.span, head, values.as_slice(), out)
+        }
+        _ => {
+            let stmt = alone(alloc, scope, count, stmt)?;
+            out.push(stmt)?;
+            Ok(())
+        }
+    }
+}
+
+// Puts a copy of the loop's body for each value behind `out`.
+#[cycle(statements)]
+fn copies<'x>(
+    alloc: Global,
+    scope: &'x Scope<'x>,
+    count: &mut u32,
+    span: Span,
+    head: &'x Loop,
+    values: &[i32],
+    out: &mut Vec<Stmt>,
+) -> Result<(), UnrollErr>
+    ensures tree { OnOk result (view_items out.new.items ≡ row_join (view_items out.old.items) (copies span (body_row (view_whole head.now.body) head.now.name (bindings scope.now)) values.now)) }
+    ensures passed { OnOk result (Passes count.old (copy_marks span (body_marks (view_whole head.now.body) head.now.name (bindings scope.now)) values.now) count.new) }
+    ensures refused { IfErr result (λ e. Refuses e count.old (copy_marks span (body_marks (view_whole head.now.body) head.now.name (bindings scope.now)) values.now)) }
+{
+    for value in values {
+        counted(count, span)?;
+        let turn = Scope::Inside(head.name.as_str(), *value, scope);
+        let mut body = Vec::new(alloc);
+        opened(alloc, &turn, count, &head.body, &mut body)?;
+        out.push(block(span, body))?;
+    }
+    Ok(())
+}

@@ -1,0 +1,160 @@
+ghost use Rattle.std.specs.Prelude.{◌≡◌, [], map, IfOk, OnOk, IfErr, IsOkUnless};
+ghost use Rattle.ix_tree.specs.Trees.{TextTree};
+ghost use Rattle.ix_tree.specs.View.{view_instr, view_block, view_section, view_tree};
+ghost use Rattle.ix_tree.specs.Rows.{view_whole};
+ghost use Rattle.ix_tree.specs.Unrolling.{alone_instr, alone_block, alone_section, met, met_instrs, met_blocks, met_kind, met_sections, first_refusal, outcome, IsWithoutLoops, without_loops, refused, bound_at, turns_at, assigned_at, size_at};
+ghost use Rattle.ix_unroll.specs.Telling.{Passes, Refuses, ComesWhere};
+
+use crate::UnrollErr;
+use crate::scope::Scope;
+use crate::statement::alone;
+use ix_bits::List;
+use ix_tree::{BlockText, Instr, Section, SectionKind, Span, Stmt, Tree};
+use std::alloc::Global;
+
+/// The text with its loops unrolled: the body of each once for each value of its variable, every copy in a block of its own,
+/// with an unsized literal for the variable, under a unary minus where the value is negative. In a block the copies stand in
+/// the loop's place; as a branch of an `if`, a `spawn` body or a behaviour's outermost statement a loop becomes one block.
+pub fn unroll(alloc: Global, tree: Tree) -> Result<Tree, UnrollErr>
+    // The tree is the text's with its loops unrolled, and none is refused.
+    ensures unrolled { IfOk result (λ t. outcome (view_tree tree) ≡ without_loops (view_tree t)) }
+    // Where there is such a tree, only memory can fail.
+    ensures only { (t : TextTree) → outcome (view_tree tree) ≡ without_loops t → IsOkUnless result UnrollErr.Memory }
+    // Each refusal comes exactly where it is the first.
+    ensures bound { (s : Span) → ComesWhere result (UnrollErr.Bound s) (outcome (view_tree tree) ≡ refused (bound_at s)) }
+    ensures turns { (s : Span) → ComesWhere result (UnrollErr.Turns s) (outcome (view_tree tree) ≡ refused (turns_at s)) }
+    ensures assigned { (s : Span) → ComesWhere result (UnrollErr.Assigned s) (outcome (view_tree tree) ≡ refused (assigned_at s)) }
+    ensures size { (s : Span) → ComesWhere result (UnrollErr.Size s) (outcome (view_tree tree) ≡ refused (size_at s)) }
+    // The result has no loop.
+    ensures flat { IfOk result (λ t. IsWithoutLoops (view_tree t)) }
+{
+    let Tree {
+        span,
+        name,
+        sections,
+    } = tree;
+    match unrolled_sections(alloc, sections) {
+        Err(error) => Err(error),
+        Ok(sections) => Ok(Tree {
+            span,
+            name,
+            sections,
+        }),
+    }
+}
+
+// The sections of a text without loops.
+fn unrolled_sections(alloc: Global, sections: List<Section>) -> Result<List<Section>, UnrollErr>
+    ensures tree { IfOk result (λ xs. map view_section xs ≡ map alone_section (map view_section sections)) }
+    ensures passed { OnOk result (first_refusal 0 (met_sections (map view_section sections)) ≡ None) }
+    ensures refused { IfErr result (λ e. Refuses e 0 (met_sections (map view_section sections))) }
+{
+    let mut count = 0;
+    let mut out = Vec::new(alloc);
+    for section in sections.into_vec() {
+        let section = unrolled_section(alloc, &mut count, section)?;
+        out.push(section)?;
+    }
+    Ok(List::from_vec(out))
+}
+
+// The section without loops.
+fn unrolled_section(alloc: Global, count: &mut u32, section: Section) -> Result<Section, UnrollErr>
+    ensures tree { IfOk result (λ s. view_section s ≡ alone_section (view_section section)) }
+    ensures passed { OnOk result (Passes count.old (met_kind (view_section section).kind) count.new) }
+    ensures refused { IfErr result (λ e. Refuses e count.old (met_kind (view_section section).kind)) }
+{
+    let Section { span, kind } = section;
+    match kind {
+        SectionKind::States(states) => Ok(Section {
+            span,
+            kind: SectionKind::States(states),
+        }),
+        SectionKind::Instructions(all) => {
+            let all = unrolled_instructions(alloc, count, all)?;
+            Ok(Section {
+                span,
+                kind: SectionKind::Instructions(all),
+            })
+        }
+        SectionKind::Always(all) => {
+            let all = unrolled_blocks(alloc, count, all)?;
+            Ok(Section {
+                span,
+                kind: SectionKind::Always(all),
+            })
+        }
+    }
+}
+
+fn unrolled_instructions(
+    alloc: Global,
+    count: &mut u32,
+    all: List<Instr>,
+) -> Result<List<Instr>, UnrollErr>
+    ensures tree { IfOk result (λ xs. map view_instr xs ≡ map alone_instr (map view_instr all)) }
+    ensures passed { OnOk result (Passes count.old (met_instrs (map view_instr all)) count.new) }
+    ensures refused { IfErr result (λ e. Refuses e count.old (met_instrs (map view_instr all))) }
+{
+    let mut out = Vec::new(alloc);
+    for instr in all.into_vec() {
+        let instr = unrolled_instruction(alloc, count, instr)?;
+        out.push(instr)?;
+    }
+    Ok(List::from_vec(out))
+}
+
+fn unrolled_instruction(alloc: Global, count: &mut u32, instr: Instr) -> Result<Instr, UnrollErr>
+    ensures tree { IfOk result (λ x. view_instr x ≡ alone_instr (view_instr instr)) }
+    ensures passed { OnOk result (Passes count.old (met (view_whole instr.body) []) count.new) }
+    ensures refused { IfErr result (λ e. Refuses e count.old (met (view_whole instr.body) [])) }
+{
+    match alone(alloc, &Scope::Outside, count, &instr.body) {
+        Err(error) => Err(error),
+        Ok(body) => Ok(with_body(instr, body)),
+    }
+}
+
+// The instruction with this behaviour.
+fn with_body(instr: Instr, body: Stmt) -> Instr
+    ensures { view_instr result ≡ record { span = instr.span; name = instr.name; pieces = instr.pieces; body = view_whole body } }
+{
+    Instr {
+        span: instr.span,
+        name: instr.name,
+        pieces: instr.pieces,
+        body,
+    }
+}
+
+fn unrolled_blocks(
+    alloc: Global,
+    count: &mut u32,
+    all: List<BlockText>,
+) -> Result<List<BlockText>, UnrollErr>
+    ensures tree { IfOk result (λ xs. map view_block xs ≡ map alone_block (map view_block all)) }
+    ensures passed { OnOk result (Passes count.old (met_blocks (map view_block all)) count.new) }
+    ensures refused { IfErr result (λ e. Refuses e count.old (met_blocks (map view_block all))) }
+{
+    let mut out = Vec::new(alloc);
+    for block in all.into_vec() {
+        let block = unrolled_block(alloc, count, block)?;
+        out.push(block)?;
+    }
+    Ok(List::from_vec(out))
+}
+
+fn unrolled_block(alloc: Global, count: &mut u32, block: BlockText) -> Result<BlockText, UnrollErr>
+    ensures tree { IfOk result (λ x. view_block x ≡ alone_block (view_block block)) }
+    ensures passed { OnOk result (Passes count.old (met (view_whole block.body) []) count.new) }
+    ensures refused { IfErr result (λ e. Refuses e count.old (met (view_whole block.body) [])) }
+{
+    match alone(alloc, &Scope::Outside, count, &block.body) {
+        Err(error) => Err(error),
+        Ok(body) => Ok(BlockText {
+            span: block.span,
+            name: block.name,
+            body,
+        }),
+    }
+}
