@@ -1,6 +1,9 @@
 //! Reports of schedules with their certificates: their text, and the check that believes nothing but the report itself.
 #![tactic(auto)]
 
+mod bound_test;
 mod report;
+mod steps;
+mod sum;
 
 pub use report::{CertErr, Report, ReportBlock};

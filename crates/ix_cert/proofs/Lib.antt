@@ -1,0 +1,3 @@
+mod EdgeLists
+mod Paths
+mod BoundTests
