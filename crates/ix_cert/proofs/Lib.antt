@@ -1,3 +1,6 @@
 mod EdgeLists
 mod Paths
 mod BoundTests
+mod Balances
+mod Faultless
+mod LineCounts

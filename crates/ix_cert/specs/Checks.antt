@@ -1,12 +1,17 @@
 -- What the functions of the check tell. No clause of a public call cites this.
-use Rattle.std.specs.Prelude.{◌≡◌, ℕ, zero, suc, ◌+◌, ◌*◌, ◌<◌, ◌≤◌, ◌==◌, ◌&&◌, Bool, true, false, List, [], ◌∷◌, length, slice_index, slice_index_or, sum_by, All, Option, Some, None, nat_lt, nat_le, ◌||◌}
+use Rattle.std.specs.Prelude.{◌≡◌, ℕ, zero, suc, ◌+◌, ◌*◌, ◌<◌, ◌≤◌, ◌==◌, ◌&&◌, Bool, true, false, List, [], ◌∷◌, ◌++◌, map, length, slice_index, slice_index_or, sum_by, All, AllPairs, Result, Ok, Err, ◌≢◌, Option, Some, None, nat_lt, nat_le, ◌||◌}
 use Rattle.std.specs.List.{list_any}
 use Rattle.ix_sheet.specs.declared.problem.Bound.{Bound}
 use Rattle.ix_sheet.specs.declared.problem.Bound.TheVariants.{Early, Late, Dep, Chain}
 use Rattle.ix_sheet.specs.declared.problem.Problem.{Problem}
-use Rattle.ix_sheet.specs.Schedules.{node_at, HasFreeEdge, IsFreePath, first_of, last_of, delay_along}
-use Rattle.ix_sheet.specs.Bounds.{amount_at}
+use Rattle.ix_sheet.specs.Schedules.{IsValidProblem, node_at, weight_of, HasFreeEdge, IsFreePath, first_of, last_of, delay_along}
+use Rattle.ix_sheet.specs.Bounds.{arc_of, Flow, amount_at}
+use Rattle.ix_graph.specs.declared.graph.Mode.{Mode}
 use Rattle.ix_cert.specs.declared.report.ReportBlock.{ReportBlock}
+use Rattle.ix_cert.specs.declared.report.CertErr.{CertErr}
+use Rattle.ix_cert.specs.declared.report.CertErr.TheVariants.{Memory}
+use Rattle.ix_cert.specs.Layout.{IsBefore, IsNodeInForm, IsBoundInForm}
+use Rattle.ix_cert.specs.Faults.{Step, IsFirstFault, HasNoFault, block_count}
 
 -- the first bad item, or that there is none
 abbrev pub Tells : ℕ → (ℕ → Type 0) → Option ℕ → Type 0
@@ -87,3 +92,57 @@ pub record AreReached (p : Problem) (t : ℕ → ℕ) (edges : ℕ) (reach : Lis
 -- for each operation what the parts at it amount to
 abbrev pub AreAmounts : ℕ → List (ℕ × ℕ) → List ℕ → Type 0
 AreAmounts count parts amounts = (length amounts ≡ count) × ((k : ℕ) → k < count → slice_index amounts k ≡ amount_at (λ x. x.0) (λ x. x.1) parts k)
+
+-- the flow into operations and the edges out of them; the flow out of operations and the edges into them
+abbrev pub parts_in : Problem → Flow → List (ℕ × ℕ)
+parts_in p flow = map (λ c. ((arc_of p c.0).to, c.1)) flow ++ map (λ e. (e.0, 1)) p.edges
+
+abbrev pub parts_out : Problem → Flow → List (ℕ × ℕ)
+parts_out p flow = map (λ c. ((arc_of p c.0).from, c.1)) flow ++ map (λ e. (e.1, 1)) p.edges
+
+-- ---- the value of a flow
+abbrev pub up_of : Problem → Bound × ℕ → ℕ
+up_of p c = c.1 * (arc_of p c.0).up
+
+abbrev pub down_of : Problem → Bound × ℕ → ℕ
+down_of p c = c.1 * (arc_of p c.0).down
+
+abbrev pub ups_of : Problem → Flow → ℕ
+ups_of p flow = sum_by (up_of p) flow
+
+abbrev pub downs_of : Problem → Flow → ℕ
+downs_of p flow = sum_by (down_of p) flow
+
+abbrev pub has_value : Problem → Flow → ℕ → Bool
+has_value p flow value =
+    ups_of p flow == value + downs_of p flow + sum_by (λ e. weight_of (node_at p e.0) * (node_at p e.0).latency) p.edges
+
+-- ---- steps
+-- no fault, or the first
+abbrev pub Judges : List Step → Result (Unit {0}) CertErr → Type 0
+Judges steps (Ok done) = HasNoFault steps
+Judges steps (Err e) = e ≢ Memory → IsFirstFault steps e
+
+-- the lines of behaviours
+abbrev pub lines_in : List ReportBlock → ℕ
+lines_in blocks = sum_by block_count blocks
+
+-- what the check of a behaviour's certificate rests on
+pub record IsReady (b : ReportBlock) : Type 0 where
+  pub valid : IsValidProblem b.problem
+  pub ordered : AllPairs IsBefore b.problem.edges
+  pub nodes : All IsNodeInForm b.problem.ops
+
+pub record IsReadySchedule (b : ReportBlock) : Type 0 where
+  pub ready : IsReady b
+  pub times : length b.times ≡ length b.problem.ops
+  pub form : All (λ part. IsBoundInForm (length b.problem.ops) part.0) b.flow
+  pub few : length b.flow < 4294967296
+
+pub record IsReadyCycle (b : ReportBlock) : Type 0 where
+  pub ready : IsReady b
+  pub form : All (IsBoundInForm (length b.problem.ops)) b.cycle
+
+abbrev pub IsReadyIn : ReportBlock → Option Mode → Type 0
+IsReadyIn b None = IsReadyCycle b
+IsReadyIn b (Some mode) = IsReadySchedule b

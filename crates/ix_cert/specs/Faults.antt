@@ -107,14 +107,19 @@ abbrev pub IsNotPositive : ReportBlock → ℕ → Type 0
 IsNotPositive b k = sum_by (λ x. (arc_of b.problem x).up) b.cycle ≤ sum_by (λ x. (arc_of b.problem x).down) b.cycle
 
 -- ---- the steps, in order
--- of a behaviour with a schedule
-abbrev pub schedule_steps : ReportBlock → ℕ → List Step
-schedule_steps b first =
+-- of a behaviour with a schedule: its times
+abbrev pub times_steps : ReportBlock → ℕ → List Step
+times_steps b first =
     record { items = length b.problem.edges; IsBad = IsBroken b; told = λ k. Dep (edge_place first b k) }
     ∷ record { items = length b.problem.ops; IsBad = IsOutside b; told = λ k. Window (op_place first b k) }
     ∷ record { items = length b.problem.ops; IsBad = IsPassed b.problem (times_of b); told = λ k. Chain (op_place first b k) }
     ∷ record { items = 1; IsBad = IsOtherCost b; told = λ k. Value (certificate_place first b) }
-    ∷ record { items = length b.flow; IsBad = λ k. NamesNone b.problem (slice_index_or b.flow k blank_part).0; told = λ k. unnamed (slice_index_or b.flow k blank_part).0 (flow_place first b k) }
+    ∷ []
+
+-- its flow
+abbrev pub flow_steps : ReportBlock → ℕ → List Step
+flow_steps b first =
+    record { items = length b.flow; IsBad = λ k. NamesNone b.problem (slice_index_or b.flow k blank_part).0; told = λ k. unnamed (slice_index_or b.flow k blank_part).0 (flow_place first b k) }
     ∷ record { items = length b.problem.ops; IsBad = IsUnbalanced b; told = λ k. Balance (op_place first b k) }
     ∷ record { items = 1; IsBad = IsOtherValue b; told = λ k. Value (certificate_place first b) }
     ∷ []
@@ -129,7 +134,7 @@ cycle_steps b first =
 
 abbrev pub steps_in : Option Mode → ReportBlock → ℕ → List Step
 steps_in None b first = cycle_steps b first
-steps_in (Some mode) b first = schedule_steps b first
+steps_in (Some mode) b first = times_steps b first ++ flow_steps b first
 
 -- how many lines a behaviour has
 abbrev pub certificate_count : ReportBlock → Option Mode → ℕ

@@ -2,6 +2,8 @@
 #![tactic(auto)]
 
 mod bound_test;
+mod check;
+mod cycle;
 mod report;
 mod steps;
 mod sum;

@@ -1,4 +1,4 @@
-ghost use Rattle.std.specs.Prelude.{◌≡◌, ◌<◌, ◌≤◌, ◌+◌, ℕ, max, map, length, All, AllPairs, IfOk, slice_index, slice_index_or};
+ghost use Rattle.std.specs.Prelude.{◌≡◌, ◌<◌, ◌≤◌, ◌+◌, ℕ, max, map, length, All, AllPairs, IfOk, IfNone, slice_index, slice_index_or};
 ghost use Rattle.ix_sheet.specs.declared.problem.Bound.TheVariants.{Early};
 ghost use Rattle.ix_sheet.specs.Schedules.{IsValidProblem, IsAfter, IsInWindow, node_at};
 ghost use Rattle.ix_sheet.specs.Bounds.{IsBoundOf};
@@ -9,7 +9,7 @@ ghost use Rattle.ix_cert.specs.Checks.{Tells, keeps_edge, joins_edge, delay_at, 
 use crate::bound_test::is_bound;
 use crate::report::ReportBlock;
 use ix_bits::Memory;
-use ix_sheet::{Bound, Node, Problem, arc_of_bound};
+use ix_sheet::Node;
 use std::alloc::Global;
 
 // Whether the times keep the edge.
@@ -146,13 +146,15 @@ pub(crate) fn first_passed(alloc: Global, b: &ReportBlock) -> Result<Option<usiz
 }
 
 /// The first part of the flow whose bound is none of the problem.
-pub(crate) fn first_unnamed_part(p: &Problem, flow: &[(Bound, u64)]) -> Option<usize>
-    requires ordered { AllPairs IsBefore p.now.edges }
-    requires form { All (λ part. IsBoundInForm (length p.now.ops) part.0) flow.now }
-    ensures { Tells (length flow.now) (λ k. NamesNone p.now (slice_index_or flow.now k blank_part).0) result }
+pub(crate) fn first_unnamed_part(b: &ReportBlock) -> Option<usize>
+    requires ordered { AllPairs IsBefore b.now.problem.edges }
+    requires form { All (λ part. IsBoundInForm (length b.now.problem.ops) part.0) b.now.flow }
+    ensures first { Tells (length b.now.flow) (λ k. NamesNone b.now.problem (slice_index_or b.now.flow k blank_part).0) result }
+    ensures named { IfNone result (All (λ part. IsBoundOf b.now.problem part.0) b.now.flow) }
 {
+    let flow = b.flow.as_slice();
     'parts: for at in 0..flow.len() {
-        if !is_bound(p, &flow[at].0) {
+        if !is_bound(&b.problem, &flow[at].0) {
             return Some(at);
         }
     }
@@ -160,13 +162,15 @@ pub(crate) fn first_unnamed_part(p: &Problem, flow: &[(Bound, u64)]) -> Option<u
 }
 
 /// The first bound of the cycle that is none of the problem.
-pub(crate) fn first_unnamed(p: &Problem, cycle: &[Bound]) -> Option<usize>
-    requires ordered { AllPairs IsBefore p.now.edges }
-    requires form { All (IsBoundInForm (length p.now.ops)) cycle.now }
-    ensures { Tells (length cycle.now) (λ k. NamesNone p.now (slice_index_or cycle.now k (Early 0))) result }
+pub(crate) fn first_unnamed(b: &ReportBlock) -> Option<usize>
+    requires ordered { AllPairs IsBefore b.now.problem.edges }
+    requires form { All (IsBoundInForm (length b.now.problem.ops)) b.now.cycle }
+    ensures first { Tells (length b.now.cycle) (λ k. NamesNone b.now.problem (slice_index_or b.now.cycle k (Early 0))) result }
+    ensures named { IfNone result (All (IsBoundOf b.now.problem) b.now.cycle) }
 {
+    let cycle = b.cycle.as_slice();
     'bounds: for at in 0..cycle.len() {
-        if !is_bound(p, &cycle[at]) {
+        if !is_bound(&b.problem, &cycle[at]) {
             return Some(at);
         }
     }

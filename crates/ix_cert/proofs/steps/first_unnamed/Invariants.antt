@@ -6,4 +6,4 @@ use Rattle.ix_sheet.specs.Schedules.{node_at, delay_along}
 use Rattle.ix_cert.proofs.steps.first_unnamed.Given as goal
 
 abbrev pub invariant-bounds : goal.invariant-bounds
-invariant-bounds l = (j : ℕ) → j < l.at → NamesNone l.p (get_or l.cycle j (Early 0)) → ⊥
+invariant-bounds l = (j : ℕ) → j < l.at → NamesNone l.b.problem (get_or l.b.cycle j (Early 0)) → ⊥

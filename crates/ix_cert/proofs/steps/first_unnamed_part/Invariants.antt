@@ -6,4 +6,4 @@ use Rattle.ix_sheet.specs.Schedules.{node_at, delay_along}
 use Rattle.ix_cert.proofs.steps.first_unnamed_part.Given as goal
 
 abbrev pub invariant-parts : goal.invariant-parts
-invariant-parts l = (j : ℕ) → j < l.at → NamesNone l.p (get_or l.flow j blank_part).0 → ⊥
+invariant-parts l = (j : ℕ) → j < l.at → NamesNone l.b.problem (get_or l.b.flow j blank_part).0 → ⊥
