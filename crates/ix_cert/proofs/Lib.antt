@@ -4,3 +4,5 @@ mod BoundTests
 mod Balances
 mod Faultless
 mod LineCounts
+mod OneFault
+mod Answering

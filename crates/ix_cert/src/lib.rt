@@ -2,10 +2,14 @@
 #![tactic(auto)]
 
 mod bound_test;
+
 mod check;
 mod cycle;
+mod read;
 mod report;
 mod steps;
 mod sum;
+mod verdict;
 
+pub use verdict::certify;
 pub use report::{CertErr, Report, ReportBlock};
