@@ -43,9 +43,9 @@ not_before e f h differ = order e f (test_false e f h) differ
     order e f h differ = elim (le_cases f.1 e.1 h.0) [
       | inr less ↦ inl less
       | inl same ↦ elim (le_cases f.0 e.0 (h.1 (sym same))) [
-          | inr less ↦ inr (same, less)
-          | inl equal ↦ absurd (differ (ap (λ a. (a, e.1)) (sym equal) ∙ ap (λ b. (f.0, b)) (sym same)))
-        ]
+        | inr less ↦ inr (same, less)
+        | inl equal ↦ absurd (differ (ap (λ a. (a, e.1)) (sym equal) ∙ ap (λ b. (f.0, b)) (sym same)))
+      ]
     ]
 
 -- ---- membership

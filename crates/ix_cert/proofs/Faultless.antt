@@ -76,9 +76,9 @@ in_window : (b : ReportBlock) (k : ℕ) → (IsOutside b k → ⊥) → IsInWind
 in_window b k h = elim (le_or_lt (node_at b.problem k).early (times_of b k)) [
   | inr soon ↦ absurd (h (λ w. omega (arith, soon, w.0)))
   | inl low ↦ elim (le_or_lt (times_of b k) (node_at b.problem k).late) [
-      | inr past ↦ absurd (h (λ w. omega (arith, past, w.1)))
-      | inl high ↦ (low, high)
-    ]
+    | inr past ↦ absurd (h (λ w. omega (arith, past, w.1)))
+    | inl high ↦ (low, high)
+  ]
 ]
 
 pub all_named : (p : Problem) (flow : List (Bound × ℕ)) → ((k : ℕ) → k < length flow → NamesNone p (get_or flow k blank_part).0 → ⊥) → All (λ c. IsBoundOf p c.0) flow

@@ -151,16 +151,26 @@ certificates b (Some mode) = omega (arith, length-map b.flow flow_line)
 
 lines_count : (period : ℕ) (b : ReportBlock) → IsBlockInForm period b → length (block_lines b) ≡ block_count b
 lines_count period b form =
-    omega (arith, length-append (op_lines b b.mode) (map edge_line b.problem.edges ++ (certificate_lines b b.mode ++ codes "end" ∷ [])),
-    length-append (map edge_line b.problem.edges) (certificate_lines b b.mode ++ codes "end" ∷ []),
-    length-append (certificate_lines b b.mode) (codes "end" ∷ []), ops_count b b.mode form.count form.certificate, length-map b.problem.edges edge_line,
-    certificates b b.mode)
+    omega (
+      arith,
+      length-append (op_lines b b.mode) (map edge_line b.problem.edges ++ (certificate_lines b b.mode ++ codes "end" ∷ [])),
+      length-append (map edge_line b.problem.edges) (certificate_lines b b.mode ++ codes "end" ∷ []),
+      length-append (certificate_lines b b.mode) (codes "end" ∷ []),
+      ops_count b b.mode form.count form.certificate,
+      length-map b.problem.edges edge_line,
+      certificates b b.mode,
+    )
 
 blocks_count : (period : ℕ) (blocks : List ReportBlock) → All (IsBlockInForm period) blocks → length (flat_map block_lines blocks) ≡ lines_in blocks
 blocks_count period [] form = refl
 blocks_count period (b ∷ blocks) form =
-    omega (arith, length-append (block_lines b) (flat_map block_lines blocks), sum_by-cons block_count b blocks,
-    lines_count period b (All-head (IsBlockInForm period) b blocks form), blocks_count period blocks (All-tail (IsBlockInForm period) b blocks form))
+    omega (
+      arith,
+      length-append (block_lines b) (flat_map block_lines blocks),
+      sum_by-cons block_count b blocks,
+      lines_count period b (All-head (IsBlockInForm period) b blocks form),
+      blocks_count period blocks (All-tail (IsBlockInForm period) b blocks form),
+    )
 
 -- there is room for the numbers of the lines of a text
 pub room_for_lines : (bytes : List ℕ) (r : Report) → IsReportText bytes r → length bytes < 4294967296 → first_line (lines_of bytes) + 2 + lines_in r.blocks < 4294967296

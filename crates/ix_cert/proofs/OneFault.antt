@@ -10,9 +10,9 @@ same_first : (step : Step) (i j : ℕ) → IsFirstBad step i → IsFirstBad step
 same_first step i j a b = elim (first_of_two i j) [
   | inl less ↦ absurd (b.before i less a.bad)
   | inr rest ↦ elim rest [
-      | inl same ↦ same
-      | inr more ↦ absurd (a.before j more b.bad)
-    ]
+    | inl same ↦ same
+    | inr more ↦ absurd (a.before j more b.bad)
+  ]
 ]
 
 pub one_fault : (steps : List Step) (e f : CertErr) → IsFirstFault steps e → IsFirstFault steps f → e ≡ f

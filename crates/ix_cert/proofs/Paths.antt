@@ -240,9 +240,10 @@ step_along p t m value reach last valid ordered inside test small is e are =
     let forward = forward_at p m valid inside in
     let from = are.1 (edge_at p m).0 in
     let now = are.1 (edge_at p m).1 in
-    subst (λ (xs : List ℕ). AreReached p t (m + 1) xs × AreSmall xs) (sym e)
-    (kept_along p t m value reach valid ordered inside (joins_from p t (edge_at p m) test) are.0 is,
-    small_set reach (edge_at p m).1 value (omega (arith, forward.1, are.0.count)) are.1 (omega (arith, is, from, now, small, forward.0)))
+    subst (λ (xs : List ℕ). AreReached p t (m + 1) xs × AreSmall xs) (sym e) (
+      kept_along p t m value reach valid ordered inside (joins_from p t (edge_at p m) test) are.0 is,
+      small_set reach (edge_at p m).1 value (omega (arith, forward.1, are.0.count)) are.1 (omega (arith, is, from, now, small, forward.0)),
+    )
 
 -- the same, where the edge has another name
 pub step_along_it : (p : Problem) (t : ℕ → ℕ) (m value : ℕ) (e : ℕ × ℕ) (reach last : List ℕ) → IsValidProblem p → AllPairs IsBefore p.edges → m < length p.edges → e ≡ edge_at p m

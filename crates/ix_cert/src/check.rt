@@ -6,9 +6,7 @@ ghost use Rattle.ix_cert.specs.Checks.{Judges, IsReady, IsReadySchedule, IsReady
 
 use crate::cycle::{first_open, is_positive};
 use crate::report::{CertErr, Report, ReportBlock};
-use crate::steps::{
-    first_broken, first_outside, first_passed, first_unnamed, first_unnamed_part,
-};
+use crate::steps::{first_broken, first_outside, first_passed, first_unnamed, first_unnamed_part};
 use crate::sum::{first_unbalanced, is_cost, is_value};
 use ix_sheet::Bound;
 use std::alloc::Global;

@@ -2,7 +2,6 @@
 #![tactic(auto)]
 
 mod bound_test;
-
 mod check;
 mod cycle;
 mod read;
@@ -10,6 +9,8 @@ mod report;
 mod steps;
 mod sum;
 mod verdict;
+#[cfg(test)]
+mod verdict_tests;
 
-pub use verdict::certify;
 pub use report::{CertErr, Report, ReportBlock};
+pub use verdict::certify;

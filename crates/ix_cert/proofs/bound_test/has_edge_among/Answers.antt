@@ -15,16 +15,21 @@ returns-then-eq c =
 
 pub halves-preserved-then-is_before : goal.halves-preserved-then-is_before
 halves-preserved-then-is_before c =
-    let middle = middle_of c.halves.low c.halves.high in
-    (omega (arith, c.halves-test.true), c.halves.invariant.1,
-    up_to c.args.edges.now c.args.edge middle c.requires (omega (arith, c.halves-test.true, c.halves.invariant.1)) (before_from _ c.args.edge (sym c.if-is_before.ensures)),
-    c.halves.invariant.3)
+    let middle = middle_of c.halves.low c.halves.high in (
+      omega (arith, c.halves-test.true),
+      c.halves.invariant.1,
+      up_to c.args.edges.now c.args.edge middle c.requires (omega (arith, c.halves-test.true, c.halves.invariant.1)) (before_from _ c.args.edge (sym c.if-is_before.ensures)),
+      c.halves.invariant.3,
+    )
 
 pub halves-preserved : goal.halves-preserved
 halves-preserved c =
-    let middle = middle_of c.halves.low c.halves.high in
-    (omega (arith, c.halves-test.true), omega (arith, c.halves-test.true, c.halves.invariant.1), c.halves.invariant.2,
-    from_on c.args.edges.now c.args.edge middle c.requires (omega (arith, c.halves-test.true, c.halves.invariant.1)) (sym c.if-is_before.ensures) (not_found _ c.args.edge c.if-eq.ensures))
+    let middle = middle_of c.halves.low c.halves.high in (
+      omega (arith, c.halves-test.true),
+      omega (arith, c.halves-test.true, c.halves.invariant.1),
+      c.halves.invariant.2,
+      from_on c.args.edges.now c.args.edge middle c.requires (omega (arith, c.halves-test.true, c.halves.invariant.1)) (sym c.if-is_before.ensures) (not_found _ c.args.edge c.if-eq.ensures),
+    )
 
 pub returns : goal.returns
 returns c = sym (nowhere c.args.edges.now c.args.edge c.halves.low c.halves.high c.halves-test.false c.halves.invariant.2 c.halves.invariant.3)

@@ -25,6 +25,7 @@ bounds-preserved c =
     let from : (arc_of p (slice_index_or c.args.b.now.cycle c.bounds.at (Early 0))).from ≡ end_before p c.args.b.now.cycle c.bounds.at =
     ap (λ (a : Arc). a.from) (sym arc) ∙ c.if-arc-end.false ∙ c.bounds.invariant.0
     in
-    let next : c.bounds.at + 1 ≡ suc c.bounds.at = omega arith in
-    (ap (λ (a : Arc). a.to) arc ∙ ap (end_before p c.args.b.now.cycle) (sym next),
-    none_more (λ k. IsOpen c.args.b.now k) c.bounds.at c.bounds.invariant.1 (λ gap. gap from))
+    let next : c.bounds.at + 1 ≡ suc c.bounds.at = omega arith in (
+      ap (λ (a : Arc). a.to) arc ∙ ap (end_before p c.args.b.now.cycle) (sym next),
+      none_more (λ k. IsOpen c.args.b.now k) c.bounds.at c.bounds.invariant.1 (λ gap. gap from),
+    )

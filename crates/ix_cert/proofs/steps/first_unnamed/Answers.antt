@@ -14,9 +14,12 @@ use Rattle.ix_cert.proofs.Faultless.{all_bounds}
 pub returns-then-not-is_bound-clause-first : goal.returns-then-not-is_bound-clause-first
 returns-then-not-is_bound-clause-first c =
     let cycle : c.as_slice-cycle.result.now ≡ c.args.b.now.cycle = c.as_slice-cycle.ensures in
-    let inside : c.bounds.at < length c.args.b.now.cycle = omega (arith, c.bounds-test.true, ap (λ (xs : List Bound). length xs) cycle) in
-    (inside, unnamed_at c.args.b.now.problem c.args.b.now.cycle c.bounds.at c.index-cycle-at.result inside
-    (c.index-cycle-at.is ∙ ap (λ (xs : List Bound). slice_index_or xs c.bounds.at c.index-cycle-at.result) cycle) (sym c.if-not-is_bound.ensures), c.bounds.invariant)
+    let inside : c.bounds.at < length c.args.b.now.cycle = omega (arith, c.bounds-test.true, ap (λ (xs : List Bound). length xs) cycle) in (
+      inside,
+      unnamed_at c.args.b.now.problem c.args.b.now.cycle c.bounds.at c.index-cycle-at.result inside
+          (c.index-cycle-at.is ∙ ap (λ (xs : List Bound). slice_index_or xs c.bounds.at c.index-cycle-at.result) cycle) (sym c.if-not-is_bound.ensures),
+      c.bounds.invariant,
+    )
 
 pub bounds-preserved : goal.bounds-preserved
 bounds-preserved c =

@@ -18,9 +18,12 @@ test_at flow k d = (slice_index_or flow k d).0
 pub returns-then-not-is_bound-clause-first : goal.returns-then-not-is_bound-clause-first
 returns-then-not-is_bound-clause-first c =
     let flow : c.as_slice-flow.result.now ≡ c.args.b.now.flow = c.as_slice-flow.ensures in
-    let inside : c.parts.at < length c.args.b.now.flow = omega (arith, c.parts-test.true, ap (λ (xs : List (Bound × ℕ)). length xs) flow) in
-    (inside, unnamed_part_at c.args.b.now.problem c.args.b.now.flow c.parts.at c.index-flow-at.result inside
-    (ap (λ (xs : List (Bound × ℕ)). names_bound c.args.b.now.problem (test_at xs c.parts.at c.index-flow-at.result)) (sym flow) ∙ sym c.if-not-is_bound.ensures), c.parts.invariant)
+    let inside : c.parts.at < length c.args.b.now.flow = omega (arith, c.parts-test.true, ap (λ (xs : List (Bound × ℕ)). length xs) flow) in (
+      inside,
+      unnamed_part_at c.args.b.now.problem c.args.b.now.flow c.parts.at c.index-flow-at.result inside
+          (ap (λ (xs : List (Bound × ℕ)). names_bound c.args.b.now.problem (test_at xs c.parts.at c.index-flow-at.result)) (sym flow) ∙ sym c.if-not-is_bound.ensures),
+      c.parts.invariant,
+    )
 
 pub parts-preserved : goal.parts-preserved
 parts-preserved c =
