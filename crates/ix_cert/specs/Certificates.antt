@@ -26,7 +26,7 @@ pub record IsFaulty (bytes : List ℕ) (e : CertErr) : Type 0 where
 
 -- the first bad line of a text that is no report, or the first fault of one
 abbrev pub IsRefused : List ℕ → CertErr → Type 0
-IsRefused bytes e = ((n : ℕ) × (Line n ≡ e) × IsBadLine bytes n) ⊎ IsFaulty bytes e
+IsRefused bytes e = ((n : ℕ) × (e ≡ Line n) × IsBadLine bytes n) ⊎ IsFaulty bytes e
 
 -- the answer is yes, if memory is found
 abbrev pub Accepts : Result (Unit {0}) CertErr → Type 0

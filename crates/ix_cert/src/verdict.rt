@@ -1,4 +1,4 @@
-ghost use Rattle.std.specs.Prelude.{◌≡◌, ◌≢◌, ◌<◌, length, OnOk, IfErr};
+ghost use Rattle.std.specs.Prelude.{◌≡◌, ◌≢◌, ◌<◌, ◌^◌, length, OnOk, IfErr};
 ghost use Rattle.ix_cert.specs.declared.report.CertErr.{CertErr as Fault};
 ghost use Rattle.ix_cert.specs.declared.report.CertErr.TheVariants.{Memory};
 ghost use Rattle.ix_cert.specs.Certificates.{IsCertifiedText, IsFaultless, IsRefused, Accepts, Refuses};
@@ -14,7 +14,7 @@ use std::alloc::Global;
 /// text; then for one behaviour after the other its edges, windows, chains, cost, the bounds of its flow, balances and value, or the bounds,
 /// ends and sum of its cycle.
 pub fn certify(alloc: Global, bytes: &[u8]) -> Result<(), CertErr>
-    requires { length bytes.now < 4294967296 }
+    requires { length bytes.now < 2 ^ 32 }
     ensures yes { OnOk result (IsCertifiedText bytes.now) }
     ensures ok { OnOk result (IsFaultless bytes.now) }
     ensures no { IfErr result (λ e. e ≢ Memory → IsRefused bytes.now e) }
