@@ -1,6 +1,14 @@
 //! Reports of schedules with their certificates: their text, and the check that believes nothing but the report itself.
 #![tactic(auto)]
 
+mod fields;
+mod item;
+mod print;
+mod read;
 mod report;
+mod state;
+mod word;
 
+pub use print::print_report;
+pub use read::read_report;
 pub use report::{CertErr, Report, ReportBlock};
