@@ -1,11 +1,12 @@
 -- What each line of a report says, word for word (this project's choice).
-use Rattle.std.specs.Prelude.{◌≡◌, ◌≢◌, ℕ, zero, suc, ◌+◌, ◌<◌, ◌≤◌, ◌^◌, List, [], ◌∷◌, ◌++◌, length, map, All, MatchOption, Option, Some, None, codes, decimal}
+use Rattle.std.specs.Prelude.{◌<◌, ◌≡◌, ◌≢◌, ℕ, ◌+◌, ◌≤◌, List, [], ◌∷◌, ◌++◌, map, All, MatchOption, Bool, true, false, Option, Some, None, slice_index_or, codes, decimal}
 use Rattle.std.specs.List.{flat_map, join_with_byte}
+use denote.Ref.{Bor}
 use Rattle.ix_graph.specs.declared.graph.Mode.{Mode}
+use Rattle.ix_graph.specs.Kinds.{kind_words}
 use Rattle.ix_sheet.specs.declared.problem.Bound.{Bound}
 use Rattle.ix_sheet.specs.declared.problem.Bound.TheVariants.{Early, Late, Dep, Chain}
 use Rattle.ix_sheet.specs.declared.problem.Node.{Node}
-use Rattle.ix_sheet.specs.declared.problem.Problem.{Problem}
 use Rattle.ix_cert.specs.declared.item.Item.{Item}
 use Rattle.ix_cert.specs.declared.item.Item.TheVariants.{Title, Period, Behaviour, Op, Edge, Cost, Flow, Cycle, End}
 use Rattle.ix_cert.specs.declared.item.Operation.{Operation}
@@ -14,8 +15,21 @@ use Rattle.ix_cert.specs.declared.report.ReportBlock.{ReportBlock}
 use Rattle.ix_cert.specs.Layout.{Line, mode_text, IsName, IsKindName, IsNodeInForm}
 
 -- What was found has this form and these words; or nothing that has this form has these words.
-abbrev pub IsReading : {X : Type 0} → (X → Type 0) → (X → List Line) → List Line → Option X → Type 0
-IsReading {X} good words all found = MatchOption found ((x : X) → good x → words x ≡ all → ⊥) (λ x. good x × (words x ≡ all))
+abbrev pub IsReading : {X Y : Type 0} → (X → Type 0) → (X → Y) → Y → Option X → Type 0
+IsReading {X} good shown all found = MatchOption found ((x : X) → good x → shown x ≡ all → ⊥) (λ x. good x × (shown x ≡ all))
+
+-- each value has this form
+abbrev pub IsAny : {X : Type 0} → X → Type 0
+IsAny x = Unit {0}
+
+-- an answer tells whether something holds
+abbrev pub Tells : Bool → Type 0 → Type 0
+Tells true P = P
+Tells false P = P → ⊥
+
+-- the words, as texts
+abbrev pub texts : List (Bor Line) → List Line
+texts words = map (λ (word : Bor Line). word.now) words
 
 abbrev pub node_words : Node → List Line
 node_words node =
@@ -113,3 +127,40 @@ block_items b = Behaviour b.name b.mode ∷ (op_items b b.mode ++ (map edge_item
 
 abbrev pub report_items : Report → List Item
 report_items r = Title ∷ Period r.period ∷ flat_map block_items r.blocks
+
+-- ---- words
+pub record IsRegister (word : Line) : Type 0 where
+  pub register : ℕ
+  pub small : register ≤ 15
+  pub is : word ≡ decimal register
+
+-- the name of a kind without a register
+pub record IsPlainKind (word : Line) : Type 0 where
+  pub place : ℕ
+  pub below : place < 34
+  pub no_read : place ≢ 4
+  pub no_write : place ≢ 8
+  pub is : word ≡ slice_index_or kind_words place []
+
+-- ---- words behind the first of a line
+-- a label, a number of at most `most`, and the words behind it
+abbrev pub IsLabelled : Line → ℕ → List Line → Option (ℕ × List (Bor Line)) → Type 0
+IsLabelled label most words found =
+    MatchOption found ((n : ℕ) (rest : List Line) → n ≤ most → words ≡ label ∷ decimal n ∷ rest → ⊥)
+    (λ x. (x.0 ≤ most) × (words ≡ label ∷ decimal x.0 ∷ texts x.1))
+
+-- the numbers of an operation, and the words behind them
+abbrev pub IsNodeRead : List Line → Option (Node × List (Bor Line)) → Type 0
+IsNodeRead words found =
+    MatchOption found ((node : Node) (rest : List Line) → IsNodeInForm node → words ≡ node_words node ++ rest → ⊥)
+    (λ x. IsNodeInForm x.0 × (words ≡ node_words x.0 ++ texts x.1))
+
+abbrev pub pair_words : ℕ × ℕ → List Line
+pair_words p = decimal p.0 ∷ decimal p.1 ∷ []
+
+abbrev pub AreWide : ℕ × ℕ → Type 0
+AreWide p = IsWide p.0 × IsWide p.1
+
+-- the words that follow a first word
+abbrev pub IsItemBehind : Line → List Line → Option Item → Type 0
+IsItemBehind label words found = IsReading IsItem item_words (label ∷ words) found

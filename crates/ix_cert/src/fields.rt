@@ -1,3 +1,6 @@
+ghost use Rattle.std.specs.Prelude.{◌≡◌, ℕ, ◌≤◌, [], ◌∷◌, map, decimal, codes, All, IfOk};
+ghost use Rattle.ix_cert.specs.Items.{IsReading, IsAny, IsLabelled, IsNodeRead, IsItemBehind, IsTime, IsWide, AreWide, IsBound, IsItem, IsOperation, texts, time_words, op_words, bound_words, item_words, pair_words};
+
 use crate::item::{Item, Operation};
 use crate::word::{is_kind, is_name, mode, name, number};
 use ix_bits::{List, Memory};
@@ -9,7 +12,9 @@ fn labelled<'a, 'b>(
     words: &'a [&'b [u8]],
     label: &[u8],
     most: u64,
-) -> Option<(u64, &'a [&'b [u8]])> {
+) -> Option<(u64, &'a [&'b [u8]])>
+    ensures { IsLabelled label.now most (texts words.now) result }
+{
     match words {
         [first, second, rest @ ..] => {
             if *first != label {
@@ -25,7 +30,9 @@ fn labelled<'a, 'b>(
 }
 
 /// The numbers of an operation, and the words behind them.
-fn node<'a, 'b>(words: &'a [&'b [u8]]) -> Option<(Node, &'a [&'b [u8]])> {
+fn node<'a, 'b>(words: &'a [&'b [u8]]) -> Option<(Node, &'a [&'b [u8]])>
+    ensures { IsNodeRead (texts words.now) result }
+{
     let Some((delay, words)) = labelled(words, b"delay", 1_000_000) else {
         return None;
     };
@@ -48,7 +55,9 @@ fn node<'a, 'b>(words: &'a [&'b [u8]]) -> Option<(Node, &'a [&'b [u8]])> {
 }
 
 /// The time at the end of an operation's line, if it has one there.
-fn time(words: &[&[u8]]) -> Option<Option<u8>> {
+fn time(words: &[&[u8]]) -> Option<Option<u8>>
+    ensures { IsReading IsTime time_words (texts words.now) result }
+{
     if words.is_empty() {
         return Some(None);
     }
@@ -59,7 +68,9 @@ fn time(words: &[&[u8]]) -> Option<Option<u8>> {
 }
 
 /// An operation by the words behind `op`.
-fn operation(alloc: Global, words: &[&[u8]]) -> Result<Option<Operation>, Memory> {
+fn operation(alloc: Global, words: &[&[u8]]) -> Result<Option<Operation>, Memory>
+    ensures { IfOk result (λ found. IsReading IsOperation op_words (texts words.now) found) }
+{
     let [place, kind, rest @ ..] = words else {
         return Ok(None);
     };
@@ -84,7 +95,9 @@ fn operation(alloc: Global, words: &[&[u8]]) -> Result<Option<Operation>, Memory
 }
 
 /// The numbers that words are.
-fn path(alloc: Global, words: &[&[u8]]) -> Result<Option<List<u32>>, Memory> {
+fn path(alloc: Global, words: &[&[u8]]) -> Result<Option<List<u32>>, Memory>
+    ensures { IfOk result (λ found. IsReading (All IsWide) (map decimal) (texts words.now) found) }
+{
     let mut path = List::new(alloc);
     for word in words {
         match number(*word, 0xffff_ffff) {
@@ -96,7 +109,9 @@ fn path(alloc: Global, words: &[&[u8]]) -> Result<Option<List<u32>>, Memory> {
 }
 
 /// The one number that words are.
-fn one(words: &[&[u8]]) -> Option<u32> {
+fn one(words: &[&[u8]]) -> Option<u32>
+    ensures { IsReading IsWide (λ n. decimal n ∷ []) (texts words.now) result }
+{
     match words {
         [first] => match number(*first, 0xffff_ffff) {
             Some(first) => Some(first as u32),
@@ -107,7 +122,9 @@ fn one(words: &[&[u8]]) -> Option<u32> {
 }
 
 /// The two numbers that words are.
-fn two(words: &[&[u8]]) -> Option<(u32, u32)> {
+fn two(words: &[&[u8]]) -> Option<(u32, u32)>
+    ensures { IsReading AreWide pair_words (texts words.now) result }
+{
     let [first, second] = words else {
         return None;
     };
@@ -121,7 +138,9 @@ fn two(words: &[&[u8]]) -> Option<(u32, u32)> {
 }
 
 /// The bound that words are.
-fn bound(alloc: Global, words: &[&[u8]]) -> Result<Option<Bound>, Memory> {
+fn bound(alloc: Global, words: &[&[u8]]) -> Result<Option<Bound>, Memory>
+    ensures { IfOk result (λ found. IsReading IsBound bound_words (texts words.now) found) }
+{
     let [label, rest @ ..] = words else {
         return Ok(None);
     };
@@ -140,7 +159,9 @@ fn bound(alloc: Global, words: &[&[u8]]) -> Result<Option<Bound>, Memory> {
 }
 
 /// A name and a mode.
-fn behaviour(alloc: Global, words: &[&[u8]]) -> Result<Option<Item>, Memory> {
+fn behaviour(alloc: Global, words: &[&[u8]]) -> Result<Option<Item>, Memory>
+    ensures { IfOk result (λ found. IsItemBehind (codes "behaviour") (texts words.now) found) }
+{
     let [first, second] = words else {
         return Ok(None);
     };
@@ -154,7 +175,9 @@ fn behaviour(alloc: Global, words: &[&[u8]]) -> Result<Option<Item>, Memory> {
 }
 
 /// An amount above 0, and a bound.
-fn flow(alloc: Global, words: &[&[u8]]) -> Result<Option<Item>, Memory> {
+fn flow(alloc: Global, words: &[&[u8]]) -> Result<Option<Item>, Memory>
+    ensures { IfOk result (λ found. IsItemBehind (codes "flow") (texts words.now) found) }
+{
     let [first, rest @ ..] = words else {
         return Ok(None);
     };
@@ -168,7 +191,9 @@ fn flow(alloc: Global, words: &[&[u8]]) -> Result<Option<Item>, Memory> {
 }
 
 /// What the words of a line say, if they are those of a line of a report.
-pub fn item_of(alloc: Global, words: &[&[u8]]) -> Result<Option<Item>, Memory> {
+pub fn item_of(alloc: Global, words: &[&[u8]]) -> Result<Option<Item>, Memory>
+    ensures { IfOk result (λ found. IsReading IsItem item_words (texts words.now) found) }
+{
     let [label, rest @ ..] = words else {
         return Ok(None);
     };
@@ -186,14 +211,18 @@ pub fn item_of(alloc: Global, words: &[&[u8]]) -> Result<Option<Item>, Memory> {
     }
 }
 
-fn title(words: &[&[u8]]) -> Option<Item> {
+fn title(words: &[&[u8]]) -> Option<Item>
+    ensures { IsItemBehind (codes "longnail") (texts words.now) result }
+{
     match words {
         [b"report", b"1"] => Some(Item::Title),
         _ => None,
     }
 }
 
-fn period(words: &[&[u8]]) -> Option<Item> {
+fn period(words: &[&[u8]]) -> Option<Item>
+    ensures { IsItemBehind (codes "period") (texts words.now) result }
+{
     let [first] = words else {
         return None;
     };
@@ -203,7 +232,9 @@ fn period(words: &[&[u8]]) -> Option<Item> {
     }
 }
 
-fn cost(words: &[&[u8]]) -> Option<Item> {
+fn cost(words: &[&[u8]]) -> Option<Item>
+    ensures { IsItemBehind (codes "cost") (texts words.now) result }
+{
     let [first] = words else {
         return None;
     };
@@ -213,6 +244,8 @@ fn cost(words: &[&[u8]]) -> Option<Item> {
     }
 }
 
-fn end(words: &[&[u8]]) -> Option<Item> {
+fn end(words: &[&[u8]]) -> Option<Item>
+    ensures { IsItemBehind (codes "end") (texts words.now) result }
+{
     if words.is_empty() { Some(Item::End) } else { None }
 }
