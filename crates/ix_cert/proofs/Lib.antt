@@ -1,2 +1,3 @@
-pub mod Numerals
 pub mod KindNames
+pub mod Numerals
+pub mod Wordings

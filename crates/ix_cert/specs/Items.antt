@@ -143,24 +143,30 @@ pub record IsPlainKind (word : Line) : Type 0 where
   pub is : word ≡ slice_index_or kind_words place []
 
 -- ---- words behind the first of a line
+-- the first word, and those behind it
+abbrev pub IsParted : List Line → Option (Bor Line × Bor (List (Bor Line))) → Type 0
+IsParted words found = MatchOption found (words ≡ []) (λ x. words ≡ x.0.now ∷ texts x.1.now)
+
+-- a number of at most `most`, and the words behind it
+abbrev pub IsCounted : ℕ → List Line → Option (ℕ × Bor (List (Bor Line))) → Type 0
+IsCounted most words found =
+    MatchOption found ((n : ℕ) (rest : List Line) → n ≤ most → decimal n ∷ rest ≡ words → ⊥)
+    (λ x. (x.0 ≤ most) × (decimal x.0 ∷ texts x.1.now ≡ words))
+
 -- a label, a number of at most `most`, and the words behind it
-abbrev pub IsLabelled : Line → ℕ → List Line → Option (ℕ × List (Bor Line)) → Type 0
+abbrev pub IsLabelled : Line → ℕ → List Line → Option (ℕ × Bor (List (Bor Line))) → Type 0
 IsLabelled label most words found =
-    MatchOption found ((n : ℕ) (rest : List Line) → n ≤ most → words ≡ label ∷ decimal n ∷ rest → ⊥)
-    (λ x. (x.0 ≤ most) × (words ≡ label ∷ decimal x.0 ∷ texts x.1))
+    MatchOption found ((n : ℕ) (rest : List Line) → n ≤ most → label ∷ decimal n ∷ rest ≡ words → ⊥)
+    (λ x. (x.0 ≤ most) × (label ∷ decimal x.0 ∷ texts x.1.now ≡ words))
 
 -- the numbers of an operation, and the words behind them
-abbrev pub IsNodeRead : List Line → Option (Node × List (Bor Line)) → Type 0
+abbrev pub IsNodeRead : List Line → Option (Node × Bor (List (Bor Line))) → Type 0
 IsNodeRead words found =
-    MatchOption found ((node : Node) (rest : List Line) → IsNodeInForm node → words ≡ node_words node ++ rest → ⊥)
-    (λ x. IsNodeInForm x.0 × (words ≡ node_words x.0 ++ texts x.1))
+    MatchOption found ((node : Node) (rest : List Line) → IsNodeInForm node → node_words node ++ rest ≡ words → ⊥)
+    (λ x. IsNodeInForm x.0 × (node_words x.0 ++ texts x.1.now ≡ words))
 
 abbrev pub pair_words : ℕ × ℕ → List Line
 pair_words p = decimal p.0 ∷ decimal p.1 ∷ []
 
 abbrev pub AreWide : ℕ × ℕ → Type 0
 AreWide p = IsWide p.0 × IsWide p.1
-
--- the words that follow a first word
-abbrev pub IsItemBehind : Line → List Line → Option Item → Type 0
-IsItemBehind label words found = IsReading IsItem item_words (label ∷ words) found

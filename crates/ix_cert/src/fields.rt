@@ -1,11 +1,49 @@
 ghost use Rattle.std.specs.Prelude.{◌≡◌, ℕ, ◌≤◌, [], ◌∷◌, map, decimal, codes, All, IfOk};
-ghost use Rattle.ix_cert.specs.Items.{IsReading, IsAny, IsLabelled, IsNodeRead, IsItemBehind, IsTime, IsWide, AreWide, IsBound, IsItem, IsOperation, texts, time_words, op_words, bound_words, item_words, pair_words};
+ghost use Rattle.ix_cert.specs.Items.{IsReading, IsParted, IsCounted, IsLabelled, IsNodeRead, IsTime, IsWide, AreWide, IsBound, IsItem, IsOperation, Tells, texts, time_words, op_words, bound_words, item_words, pair_words};
 
 use crate::item::{Item, Operation};
 use crate::word::{is_kind, is_name, mode, name, number};
 use ix_bits::{List, Memory};
 use ix_sheet::{Bound, Node};
 use std::alloc::Global;
+
+/// The greatest number of an operation that a bound or an edge can tell.
+const MOST: u64 = 0xffff_ffff;
+
+/// The first word, and those behind it.
+pub fn parted<'a, 'b>(words: &'a [&'b [u8]]) -> Option<(&'b [u8], &'a [&'b [u8]])>
+    ensures { IsParted (texts words.now) result }
+{
+    match words {
+        [first, rest @ ..] => Some((*first, rest)),
+        [] => None,
+    }
+}
+
+pub fn is_end(words: &[&[u8]]) -> bool
+    ensures { Tells result (texts words.now ≡ []) }
+{
+    words.is_empty()
+}
+
+pub fn is_label(word: &[u8], label: &[u8]) -> bool
+    ensures { Tells result (word.now ≡ label.now) }
+{
+    word == label
+}
+
+/// The first word as a number of at most `most`, and the words behind it.
+pub fn counted<'a, 'b>(words: &'a [&'b [u8]], most: u64) -> Option<(u64, &'a [&'b [u8]])>
+    ensures { IsCounted most (texts words.now) result }
+{
+    let Some((first, rest)) = parted(words) else {
+        return None;
+    };
+    match number(first, most) {
+        Some(number) => Some((number, rest)),
+        None => None,
+    }
+}
 
 /// The number behind a label, at most `most`, and the words behind it.
 fn labelled<'a, 'b>(
@@ -15,34 +53,29 @@ fn labelled<'a, 'b>(
 ) -> Option<(u64, &'a [&'b [u8]])>
     ensures { IsLabelled label.now most (texts words.now) result }
 {
-    match words {
-        [first, second, rest @ ..] => {
-            if *first != label {
-                return None;
-            }
-            match number(*second, most) {
-                Some(number) => Some((number, rest)),
-                None => None,
-            }
-        }
-        _ => None,
+    let Some((first, rest)) = parted(words) else {
+        return None;
+    };
+    if !is_label(first, label) {
+        return None;
     }
+    counted(rest, most)
 }
 
 /// The numbers of an operation, and the words behind them.
 fn node<'a, 'b>(words: &'a [&'b [u8]]) -> Option<(Node, &'a [&'b [u8]])>
     ensures { IsNodeRead (texts words.now) result }
 {
-    let Some((delay, words)) = labelled(words, b"delay", 1_000_000) else {
+    let Some((delay, behind_delay)) = labelled(words, b"delay", 1_000_000) else {
         return None;
     };
-    let Some((latency, words)) = labelled(words, b"latency", 255) else {
+    let Some((latency, behind_latency)) = labelled(behind_delay, b"latency", 255) else {
         return None;
     };
-    let Some((early, words)) = labelled(words, b"early", 255) else {
+    let Some((early, behind_early)) = labelled(behind_latency, b"early", 255) else {
         return None;
     };
-    let Some((late, words)) = labelled(words, b"late", 255) else {
+    let Some((late, rest)) = labelled(behind_early, b"late", 255) else {
         return None;
     };
     let node = Node {
@@ -51,36 +84,40 @@ fn node<'a, 'b>(words: &'a [&'b [u8]]) -> Option<(Node, &'a [&'b [u8]])>
         early: early as u8,
         late: late as u8,
     };
-    Some((node, words))
+    Some((node, rest))
 }
 
 /// The time at the end of an operation's line, if it has one there.
 fn time(words: &[&[u8]]) -> Option<Option<u8>>
     ensures { IsReading IsTime time_words (texts words.now) result }
 {
-    if words.is_empty() {
+    if is_end(words) {
         return Some(None);
     }
-    match labelled(words, b"time", 255) {
-        Some((time, [])) => Some(Some(time as u8)),
-        _ => None,
+    let Some((time, rest)) = labelled(words, b"time", 255) else {
+        return None;
+    };
+    if is_end(rest) {
+        Some(Some(time as u8))
+    } else {
+        None
     }
 }
 
 /// An operation by the words behind `op`.
-fn operation(alloc: Global, words: &[&[u8]]) -> Result<Option<Operation>, Memory>
+pub fn operation(alloc: Global, words: &[&[u8]]) -> Result<Option<Operation>, Memory>
     ensures { IfOk result (λ found. IsReading IsOperation op_words (texts words.now) found) }
 {
-    let [place, kind, rest @ ..] = words else {
+    let Some((place, behind_place)) = counted(words, 65_535) else {
         return Ok(None);
     };
-    let Some(place) = number(*place, 65_535) else {
+    let Some((kind, behind_kind)) = parted(behind_place) else {
         return Ok(None);
     };
-    if !is_kind(*kind) {
+    if !is_kind(kind) {
         return Ok(None);
     }
-    let Some((node, rest)) = node(rest) else {
+    let Some((node, rest)) = node(behind_kind) else {
         return Ok(None);
     };
     let Some(time) = time(rest) else {
@@ -88,7 +125,7 @@ fn operation(alloc: Global, words: &[&[u8]]) -> Result<Option<Operation>, Memory
     };
     Ok(Some(Operation {
         place: place as u32,
-        kind: name(alloc, *kind)?,
+        kind: name(alloc, kind)?,
         node,
         time,
     }))
@@ -100,7 +137,7 @@ fn path(alloc: Global, words: &[&[u8]]) -> Result<Option<List<u32>>, Memory>
 {
     let mut path = List::new(alloc);
     for word in words {
-        match number(*word, 0xffff_ffff) {
+        match number(*word, MOST) {
             Some(number) => path.push(number as u32)?,
             None => return Ok(None),
         }
@@ -112,140 +149,86 @@ fn path(alloc: Global, words: &[&[u8]]) -> Result<Option<List<u32>>, Memory>
 fn one(words: &[&[u8]]) -> Option<u32>
     ensures { IsReading IsWide (λ n. decimal n ∷ []) (texts words.now) result }
 {
-    match words {
-        [first] => match number(*first, 0xffff_ffff) {
-            Some(first) => Some(first as u32),
-            None => None,
-        },
-        _ => None,
+    let Some((number, rest)) = counted(words, MOST) else {
+        return None;
+    };
+    if is_end(rest) {
+        Some(number as u32)
+    } else {
+        None
     }
 }
 
 /// The two numbers that words are.
-fn two(words: &[&[u8]]) -> Option<(u32, u32)>
+pub fn two(words: &[&[u8]]) -> Option<(u32, u32)>
     ensures { IsReading AreWide pair_words (texts words.now) result }
 {
-    let [first, second] = words else {
+    let Some((first, rest)) = counted(words, MOST) else {
         return None;
     };
-    let Some(first) = number(*first, 0xffff_ffff) else {
-        return None;
-    };
-    match number(*second, 0xffff_ffff) {
-        Some(second) => Some((first as u32, second as u32)),
+    match one(rest) {
+        Some(second) => Some((first as u32, second)),
         None => None,
     }
 }
 
 /// The bound that words are.
-fn bound(alloc: Global, words: &[&[u8]]) -> Result<Option<Bound>, Memory>
+pub fn bound(alloc: Global, words: &[&[u8]]) -> Result<Option<Bound>, Memory>
     ensures { IfOk result (λ found. IsReading IsBound bound_words (texts words.now) found) }
 {
-    let [label, rest @ ..] = words else {
+    let Some((label, rest)) = parted(words) else {
         return Ok(None);
     };
-    match *label {
-        b"early" => Ok(one(rest).map(|op| Bound::Early(op))),
-        b"late" => Ok(one(rest).map(|op| Bound::Late(op))),
-        b"dep" => Ok(two(rest).map(|(from, to)| Bound::Dep(from, to))),
-        b"chain" => {
-            if rest.is_empty() {
-                return Ok(None);
-            }
-            Ok(path(alloc, rest)?.map(|path| Bound::Chain(path)))
-        }
-        _ => Ok(None),
+    if is_label(label, b"early") {
+        return Ok(early(rest));
     }
+    if is_label(label, b"late") {
+        return Ok(late(rest));
+    }
+    if is_label(label, b"dep") {
+        return Ok(dep(rest));
+    }
+    if is_label(label, b"chain") {
+        return chain(alloc, rest);
+    }
+    Ok(None)
 }
 
-/// A name and a mode.
-fn behaviour(alloc: Global, words: &[&[u8]]) -> Result<Option<Item>, Memory>
-    ensures { IfOk result (λ found. IsItemBehind (codes "behaviour") (texts words.now) found) }
+fn early(words: &[&[u8]]) -> Option<Bound>
+    ensures { IsReading IsBound bound_words (codes "early" ∷ texts words.now) result }
 {
-    let [first, second] = words else {
-        return Ok(None);
-    };
-    let Some(mode) = mode(*second) else {
-        return Ok(None);
-    };
-    if !is_name(*first) {
-        return Ok(None);
-    }
-    Ok(Some(Item::Behaviour(name(alloc, *first)?, mode)))
-}
-
-/// An amount above 0, and a bound.
-fn flow(alloc: Global, words: &[&[u8]]) -> Result<Option<Item>, Memory>
-    ensures { IfOk result (λ found. IsItemBehind (codes "flow") (texts words.now) found) }
-{
-    let [first, rest @ ..] = words else {
-        return Ok(None);
-    };
-    match number(*first, u64::MAX) {
-        None | Some(0) => Ok(None),
-        Some(amount) => match bound(alloc, rest)? {
-            Some(bound) => Ok(Some(Item::Flow(amount, bound))),
-            None => Ok(None),
-        },
-    }
-}
-
-/// What the words of a line say, if they are those of a line of a report.
-pub fn item_of(alloc: Global, words: &[&[u8]]) -> Result<Option<Item>, Memory>
-    ensures { IfOk result (λ found. IsReading IsItem item_words (texts words.now) found) }
-{
-    let [label, rest @ ..] = words else {
-        return Ok(None);
-    };
-    match *label {
-        b"longnail" => Ok(title(rest)),
-        b"period" => Ok(period(rest)),
-        b"behaviour" => behaviour(alloc, rest),
-        b"op" => Ok(operation(alloc, rest)?.map(|op| Item::Op(op))),
-        b"edge" => Ok(two(rest).map(|(from, to)| Item::Edge(from, to))),
-        b"cost" => Ok(cost(rest)),
-        b"flow" => flow(alloc, rest),
-        b"cycle" => Ok(bound(alloc, rest)?.map(|bound| Item::Cycle(bound))),
-        b"end" => Ok(end(rest)),
-        _ => Ok(None),
-    }
-}
-
-fn title(words: &[&[u8]]) -> Option<Item>
-    ensures { IsItemBehind (codes "longnail") (texts words.now) result }
-{
-    match words {
-        [b"report", b"1"] => Some(Item::Title),
-        _ => None,
-    }
-}
-
-fn period(words: &[&[u8]]) -> Option<Item>
-    ensures { IsItemBehind (codes "period") (texts words.now) result }
-{
-    let [first] = words else {
-        return None;
-    };
-    match number(*first, 1_000_000) {
-        None | Some(0) => None,
-        Some(period) => Some(Item::Period(period as u32)),
-    }
-}
-
-fn cost(words: &[&[u8]]) -> Option<Item>
-    ensures { IsItemBehind (codes "cost") (texts words.now) result }
-{
-    let [first] = words else {
-        return None;
-    };
-    match number(*first, u64::MAX) {
-        Some(cost) => Some(Item::Cost(cost)),
+    match one(words) {
+        Some(op) => Some(Bound::Early(op)),
         None => None,
     }
 }
 
-fn end(words: &[&[u8]]) -> Option<Item>
-    ensures { IsItemBehind (codes "end") (texts words.now) result }
+fn late(words: &[&[u8]]) -> Option<Bound>
+    ensures { IsReading IsBound bound_words (codes "late" ∷ texts words.now) result }
 {
-    if words.is_empty() { Some(Item::End) } else { None }
+    match one(words) {
+        Some(op) => Some(Bound::Late(op)),
+        None => None,
+    }
+}
+
+fn dep(words: &[&[u8]]) -> Option<Bound>
+    ensures { IsReading IsBound bound_words (codes "dep" ∷ texts words.now) result }
+{
+    match two(words) {
+        Some((from, to)) => Some(Bound::Dep(from, to)),
+        None => None,
+    }
+}
+
+fn chain(alloc: Global, words: &[&[u8]]) -> Result<Option<Bound>, Memory>
+    ensures { IfOk result (λ found. IsReading IsBound bound_words (codes "chain" ∷ texts words.now) found) }
+{
+    if is_end(words) {
+        return Ok(None);
+    }
+    match path(alloc, words)? {
+        Some(path) => Ok(Some(Bound::Chain(path))),
+        None => Ok(None),
+    }
 }

@@ -3,6 +3,7 @@
 
 mod fields;
 mod item;
+mod lines;
 mod print;
 mod read;
 mod report;

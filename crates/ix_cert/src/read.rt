@@ -1,5 +1,5 @@
-use crate::fields::item_of;
 use crate::item::Item;
+use crate::lines::item_of;
 use crate::report::{CertErr, Report};
 use crate::state::{Place, Reading, after, may_follow};
 use ix_bits::{List, Memory};
