@@ -1,5 +1,5 @@
 -- What the printing of a report puts behind what stands already.
-use Rattle.std.specs.Prelude.{◌≡◌, ℕ, List, [], ◌∷◌, ◌++◌, length, All, Option, Some, None}
+use Rattle.std.specs.Prelude.{◌≡◌, ◌<◌, ℕ, List, [], ◌∷◌, ◌++◌, length, All, Option, Some, None, slice_index}
 use Rattle.std.specs.List.{flat_map}
 use Rattle.ix_graph.specs.declared.graph.Mode.{Mode}
 use Rattle.ix_cert.specs.declared.report.ReportBlock.{ReportBlock}
@@ -24,3 +24,12 @@ pub record IsPrintable (b : ReportBlock) : Type 0 where
 
 abbrev pub ArePrintable : List ReportBlock → Type 0
 ArePrintable blocks = All IsPrintable blocks
+
+-- the place is one of so many, where times are told
+abbrev pub IsWithin : Option Mode → ℕ → ℕ → Type 0
+IsWithin None place count = Unit {0}
+IsWithin (Some mode) place count = place < count
+
+abbrev pub time_at : Option Mode → List ℕ → ℕ → Option ℕ
+time_at None times place = None
+time_at (Some mode) times place = Some (slice_index times place)

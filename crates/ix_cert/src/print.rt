@@ -1,7 +1,7 @@
 ghost use Rattle.std.specs.Prelude.{◌≡◌, ◌++◌, [], ◌∷◌, map, length, codes, decimal, IfOk, OnOk, Some, None};
 ghost use Rattle.std.specs.List.{flat_map};
 ghost use Rattle.ix_cert.specs.Layout.{mode_text, field, bound_text, op_line, edge_line, flow_line, cycle_line, block_lines, report_lines, op_lines, certificate_lines, IsInForm, IsBlockInForm, IsReportText};
-ghost use Rattle.ix_cert.specs.Printing.{text_of, time_field, IsPrintable, ArePrintable};
+ghost use Rattle.ix_cert.specs.Printing.{text_of, time_field, time_at as specified_time_at, IsWithin, IsPrintable, ArePrintable};
 
 use crate::report::{Report, ReportBlock};
 use itoa::Buffer;
@@ -103,6 +103,16 @@ fn put_op(out: &mut Vec<u8>, place: u64, kind: &str, node: &Node, time: Option<u
     put(out, "\n")
 }
 
+fn time_at(mode: Option<Mode>, times: &[u8], place: usize) -> Option<u8>
+    requires { IsWithin mode place (length times.now) }
+    ensures { result ≡ specified_time_at mode times.now place }
+{
+    match mode {
+        Some(_) => Some(times[place]),
+        None => None,
+    }
+}
+
 fn put_ops(out: &mut Vec<u8>, block: &ReportBlock) -> Result<(), Memory>
     requires { IsPrintable block.now }
     ensures { OnOk result (out.new.items ≡ out.old.items ++ text_of (op_lines block.now block.now.mode)) }
@@ -110,7 +120,7 @@ fn put_ops(out: &mut Vec<u8>, block: &ReportBlock) -> Result<(), Memory>
     let kinds = block.kinds.as_slice();
     let times = block.times.as_slice();
     for (place, node) in block.problem.ops.as_slice().iter().enumerate() {
-        let time = if block.mode.is_some() { Some(times[place]) } else { None };
+        let time = time_at(block.mode, times, place);
         put_op(out, place as u64, kinds[place].as_str(), node, time)?;
     }
     Ok(())

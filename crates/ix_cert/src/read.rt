@@ -1,3 +1,7 @@
+ghost use Rattle.std.specs.Prelude.{◌≡◌, ◌==◌, map, IfOk};
+ghost use Rattle.std.specs.List.{slice_split};
+ghost use Rattle.ix_cert.specs.Items.{IsReading, IsItem, item_line, texts};
+
 use crate::item::Item;
 use crate::lines::item_of;
 use crate::report::{CertErr, Report};
@@ -6,12 +10,16 @@ use ix_bits::{List, Memory};
 use std::alloc::{AllocError, Global};
 
 /// The parts of a text between the bytes of this value.
-fn parts(alloc: Global, bytes: &[u8], by: u8) -> Result<Vec<&[u8]>, AllocError> {
+fn parts(alloc: Global, bytes: &[u8], by: u8) -> Result<Vec<&[u8]>, AllocError>
+    ensures { IfOk result (λ parts. texts parts.items ≡ slice_split (λ b. b == by) bytes.now) }
+{
     bytes.split(|byte| *byte == by).collect(alloc)
 }
 
 /// What a line says, if it is a line of a report.
-fn item_of_line(alloc: Global, line: &[u8]) -> Result<Option<Item>, Memory> {
+fn item_of_line(alloc: Global, line: &[u8]) -> Result<Option<Item>, Memory>
+    ensures { IfOk result (λ found. IsReading IsItem item_line line.now found) }
+{
     let Ok(words) = parts(alloc, line, b' ') else {
         return Err(Memory);
     };
