@@ -1,4 +1,5 @@
 pub mod Decoded
+pub mod Kept
 pub mod KindNames
 pub mod Lined
 pub mod Numerals

@@ -82,10 +82,16 @@ timed_leads period blocks name mode kinds ops times k (kind ∷ more) (node ∷ 
 pairs_tail : {X : Type 0} (R : X → X → Type 0) (x : X) (xs : List X) → AllPairs R (x ∷ xs) → AllPairs R xs
 pairs_tail R x xs a = λ i j d h l. a (suc i) (suc j) d (omega (arith, h)) (omega (arith, l))
 
+last_more : (f g : ℕ × ℕ) (done : List (ℕ × ℕ)) → last_edge (f ∷ g ∷ done) ≡ last_edge (g ∷ done)
+last_more f g done =
+    let a : length (f ∷ g ∷ done) - 1 ≡ suc (length done) = omega arith in
+    let b : length (g ∷ done) - 1 ≡ length done = omega arith in
+    ap (λ k. slice_get (f ∷ g ∷ done) k) a ∙ ap (λ k. slice_get (g ∷ done) k) (sym b)
+
 last_before : (done : List (ℕ × ℕ)) (e : ℕ × ℕ) (left : List (ℕ × ℕ)) → AllPairs IsBefore (done ++ e ∷ left) → IsBehind (last_edge done) e
 last_before [] e left a = tt
 last_before (f ∷ []) e left a = a 0 1 (0, 0) (lit< tt) (omega arith)
-last_before (f ∷ g ∷ done) e left a = last_before (g ∷ done) e left (pairs_tail IsBefore f (g ∷ done ++ e ∷ left) a)
+last_before (f ∷ g ∷ done) e left a = subst (λ l. IsBehind l e) (sym (last_more f g done)) (last_before (g ∷ done) e left (pairs_tail IsBefore f (g ∷ done ++ e ∷ left) a))
 
 edges_lead : (period : ℕ) (blocks : List ReportBlock) (name : Line) (mode : Option Mode) (kinds : List Line) (ops : List Node) (times : List ℕ) (done left : List (ℕ × ℕ))
     → All (IsEdgeInForm (length ops)) left → AllPairs IsBefore (done ++ left)
