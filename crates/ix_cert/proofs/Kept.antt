@@ -271,7 +271,7 @@ open_with period b c costed also n k p o g = record {
   told = g;
 }
 
-certificate_more : (b c : ReportBlock) (costed also : Bool) (x : Item) → c.name ≡ b.name → c.mode ≡ b.mode → c.kinds ≡ b.kinds → c.problem ≡ b.problem → c.times ≡ b.times → given c c.mode also ≡ given b b.mode costed ++ x ∷ []
+pub certificate_more : (b c : ReportBlock) (costed also : Bool) (x : Item) → c.name ≡ b.name → c.mode ≡ b.mode → c.kinds ≡ b.kinds → c.problem ≡ b.problem → c.times ≡ b.times → given c c.mode also ≡ given b b.mode costed ++ x ∷ []
     → begun_items c also ≡ begun_items b costed ++ x ∷ []
 certificate_more b c costed also x n m k p t g =
     ap (λ l. Behaviour l c.mode ∷ (op_items c c.mode ++ (map edge_item c.problem.edges ++ given c c.mode also))) n
@@ -280,3 +280,148 @@ certificate_more b c costed also x n m k p t g =
     ∙ ap (λ l. Behaviour b.name b.mode ∷ (l ++ (map edge_item c.problem.edges ++ (given b b.mode costed ++ x ∷ [])))) (ops_same c b b.mode k (ap (λ q. q.ops) p) t)
     ∙ ap (λ q. Behaviour b.name b.mode ∷ (op_items b b.mode ++ (map edge_item q.edges ++ (given b b.mode costed ++ x ∷ [])))) p
     ∙ ap (λ l. Behaviour b.name b.mode ∷ l) (behind_given (op_items b b.mode) (map edge_item b.problem.edges) (given b b.mode costed) x)
+
+-- a behaviour that may end is in the range of its form
+end_certificate : (b : ReportBlock) (costed : Bool) (mode : Option Mode) → (costed ≡ false → b.cycle ≢ []) → HasGiven b mode costed → HasCertificate b mode
+end_certificate b costed None m g = (g.1, g.2, g.3, g.4, m g.0)
+end_certificate b false (Some mode) m g = absurd (m refl g.4)
+end_certificate b true (Some mode) m g = (g.0, g.1, g.2, g.3, g.4)
+
+end_items : (b : ReportBlock) (costed : Bool) (mode : Option Mode) → (costed ≡ false → b.cycle ≢ []) → HasGiven b mode costed → given b mode costed ≡ certificate_items b mode
+end_items b costed None m g = refl
+end_items b false (Some mode) m g = absurd (m refl g.4)
+end_items b true (Some mode) m g = refl
+
+end_open : (period : ℕ) (b : ReportBlock) (costed : Bool) → (costed ≡ false → b.cycle ≢ []) → IsOpen period b costed → IsBlockInForm period b
+end_open period b costed m o = record {
+  named = o.named;
+  few = o.few;
+  count = o.count;
+  kinds = o.kinds;
+  nodes = o.nodes;
+  edges = o.edges;
+  ordered = o.ordered;
+  period_is = o.period_is;
+  certificate = end_certificate b costed b.mode m o.told;
+}
+
+end_more : (period : ℕ) (blocks : List ReportBlock) (b : ReportBlock) (costed : Bool) → (costed ≡ false → b.cycle ≢ []) → IsOpen period b costed
+    → flat_map block_items (blocks ++ b ∷ []) ≡ (flat_map block_items blocks ++ begun_items b costed) ++ End ∷ []
+end_more period blocks b costed m o =
+    flat_map-append block_items blocks (b ∷ [])
+    ∙ ap (λ l. flat_map block_items blocks ++ l) (append-nil (block_items b)
+      ∙ ap (λ l. Behaviour b.name b.mode ∷ l) (behind_given (op_items b b.mode) (map edge_item b.problem.edges) (certificate_items b b.mode) End)
+      ∙ ap (λ l. (Behaviour b.name b.mode ∷ (op_items b b.mode ++ (map edge_item b.problem.edges ++ l))) ++ End ∷ []) (sym (end_items b costed b.mode m o.told)))
+    ∙ sym (append_assoc (flat_map block_items blocks) (begun_items b costed) (End ∷ []))
+
+begun_given : (name : Line) (mode : Option Mode) (period : ℕ) → HasGiven (begun name mode period) mode false
+begun_given name None period = (refl, refl, refl, refl, All-nil (IsBoundInForm 0))
+begun_given name (Some mode) period = (refl, All-nil (λ t. t ≤ 255), refl, refl, refl)
+
+begun_open : (name : Line) (mode : Option Mode) (period : ℕ) → IsName name → IsOpen period (begun name mode period) false
+begun_open name mode period n = record {
+  named = n;
+  few = omega arith;
+  count = refl;
+  kinds = All-nil IsKindName;
+  nodes = All-nil IsNodeInForm;
+  edges = All-nil (IsEdgeInForm 0);
+  ordered = λ i j d h l. absurd (omega (arith, l));
+  period_is = refl;
+  told = begun_given name mode period;
+}
+
+begun_none : (name : Line) (mode : Option Mode) (period : ℕ) → op_items (begun name mode period) mode ++ ([] ++ given (begun name mode period) mode false) ≡ []
+begun_none name None period = refl
+begun_none name (Some mode) period = refl
+
+nothing_first : (x : Item) (blocks : List ReportBlock) → blocks ≡ [] → Title ∷ x ∷ flat_map block_items blocks ≡ (Title ∷ []) ++ x ∷ []
+nothing_first x blocks e = rw e refl
+
+keep_inside : (period : ℕ) (blocks : List ReportBlock) (b : ReportBlock) (costed : Bool) (x : Item) → AreDone period blocks → IsOpen period b costed → IsItem x → MayStand b costed x → Keeps (reading period blocks (place.Inside b costed)) x
+keep_inside period blocks b costed Title d o w m = absurd m
+keep_inside period blocks b costed (Period p) d o w m = absurd m
+keep_inside period blocks b costed (Behaviour name mode) d o w m = absurd m
+keep_inside period blocks b costed (Op op) d o w m = record {
+  sound = (d, open_op period b costed op o w m);
+  items = inside_more period blocks (Op op) (begun_items b costed) (begun_items (with_op b op) costed) (op_more b costed op period o m);
+}
+keep_inside period blocks b costed (Edge i j) d o w m = record {
+  sound = (d, open_edge period b costed (i, j) o m);
+  items = inside_more period blocks (Edge i j) (begun_items b costed) (begun_items (with_edge b (i, j)) costed) (edge_more b costed (i, j) m);
+}
+keep_inside period blocks b costed (Cost cost) d o w m = record {
+  sound = (d, open_with period b (with_cost b cost) costed true refl refl refl o (given_cost b costed cost b.mode m.0 m.1 (below_64 cost w) o.told));
+  items = inside_more period blocks (Cost cost) (begun_items b costed) (begun_items (with_cost b cost) true) (certificate_more b (with_cost b cost) costed true (Cost cost) refl refl refl refl refl (given_cost_items b costed cost b.mode m.0 m.1 o.told));
+} where
+  below_64 : (n : ℕ) → n ≤ 18446744073709551615 → n < 2 ^ 64
+  below_64 n h = omega (arith, h, lit) where
+    lit : 18446744073709551615 < 2 ^ 64
+    lit = lit< tt
+keep_inside period blocks b costed (Flow amount bound) d o w m = record {
+  sound = (d, open_with period b (with_flow b (bound, amount)) costed costed refl refl refl o (given_flow b costed (bound, amount) b.mode m.0 (record { bound = m.1; positive = w.0; small = below_64 amount w.1 }) o.told));
+  items = inside_more period blocks (Flow amount bound) (begun_items b costed) (begun_items (with_flow b (bound, amount)) costed) (certificate_more b (with_flow b (bound, amount)) costed costed (Flow amount bound) refl refl refl refl refl (given_flow_items b costed (bound, amount) b.mode m.0 o.told));
+} where
+  below_64 : (n : ℕ) → n ≤ 18446744073709551615 → n < 2 ^ 64
+  below_64 n h = omega (arith, h, lit) where
+    lit : 18446744073709551615 < 2 ^ 64
+    lit = lit< tt
+keep_inside period blocks b costed (Cycle bound) d o w m = record {
+  sound = (d, open_with period b (with_cycle b bound) costed costed refl refl refl o (given_cycle b costed bound b.mode m.0 m.1 o.told));
+  items = inside_more period blocks (Cycle bound) (begun_items b costed) (begun_items (with_cycle b bound) costed) (certificate_more b (with_cycle b bound) costed costed (Cycle bound) refl refl refl refl refl (given_cycle_items b costed bound b.mode m.0));
+}
+keep_inside period blocks b costed End d o w m = record {
+  sound = record { some_period = d.some_period; most_period = d.most_period; blocks_are = All-push (IsBlockInForm period) blocks b d.blocks_are (end_open period b costed m o) };
+  items = ap (λ l. Title ∷ Period period ∷ l) (end_more period blocks b costed m o);
+}
+
+keep_at : (period : ℕ) (blocks : List ReportBlock) (at : Place) (x : Item) → IsSoundAt period blocks at → IsItem x → MayFollow at x → Keeps (reading period blocks at) x
+keep_at period blocks place.Title Title s w m = record { sound = s; items = refl }
+keep_at period blocks place.Title (Period p) s w m = absurd m
+keep_at period blocks place.Title (Behaviour name mode) s w m = absurd m
+keep_at period blocks place.Title (Op op) s w m = absurd m
+keep_at period blocks place.Title (Edge i j) s w m = absurd m
+keep_at period blocks place.Title (Cost cost) s w m = absurd m
+keep_at period blocks place.Title (Flow amount bound) s w m = absurd m
+keep_at period blocks place.Title (Cycle bound) s w m = absurd m
+keep_at period blocks place.Title End s w m = absurd m
+keep_at period blocks place.Period Title s w m = absurd m
+keep_at period blocks place.Period (Period p) s w m = record {
+  sound = record { some_period = w.0; most_period = w.1; blocks_are = subst (All (IsBlockInForm p)) (sym s) (All-nil (IsBlockInForm p)) };
+  items = nothing_first (Period p) blocks s;
+}
+keep_at period blocks place.Period (Behaviour name mode) s w m = absurd m
+keep_at period blocks place.Period (Op op) s w m = absurd m
+keep_at period blocks place.Period (Edge i j) s w m = absurd m
+keep_at period blocks place.Period (Cost cost) s w m = absurd m
+keep_at period blocks place.Period (Flow amount bound) s w m = absurd m
+keep_at period blocks place.Period (Cycle bound) s w m = absurd m
+keep_at period blocks place.Period End s w m = absurd m
+keep_at period blocks place.Between Title s w m = absurd m
+keep_at period blocks place.Between (Period p) s w m = absurd m
+keep_at period blocks place.Between (Behaviour name mode) s w m = record {
+  sound = (s, begun_open name mode period w);
+  items = ap (λ l. Title ∷ Period period ∷ (flat_map block_items blocks ++ Behaviour name mode ∷ l)) (begun_none name mode period);
+}
+keep_at period blocks place.Between (Op op) s w m = absurd m
+keep_at period blocks place.Between (Edge i j) s w m = absurd m
+keep_at period blocks place.Between (Cost cost) s w m = absurd m
+keep_at period blocks place.Between (Flow amount bound) s w m = absurd m
+keep_at period blocks place.Between (Cycle bound) s w m = absurd m
+keep_at period blocks place.Between End s w m = absurd m
+keep_at period blocks (place.Inside b costed) x s w m = keep_inside period blocks b costed x s.0 s.1 w m
+
+-- the same over many items
+pub record KeepsAll (r : Reading) (xs : List Item) : Type 0 where
+  pub sound : IsSound (run r xs)
+  pub items : so_far (run r xs) ≡ so_far r ++ xs
+
+pub keep_all : (r : Reading) (xs : List Item) → IsSound r → EachItem xs → AllFollow r xs → KeepsAll r xs
+keep_all r [] s w m = record { sound = s; items = sym (append-nil (so_far r)) }
+keep_all r (x ∷ xs) s w m =
+    let one = keep_at r.period r.blocks r.place x s w.0 m.0 in
+    let rest = keep_all (after r x) xs one.sound w.1 m.1 in
+    record { sound = rest.sound; items = rest.items ∙ ap (λ l. l ++ xs) one.items ∙ append_assoc (so_far r) (x ∷ []) xs }
+
+pub start_sound : IsSound start
+start_sound = refl

@@ -5,5 +5,6 @@ pub mod Lined
 pub mod Numerals
 pub mod Printed
 pub mod Shown
+pub mod Viable
 pub mod Walked
 pub mod Wordings

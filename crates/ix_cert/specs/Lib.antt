@@ -1,4 +1,5 @@
 pub mod Items
 pub mod Layout
 pub mod Printing
+pub mod Refusals
 pub mod Steps

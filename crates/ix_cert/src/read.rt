@@ -1,6 +1,10 @@
-ghost use Rattle.std.specs.Prelude.{◌≡◌, ◌==◌, map, IfOk};
+ghost use Rattle.std.specs.Prelude.{◌≡◌, ◌≢◌, ℕ, ◌+◌, ◌^◌, ◌<◌, ◌≤◌, ◌==◌, ◌⊎◌, length, IfOk, IfErr, MatchOption, Ok, Err};
 ghost use Rattle.std.specs.List.{slice_split};
+ghost use Rattle.ix_cert.specs.declared.report.CertErr.TheVariants as err;
+ghost use Rattle.ix_cert.specs.declared.report.Report.{Report as ReportValue};
 ghost use Rattle.ix_cert.specs.Items.{IsReading, IsItem, item_line, texts};
+ghost use Rattle.ix_cert.specs.Layout.{lines_of, first_line, is_refusal, without_last_empty as specified_without_last_empty, behind_refusal as specified_behind_refusal, report_lines, IsInForm, IsReportText, IsBadLine};
+ghost use Rattle.ix_cert.specs.Refusals.{IsNext, NoNext, TellsLine, bytes_in};
 
 use crate::item::Item;
 use crate::lines::item_of;
@@ -27,7 +31,9 @@ fn item_of_line(alloc: Global, line: &[u8]) -> Result<Option<Item>, Memory>
 }
 
 /// What was read with this line, if it may stand next.
-fn next(alloc: Global, reading: Reading, line: &[u8]) -> Result<Option<Reading>, Memory> {
+fn next(alloc: Global, reading: Reading, line: &[u8]) -> Result<Option<Reading>, Memory>
+    ensures { IfOk result (λ found. MatchOption found (NoNext reading line.now) (λ more. IsNext reading line.now more)) }
+{
     let Some(item) = item_of_line(alloc, line)? else {
         return Ok(None);
     };
@@ -37,18 +43,35 @@ fn next(alloc: Global, reading: Reading, line: &[u8]) -> Result<Option<Reading>,
     Ok(Some(after(alloc, reading, item)?))
 }
 
-fn without_last_empty<'a, 'b>(lines: &'a [&'b [u8]]) -> &'a [&'b [u8]] {
+fn without_last_empty<'a, 'b>(lines: &'a [&'b [u8]]) -> &'a [&'b [u8]]
+    ensures { texts result.now ≡ specified_without_last_empty (texts lines.now) }
+{
     match lines {
-        [front @ .., []] => front,
-        _ => lines,
+        [front @ .., last] => {
+            if last.is_empty() {
+                front
+            } else {
+                lines
+            }
+        }
+        [] => lines,
     }
 }
 
+fn is_refused(line: &[u8]) -> bool
+    ensures { result ≡ is_refusal line.now }
+{
+    line.starts_with(b"refused ")
+}
+
 /// The lines of the report, and the number of the first, from 1: one that starts with `refused ` may stand before.
-fn behind_refusal<'a, 'b>(lines: &'a [&'b [u8]]) -> (&'a [&'b [u8]], u32) {
+fn behind_refusal<'a, 'b>(lines: &'a [&'b [u8]]) -> (&'a [&'b [u8]], u32)
+    ensures behind { texts result.0.now ≡ specified_behind_refusal (texts lines.now) }
+    ensures first { result.1 ≡ first_line (texts lines.now) }
+{
     match lines {
         [first, rest @ ..] => {
-            if first.starts_with(b"refused ") {
+            if is_refused(*first) {
                 (rest, 2)
             } else {
                 (lines, 1)
@@ -59,7 +82,13 @@ fn behind_refusal<'a, 'b>(lines: &'a [&'b [u8]]) -> (&'a [&'b [u8]], u32) {
 }
 
 /// Reads the lines of a report, of which the first has the given number.
-fn read_lines(alloc: Global, lines: &[&[u8]], first: u32) -> Result<Report, CertErr> {
+fn read_lines(alloc: Global, lines: &[&[u8]], first: u32) -> Result<Report, CertErr>
+    requires first { first ≤ 2 }
+    requires fits { bytes_in (texts lines.now) ≤ 2 ^ 32 }
+    ensures form { IfOk result (λ report. IsInForm report) }
+    ensures read { IfOk result (λ report. report_lines report ≡ texts lines.now) }
+    ensures refused { IfErr result (TellsLine (texts lines.now) first) }
+{
     let mut reading = Reading {
         period: 0,
         blocks: List::new(alloc),
@@ -82,7 +111,14 @@ fn read_lines(alloc: Global, lines: &[&[u8]], first: u32) -> Result<Report, Cert
 }
 
 /// Reads a report, and tells the number, from 1, of its first line.
-pub(crate) fn read_text(alloc: Global, bytes: &[u8]) -> Result<(Report, u32), CertErr> {
+pub(crate) fn read_text(alloc: Global, bytes: &[u8]) -> Result<(Report, u32), CertErr>
+    requires { length bytes.now < 2 ^ 32 }
+    ensures read { IfOk result (λ x. IsReportText bytes.now x.0) }
+    ensures first { IfOk result (λ x. x.1 ≡ first_line (lines_of bytes.now)) }
+    ensures only { (report : ReportValue) → IsReportText bytes.now report → (result ≡ Ok (report, first_line (lines_of bytes.now))) ⊎ (result ≡ Err err.Memory) }
+    ensures refused { IfErr result (λ e. e ≢ err.Memory → (n : ℕ) × (e ≡ err.Line n) × IsBadLine bytes.now n) }
+    ensures refuses { (n : ℕ) → IsBadLine bytes.now n → (result ≡ Err (err.Line n)) ⊎ (result ≡ Err err.Memory) }
+{
     let Ok(lines) = parts(alloc, bytes, b'\n') else {
         return Err(CertErr::Memory);
     };
@@ -96,7 +132,13 @@ pub(crate) fn read_text(alloc: Global, bytes: &[u8]) -> Result<(Report, u32), Ce
 /// Reads the text of a report (this project's choice), of fewer than 2^32 bytes. One line that starts with `refused `
 /// may stand first. A text that is no report is refused with `Line`, at the first line that may not stand in its place
 /// or that is missing; no other error comes but `Memory`.
-pub fn read_report(alloc: Global, bytes: &[u8]) -> Result<Report, CertErr> {
+pub fn read_report(alloc: Global, bytes: &[u8]) -> Result<Report, CertErr>
+    requires { length bytes.now < 2 ^ 32 }
+    ensures read { IfOk result (λ report. IsReportText bytes.now report) }
+    ensures only { (report : ReportValue) → IsReportText bytes.now report → (result ≡ Ok report) ⊎ (result ≡ Err err.Memory) }
+    ensures refused { IfErr result (λ e. e ≢ err.Memory → (n : ℕ) × (e ≡ err.Line n) × IsBadLine bytes.now n) }
+    ensures refuses { (n : ℕ) → IsBadLine bytes.now n → (result ≡ Err (err.Line n)) ⊎ (result ≡ Err err.Memory) }
+{
     match read_text(alloc, bytes) {
         Ok((report, _)) => Ok(report),
         Err(error) => Err(error),

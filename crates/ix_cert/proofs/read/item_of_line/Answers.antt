@@ -1,9 +1,5 @@
 use Rattle.std.proofs.Common.{ap, ◌∙◌}
 use Rattle.ix_cert.specs.Items.{texts}
-use Rattle.ix_cert.proofs.Walked.{report_leads}
-use Rattle.ix_cert.proofs.Kept.{certificate_more}
-use Rattle.ix_cert.proofs.Decoded.{one_item}
-use Rattle.ix_cert.proofs.Lined.{report_each}
 use Rattle.ix_cert.proofs.Shown.{line_read_ok}
 use Rattle.ix_cert.proofs.read.item_of_line.Goals as goal
 
