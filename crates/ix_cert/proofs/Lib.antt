@@ -3,6 +3,7 @@ pub mod Kept
 pub mod KindNames
 pub mod Lined
 pub mod Numerals
+pub mod Outcomes
 pub mod Printed
 pub mod Shown
 pub mod Viable

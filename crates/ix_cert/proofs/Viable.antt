@@ -174,7 +174,7 @@ reached_more lines r more line h n = record {
 }
 
 -- no two lists of items have the same lines
-lines_one : (xs ys : List Item) → EachItem xs → EachItem ys → map item_line xs ≡ map item_line ys → xs ≡ ys
+pub lines_one : (xs ys : List Item) → EachItem xs → EachItem ys → map item_line xs ≡ map item_line ys → xs ≡ ys
 lines_one [] [] v w e = refl
 lines_one [] (y ∷ ys) v w e = absurd cc
 lines_one (x ∷ xs) [] v w e = absurd cc

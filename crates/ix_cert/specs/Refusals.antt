@@ -43,3 +43,7 @@ TellsLine lines first e = ⊥
 abbrev pub bytes_in : List Line → ℕ
 bytes_in [] = 0
 bytes_in (line ∷ rest) = length line + 1 + bytes_in rest
+
+-- what was read, as a report
+abbrev pub report_of : Reading → Report
+report_of r = record { period = r.period; blocks = r.blocks }

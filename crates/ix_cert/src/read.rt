@@ -4,7 +4,9 @@ ghost use Rattle.ix_cert.specs.declared.report.CertErr.TheVariants as err;
 ghost use Rattle.ix_cert.specs.declared.report.Report.{Report as ReportValue};
 ghost use Rattle.ix_cert.specs.Items.{IsReading, IsItem, item_line, texts};
 ghost use Rattle.ix_cert.specs.Layout.{lines_of, first_line, is_refusal, without_last_empty as specified_without_last_empty, behind_refusal as specified_behind_refusal, report_lines, IsInForm, IsReportText, IsBadLine};
-ghost use Rattle.ix_cert.specs.Refusals.{IsNext, NoNext, TellsLine, bytes_in};
+ghost use Rattle.ix_cert.specs.Refusals.{IsNext, NoNext, TellsLine, bytes_in, report_of};
+ghost use Rattle.ix_cert.specs.Steps.{MayFollow, after as specified_after};
+ghost use Rattle.ix_cert.specs.declared.state.Place.TheVariants as at;
 
 use crate::item::Item;
 use crate::lines::item_of;
@@ -34,13 +36,32 @@ fn item_of_line(alloc: Global, line: &[u8]) -> Result<Option<Item>, Memory>
 fn next(alloc: Global, reading: Reading, line: &[u8]) -> Result<Option<Reading>, Memory>
     ensures { IfOk result (λ found. MatchOption found (NoNext reading line.now) (λ more. IsNext reading line.now more)) }
 {
-    let Some(item) = item_of_line(alloc, line)? else {
-        return Ok(None);
-    };
-    if !may_follow(&reading.place, &item) {
-        return Ok(None);
+    match item_of_line(alloc, line)? {
+        Some(item) => with_item(alloc, reading, item),
+        None => Ok(None),
     }
-    Ok(Some(after(alloc, reading, item)?))
+}
+
+fn with_item(alloc: Global, reading: Reading, item: Item) -> Result<Option<Reading>, Memory>
+    requires { IsItem item }
+    ensures { IfOk result (λ found. MatchOption found (MayFollow reading.place item → ⊥) (λ more. MayFollow reading.place item × (more ≡ specified_after reading item))) }
+{
+    if may_follow(&reading.place, &item) {
+        Ok(Some(after(alloc, reading, item)?))
+    } else {
+        Ok(None)
+    }
+}
+
+/// The report, where its last behaviour has ended.
+fn ended(reading: Reading) -> Option<Report>
+    ensures { MatchOption result (reading.place ≢ at.Between) (λ report. (reading.place ≡ at.Between) × (report ≡ report_of reading)) }
+{
+    let Reading { period, blocks, place } = reading;
+    match place {
+        Place::Between => Some(Report { period, blocks }),
+        _ => None,
+    }
 }
 
 fn without_last_empty<'a, 'b>(lines: &'a [&'b [u8]]) -> &'a [&'b [u8]]
@@ -101,12 +122,9 @@ fn read_lines(alloc: Global, lines: &[&[u8]], first: u32) -> Result<Report, Cert
             Err(_) => return Err(CertErr::Memory),
         }
     }
-    match reading.place {
-        Place::Between => Ok(Report {
-            period: reading.period,
-            blocks: reading.blocks,
-        }),
-        _ => Err(CertErr::Line { line: first + lines.len() as u32 }),
+    match ended(reading) {
+        Some(report) => Ok(report),
+        None => Err(CertErr::Line { line: first + lines.len() as u32 }),
     }
 }
 

@@ -1,6 +1,6 @@
-use Rattle.std.proofs.Common.{◌≡◌, ◌++◌, [], ◌∷◌, take}
+use Rattle.std.proofs.Common.{◌≡◌, ◌++◌, take}
 use Rattle.std.specs.List.{flat_map}
-use Rattle.ix_cert.specs.Layout.{field, edge_line, flow_line, cycle_line, block_lines}
+use Rattle.ix_cert.specs.Layout.{block_lines}
 use Rattle.ix_cert.specs.Printing.{text_of, ArePrintable}
 use Rattle.ix_cert.proofs.print.put_blocks.Given as goal
 
