@@ -1,27 +1,25 @@
 -- What was read is the items that were read, in the range of their form, and can be gone on with to a report.
-use Rattle.std.proofs.Common.{◌≡◌, ◌≢◌, ℕ, zero, suc, ◌+◌, ◌-◌, ◌<◌, ◌≤◌, ◌^◌, List, [], ◌∷◌, ◌++◌, length, get_or, refl, sym, ap, ◌∙◌, subst, arith, lit<, append_assoc, length-append, ◌⊎◌, inl, inr, Option, Some, None, Bool, true, false}
-use Rattle.std.specs.Prelude.{map, All, AllPairs, slice_get, codes}
+use Rattle.std.proofs.Common.{◌≡◌, ◌≢◌, ℕ, ◌+◌, ◌-◌, ◌<◌, ◌≤◌, ◌^◌, List, [], ◌∷◌, ◌++◌, length, get_or, refl, sym, ap, ◌∙◌, subst, arith, lit<, append_assoc, length-append, ◌⊎◌, inl, inr, Option, Some, None, Bool, true, false}
+use Rattle.std.specs.Prelude.{map, All, AllPairs}
 use Rattle.std.specs.List.{flat_map}
 use Rattle.std.proofs.lemmas.List.{append-nil}
 use Rattle.std.proofs.lemmas.Grind.{flat_map-append}
-use Rattle.std.proofs.lemmas.List.Elements.{All-head, All-tail, All-nil, All-push}
+use Rattle.std.proofs.lemmas.List.Elements.{All-nil, All-push}
 use Rattle.std.proofs.lemmas.List.Quantifiers.{all_pairs_push}
 use Rattle.std.proofs.lemmas.Option.{slice_get-get_or}
 use Rattle.ix_graph.specs.declared.graph.Mode.{Mode}
 use Rattle.ix_sheet.specs.declared.problem.Node.{Node}
 use Rattle.ix_sheet.specs.declared.problem.Bound.{Bound}
-use Rattle.ix_sheet.specs.declared.problem.Bound.TheVariants.{Early, Late, Dep, Chain}
 use Rattle.ix_cert.specs.declared.item.Item.{Item}
 use Rattle.ix_cert.specs.declared.item.Item.TheVariants.{Title, Period, Behaviour, Op, Edge, Cost, Flow, Cycle, End}
 use Rattle.ix_cert.specs.declared.item.Operation.{Operation}
-use Rattle.ix_cert.specs.declared.report.Report.{Report}
 use Rattle.ix_cert.specs.declared.report.ReportBlock.{ReportBlock}
 use Rattle.ix_cert.specs.declared.state.Place.{Place}
 use Rattle.ix_cert.specs.declared.state.Place.TheVariants as place
 use Rattle.ix_cert.specs.declared.state.Reading.{Reading}
-use Rattle.ix_cert.specs.Layout.{Line, IsName, IsKindName, IsNodeInForm, IsInForm, IsBlockInForm, IsBoundInForm, IsPartInForm, IsEdgeInForm, IsBefore, HasCertificate}
-use Rattle.ix_cert.specs.Items.{IsItem, IsTime, IsOperation, operation, timed_items, untimed_items, op_items, edge_item, flow_item, certificate_items, block_items, report_items}
-use Rattle.ix_cert.specs.Steps.{MayFollow, MayStand, MayBeOp, MayBeEdge, IsTimed, HasMode, IsBehind, last_edge, as_list, block_of, begun, with_op, with_edge, with_cost, with_flow, with_cycle, reading, after, run, start, AllFollow}
+use Rattle.ix_cert.specs.Layout.{Line, IsName, IsKindName, IsNodeInForm, IsBlockInForm, IsBoundInForm, IsPartInForm, IsEdgeInForm, IsBefore, HasCertificate}
+use Rattle.ix_cert.specs.Items.{IsItem, IsTime, IsOperation, operation, timed_items, untimed_items, op_items, edge_item, flow_item, certificate_items, block_items}
+use Rattle.ix_cert.specs.Steps.{MayFollow, MayStand, MayBeOp, MayBeEdge, IsTimed, HasMode, IsBehind, last_edge, as_list, begun, with_op, with_edge, with_cost, with_flow, with_cycle, reading, after, run, start, AllFollow}
 use Rattle.ix_cert.proofs.Lined.{EachItem}
 
 -- ---- the items that were read

@@ -5,6 +5,7 @@ pub mod Lined
 pub mod Numerals
 pub mod Outcomes
 pub mod Printed
+pub mod Problems
 pub mod Shown
 pub mod Viable
 pub mod Walked

@@ -1,19 +1,19 @@
 -- The lines of a report are those of its items.
-use Rattle.std.proofs.Common.{◌≡◌, ◌≢◌, ℕ, zero, suc, ◌+◌, ◌<◌, ◌≤◌, ◌^◌, List, [], ◌∷◌, ◌++◌, length, refl, sym, ap, ◌∙◌, arith, lit<, append_assoc, Option, Some, None}
+use Rattle.std.proofs.Common.{◌≡◌, ℕ, ◌+◌, ◌<◌, ◌≤◌, List, [], ◌∷◌, ◌++◌, length, refl, sym, ap, ◌∙◌, arith, append_assoc, Option, Some, None}
 use Rattle.std.specs.Prelude.{map, All, codes, decimal}
 use Rattle.std.specs.List.{flat_map, join_with_byte}
 use Rattle.std.proofs.lemmas.List.{append-nil}
-use Rattle.std.proofs.lemmas.List.Elements.{All-head, All-tail, All-cons}
+use Rattle.std.proofs.lemmas.List.Elements.{All-head, All-tail}
 use Rattle.ix_graph.specs.declared.graph.Mode.{Mode}
 use Rattle.ix_sheet.specs.declared.problem.Node.{Node}
 use Rattle.ix_sheet.specs.declared.problem.Bound.{Bound}
 use Rattle.ix_sheet.specs.declared.problem.Bound.TheVariants.{Early, Late, Dep, Chain}
 use Rattle.ix_cert.specs.declared.item.Item.{Item}
-use Rattle.ix_cert.specs.declared.item.Item.TheVariants.{Title, Period, Behaviour, Op, Edge, Cost, Flow, Cycle, End}
+use Rattle.ix_cert.specs.declared.item.Item.TheVariants.{Behaviour, Op, Cycle, End}
 use Rattle.ix_cert.specs.declared.report.Report.{Report}
 use Rattle.ix_cert.specs.declared.report.ReportBlock.{ReportBlock}
-use Rattle.ix_cert.specs.Layout.{Line, mode_text, field, bound_text, op_line, time_text, timed_lines, untimed_lines, edge_line, flow_line, cycle_line, op_lines, certificate_lines, block_lines, report_lines, IsInForm, IsBlockInForm, IsNodeInForm, IsBoundInForm, IsPartInForm, IsEdgeInForm, IsKindName, AreBelow, HasCertificate}
-use Rattle.ix_cert.specs.Items.{IsItem, IsOperation, IsBound, IsWide, item_words, item_line, bound_words, operation, timed_items, untimed_items, op_items, edge_item, flow_item, certificate_items, block_items, report_items}
+use Rattle.ix_cert.specs.Layout.{Line, mode_text, field, bound_text, op_line, time_text, timed_lines, untimed_lines, edge_line, flow_line, cycle_line, op_lines, certificate_lines, block_lines, report_lines, IsInForm, IsBlockInForm, IsNodeInForm, IsBoundInForm, IsPartInForm, IsEdgeInForm, IsKindName, HasCertificate}
+use Rattle.ix_cert.specs.Items.{IsItem, IsBound, IsWide, item_line, bound_words, operation, timed_items, untimed_items, op_items, edge_item, flow_item, certificate_items, block_items, report_items}
 
 abbrev run_on : Line → List Line → Line
 run_on o [] = o

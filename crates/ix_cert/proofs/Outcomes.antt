@@ -1,9 +1,8 @@
 -- From what the lines of a text are to what is said of the text.
-use Rattle.std.proofs.Common.{◌≡◌, ◌≢◌, ℕ, zero, suc, ◌+◌, ◌-◌, ◌<◌, ◌≤◌, ◌^◌, ◌==◌, ◌⊎◌, inl, inr, List, [], ◌∷◌, ◌++◌, length, take, drop, get_or, refl, sym, ap, ◌∙◌, subst, arith, lit<, append_assoc, length-append, Bor, Option, Some, None, Bool, true, false}
+use Rattle.std.proofs.Common.{◌≡◌, ◌≢◌, ℕ, zero, suc, ◌+◌, ◌<◌, ◌≤◌, ◌^◌, ◌==◌, ◌⊎◌, inl, inr, List, [], ◌∷◌, ◌++◌, length, take, drop, get_or, refl, sym, ap, ◌∙◌, subst, arith, lit<, append_assoc, length-append, Bor, Option, Some, None, Bool, true, false}
 use Rattle.std.specs.Prelude.{map, MatchOption, if◌then◌else◌, Result, Ok, Err, IfOk}
-use Rattle.std.specs.List.{slice_split, join_with_byte, flat_map}
+use Rattle.std.specs.List.{slice_split, join_with_byte}
 use Rattle.std.proofs.lemmas.Bool.{eqb-true, eqb-false}
-use Rattle.std.proofs.lemmas.List.{append-nil}
 use Rattle.std.proofs.lemmas.List.Splits.{join_with_byte-slice_split, slice_split_at}
 use Rattle.ix_cert.specs.declared.item.Item.{Item}
 use Rattle.ix_cert.specs.declared.item.Item.TheVariants.{Title, Period, Behaviour, Op, Edge, Cost, Flow, Cycle, End}
@@ -16,9 +15,9 @@ use Rattle.ix_cert.specs.Layout.{Line, IsInForm, BeginReport, IsReportText, IsBa
 use Rattle.ix_cert.specs.Items.{IsItem, item_line, report_items, texts}
 use Rattle.ix_cert.specs.Printing.{text_of}
 use Rattle.ix_cert.specs.Steps.{MayFollow, after, reading, run, start, AllFollow}
-use Rattle.ix_cert.specs.Refusals.{IsNext, NoNext, IsBadPlace, IsBadAt, TellsLine, bytes_in, report_of}
+use Rattle.ix_cert.specs.Refusals.{IsNext, NoNext, IsBadAt, TellsLine, bytes_in, report_of}
 use Rattle.ix_cert.proofs.Lined.{EachItem, report_are, report_each}
-use Rattle.ix_cert.proofs.Shown.{Plain, plain_item, no_feed}
+use Rattle.ix_cert.proofs.Shown.{plain_item, no_feed}
 use Rattle.ix_cert.proofs.Walked.{report_leads}
 use Rattle.ix_cert.proofs.Viable.{Reached, reached_more, refuted, reached_begins, whole_between, IsReport, reached_whole, lines_one}
 
@@ -291,6 +290,12 @@ err_refuses bytes (err.Value m) t n b = absurd t
 err_refuses bytes (err.NotPositive m) t n b = absurd t
 err_refuses bytes (err.NotClosed m) t n b = absurd t
 err_refuses bytes err.Memory t n b = inr refl
+
+err_same : {A E : Type 0} (e f : E) (r : Result A E) → r ≡ Err e → r ≡ Err f → e ≡ f
+err_same e f r a b = cc
+
+pub err_moved : (A B : Type 0) {E : Type 0} (e f g : E) → ((r : Result A E) × (r ≡ Err e) × ((r ≡ Err f) ⊎ (r ≡ Err g))) → (s : Result B E) → s ≡ Err e → (s ≡ Err f) ⊎ (s ≡ Err g)
+err_moved A B e f g h s is = elim h.2 [ | inl x ↦ inl (is ∙ ap (λ k. Err k) (err_same e f h.0 h.1 x)) | inr x ↦ inr (is ∙ ap (λ k. Err k) (err_same e g h.0 h.1 x)) ]
 
 -- ---- the text that is printed
 split_text : (xs : List Item) → EachItem xs → slice_split (λ b. b == 10) (text_of (map item_line xs)) ≡ map item_line xs ++ [] ∷ []

@@ -1,6 +1,6 @@
 -- Words without spaces, and lines of them.
-use Rattle.std.proofs.Common.{◌≡◌, ◌≢◌, ℕ, zero, suc, ◌+◌, ◌/◌, ◌%◌, ◌<◌, ◌≤◌, ◌^◌, ◌==◌, ◌⊎◌, inl, inr, List, [], ◌∷◌, ◌++◌, length, get_or, refl, sym, ap, ◌∙◌, subst, arith, lit<, Option, Some, None, Bool, true, false}
-use Rattle.std.specs.Prelude.{map, All, codes, decimal, nat_lt, ◌&&◌, Result, Ok, Err, IfOk}
+use Rattle.std.proofs.Common.{◌≡◌, ◌≢◌, ℕ, ◌+◌, ◌%◌, ◌<◌, ◌≤◌, ◌^◌, ◌==◌, inl, inr, List, [], ◌∷◌, ◌++◌, get_or, refl, sym, ap, ◌∙◌, subst, arith, lit<, Option, Some, None, true, false}
+use Rattle.std.specs.Prelude.{map, All, codes, decimal, nat_lt, Result, Ok, Err, IfOk}
 use Rattle.std.specs.List.{list_all, slice_split, join_with_byte}
 use Rattle.std.proofs.lemmas.Bool.{and_parts, agree_below, agree_below_at}
 use Rattle.std.proofs.lemmas.Bool.Decides.{nat_tests}
@@ -16,8 +16,8 @@ use Rattle.ix_cert.specs.declared.item.Item.{Item}
 use Rattle.ix_cert.specs.declared.item.Item.TheVariants.{Title, Period, Behaviour, Op, Edge, Cost, Flow, Cycle, End}
 use Rattle.ix_cert.specs.declared.item.Operation.{Operation}
 use Rattle.ix_cert.specs.Layout.{Line, mode_text, IsName, IsKindName, is_letter, is_name_byte}
-use Rattle.ix_cert.specs.Items.{IsReading, IsItem, IsOperation, IsBound, IsWide, IsTime, item_words, item_line, bound_words, time_words, op_words, IsPlainKind}
-use Rattle.ix_cert.proofs.KindNames.{kind_form, KindForm, reads, writes}
+use Rattle.ix_cert.specs.Items.{IsReading, IsItem, IsOperation, IsBound, IsWide, IsTime, item_words, item_line, bound_words, time_words, op_words}
+use Rattle.ix_cert.proofs.KindNames.{kind_form, reads, writes}
 
 -- each byte is one that is shown, none a space
 abbrev pub Shown : Line → Type 0

@@ -1,16 +1,14 @@
 -- What was read can be gone on with, and what may not follow follows in no report.
-use Rattle.std.proofs.Common.{◌≡◌, ◌≢◌, ℕ, zero, suc, ◌+◌, ◌-◌, ◌<◌, ◌≤◌, ◌^◌, List, [], ◌∷◌, ◌++◌, length, take, refl, sym, ap, ◌∙◌, subst, arith, lit<, append_assoc, length-append, Option, Some, None, Bool, true, false}
-use Rattle.std.specs.Prelude.{map, All, codes, decimal}
-use Rattle.std.specs.List.{flat_map}
-use Rattle.std.proofs.lemmas.List.{append-nil}
+use Rattle.std.proofs.Common.{◌≡◌, ◌≢◌, ℕ, ◌<◌, List, [], ◌∷◌, ◌++◌, length, refl, sym, ap, ◌∙◌, subst, arith, append_assoc, length-append, Option, Some, None, Bool, true, false}
+use Rattle.std.specs.Prelude.{map, All, codes}
 use Rattle.ix_graph.specs.declared.graph.Mode.{Mode}
 use Rattle.ix_graph.specs.declared.kind.Kind.TheVariants.{Add}
 use Rattle.ix_graph.specs.Kinds.{kind_words}
 use Rattle.ix_sheet.specs.declared.problem.Node.{Node}
 use Rattle.ix_sheet.specs.declared.problem.Bound.{Bound}
-use Rattle.ix_sheet.specs.declared.problem.Bound.TheVariants.{Early, Late, Dep, Chain}
+use Rattle.ix_sheet.specs.declared.problem.Bound.TheVariants.{Early}
 use Rattle.ix_cert.specs.declared.item.Item.{Item}
-use Rattle.ix_cert.specs.declared.item.Item.TheVariants.{Title, Period, Behaviour, Op, Edge, Cost, Flow, Cycle, End}
+use Rattle.ix_cert.specs.declared.item.Item.TheVariants.{Title, Period, Op, Cost, Cycle, End}
 use Rattle.ix_cert.specs.declared.report.Report.{Report}
 use Rattle.ix_cert.specs.declared.report.ReportBlock.{ReportBlock}
 use Rattle.ix_cert.specs.declared.state.Place.{Place}
@@ -19,11 +17,11 @@ use Rattle.ix_cert.specs.declared.state.Reading.{Reading}
 use Rattle.ix_cert.specs.Layout.{Line, IsInForm, IsKindName, IsEdgeInForm, BeginReport, report_lines}
 use Rattle.ix_cert.specs.Items.{IsItem, item_line, operation, report_items}
 use Rattle.ix_cert.specs.Steps.{MayFollow, HasMode, IsTimed, reading, after, run, start, AllFollow}
-use Rattle.ix_cert.specs.Refusals.{IsNext, NoNext, IsBadPlace}
+use Rattle.ix_cert.specs.Refusals.{IsNext, NoNext}
 use Rattle.ix_cert.proofs.Lined.{EachItem, each_join, report_are, report_each}
 use Rattle.ix_cert.proofs.Decoded.{one_item}
-use Rattle.ix_cert.proofs.Walked.{Leads, run_join, report_leads}
-use Rattle.ix_cert.proofs.Kept.{IsSound, IsSoundAt, IsOpen, HasGiven, AreDone, so_far, KeepsAll, keep_all, start_sound}
+use Rattle.ix_cert.proofs.Walked.{run_join, report_leads}
+use Rattle.ix_cert.proofs.Kept.{IsSound, IsSoundAt, IsOpen, HasGiven, AreDone, so_far, keep_all, start_sound}
 
 -- items with which a report is whole
 pub record Completion (r : Reading) : Type 0 where

@@ -1,5 +1,5 @@
 -- A report's items may stand one after the other, and what was read of them is the report.
-use Rattle.std.proofs.Common.{◌≡◌, ◌≢◌, ℕ, zero, suc, ◌+◌, ◌-◌, ◌<◌, ◌≤◌, List, [], ◌∷◌, ◌++◌, length, get_or, refl, sym, ap, ◌∙◌, subst, arith, lit<, append_assoc, length-append, ◌⊎◌, inl, inr, Option, Some, None, Bool, true, false}
+use Rattle.std.proofs.Common.{◌≡◌, ◌≢◌, ℕ, suc, ◌+◌, ◌-◌, List, [], ◌∷◌, ◌++◌, length, refl, sym, ap, ◌∙◌, subst, arith, lit<, append_assoc, length-append, Option, Some, None, Bool, true, false}
 use Rattle.std.specs.Prelude.{map, All, AllPairs, slice_get}
 use Rattle.std.specs.List.{flat_map}
 use Rattle.std.proofs.lemmas.List.{append-nil}
@@ -8,15 +8,14 @@ use Rattle.ix_graph.specs.declared.graph.Mode.{Mode}
 use Rattle.ix_sheet.specs.declared.problem.Node.{Node}
 use Rattle.ix_sheet.specs.declared.problem.Bound.{Bound}
 use Rattle.ix_cert.specs.declared.item.Item.{Item}
-use Rattle.ix_cert.specs.declared.item.Item.TheVariants.{Title, Period, Behaviour, Op, Edge, Cost, Flow, Cycle, End}
+use Rattle.ix_cert.specs.declared.item.Item.TheVariants.{Cycle, End}
 use Rattle.ix_cert.specs.declared.report.Report.{Report}
 use Rattle.ix_cert.specs.declared.report.ReportBlock.{ReportBlock}
-use Rattle.ix_cert.specs.declared.state.Place.{Place}
 use Rattle.ix_cert.specs.declared.state.Place.TheVariants as place
 use Rattle.ix_cert.specs.declared.state.Reading.{Reading}
 use Rattle.ix_cert.specs.Layout.{Line, IsInForm, IsBlockInForm, IsBoundInForm, IsPartInForm, IsEdgeInForm, IsBefore, HasCertificate}
-use Rattle.ix_cert.specs.Items.{operation, timed_items, untimed_items, op_items, edge_item, flow_item, certificate_items, block_items, report_items}
-use Rattle.ix_cert.specs.Steps.{MayFollow, IsBehind, last_edge, HasMode, block_of, begun, reading, after, run, start, AllFollow}
+use Rattle.ix_cert.specs.Items.{timed_items, untimed_items, edge_item, flow_item, block_items, report_items}
+use Rattle.ix_cert.specs.Steps.{MayFollow, IsBehind, last_edge, block_of, reading, after, run, start, AllFollow}
 
 -- the items may follow from here, and lead there
 pub record Leads (from : Reading) (items : List Item) (to : Reading) : Type 0 where
