@@ -1,5 +1,5 @@
 -- The lines of a report, and which text is one (this project's choice).
-use Rattle.std.specs.Prelude.{◌≡◌, ◌≢◌, ℕ, zero, suc, ◌+◌, ◌-◌, ◌<◌, ◌≤◌, ◌^◌, ◌⊎◌, ◌==◌, List, [], ◌∷◌, ◌++◌, length, map, take, All, AllPairs, Option, Some, None, Bool, true, false, if◌then◌else◌, nat_le, codes, decimal}
+use Rattle.std.specs.Prelude.{◌≡◌, ◌≢◌, ℕ, suc, ◌+◌, ◌<◌, ◌≤◌, ◌^◌, ◌⊎◌, ◌==◌, List, [], ◌∷◌, ◌++◌, length, map, take, All, AllPairs, Option, Some, None, Bool, true, false, if◌then◌else◌, nat_le, codes, decimal}
 use Rattle.std.specs.List.{flat_map, list_all, slice_split}
 use Rattle.std.specs.Str.{bytes_eq}
 use Rattle.ix_graph.specs.declared.graph.Mode.{Mode}
@@ -9,7 +9,6 @@ use Rattle.ix_graph.specs.Kinds.{printed_name, register_of}
 use Rattle.ix_sheet.specs.declared.problem.Bound.{Bound}
 use Rattle.ix_sheet.specs.declared.problem.Bound.TheVariants.{Early, Late, Dep, Chain}
 use Rattle.ix_sheet.specs.declared.problem.Node.{Node}
-use Rattle.ix_sheet.specs.declared.problem.Problem.{Problem}
 use Rattle.ix_cert.specs.declared.report.Report.{Report}
 use Rattle.ix_cert.specs.declared.report.ReportBlock.{ReportBlock}
 

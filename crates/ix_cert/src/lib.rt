@@ -11,6 +11,14 @@ mod sum;
 mod verdict;
 #[cfg(test)]
 mod verdict_tests;
+mod fields;
+mod item;
+mod lines;
+mod print;
+mod state;
+mod word;
 
+pub use print::print_report;
+pub use read::read_report;
 pub use report::{CertErr, Report, ReportBlock};
 pub use verdict::certify;
