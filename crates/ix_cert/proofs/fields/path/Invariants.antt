@@ -1,0 +1,9 @@
+use Rattle.std.proofs.Common.{◌≡◌, take, map, decimal, All}
+use Rattle.ix_cert.specs.Items.{IsWide, texts}
+use Rattle.ix_cert.proofs.fields.path.Given as goal
+
+abbrev pub invariant-loop-word : goal.invariant-loop-word
+invariant-loop-word l = record {
+  so_far : map decimal l.path ≡ take l.word-index (texts l.words);
+  wide : All IsWide l.path;
+}

@@ -1,0 +1,12 @@
+use Rattle.std.proofs.Common.{◌≡◌, ◌≢◌, ℕ, zero, suc, ◌+◌, ◌-◌, ◌*◌, ◌<◌, ◌≤◌, ◌++◌, [], ◌∷◌, List, length, map, take, drop, get_or, Some, None, sum_by}
+use Rattle.ix_sheet.specs.Schedules.{node_at, weight_of, sum_below, kept_along}
+use Rattle.ix_sheet.specs.Bounds.{arc_of}
+use Rattle.ix_cert.specs.Faults.{IsOpen, end_before, times_of}
+use Rattle.ix_cert.specs.Checks.{AreAmounts, parts_in, parts_out, up_of, down_of, ups_of, downs_of}
+use Rattle.ix_cert.proofs.sum.parts_out.Given as goal
+
+abbrev pub invariant-flow : goal.invariant-flow
+invariant-flow l = l.parts.items ++ map (λ c. ((arc_of l.b.problem c.0).from, c.1)) (drop l.part-index l.b.flow) ≡ map (λ c. ((arc_of l.b.problem c.0).from, c.1)) l.b.flow
+
+abbrev pub invariant-edges : goal.invariant-edges
+invariant-edges l = l.parts.items ++ map (λ e. (e.1, 1)) (drop l.edge-index l.b.problem.edges) ≡ parts_out l.b.problem l.b.flow

@@ -1,0 +1,9 @@
+use Rattle.std.proofs.Common.{◌≡◌, ◌≢◌, ℕ, zero, suc, ◌+◌, ◌-◌, ◌*◌, ◌<◌, ◌≤◌, ◌++◌, [], ◌∷◌, List, length, map, take, drop, get_or, Some, None, sum_by}
+use Rattle.ix_sheet.specs.Schedules.{node_at, weight_of, sum_below, kept_along}
+use Rattle.ix_sheet.specs.Bounds.{arc_of}
+use Rattle.ix_cert.specs.Faults.{IsOpen, end_before, times_of}
+use Rattle.ix_cert.specs.Checks.{AreAmounts, parts_in, parts_out, up_of, down_of, ups_of, downs_of}
+use Rattle.ix_cert.proofs.sum.sum_of_times.Given as goal
+
+abbrev pub invariant-times : goal.invariant-times
+invariant-times l = (l.sum ≡ sum_below (λ k. get_or l.times k 0) l.at) × (l.sum ≤ l.at * 255)

@@ -1,0 +1,172 @@
+-- What each line of a report says, word for word (this project's choice).
+use Rattle.std.specs.Prelude.{◌<◌, ◌≡◌, ◌≢◌, ℕ, ◌+◌, ◌≤◌, List, [], ◌∷◌, ◌++◌, map, All, MatchOption, Bool, true, false, Option, Some, None, slice_index_or, codes, decimal}
+use Rattle.std.specs.List.{flat_map, join_with_byte}
+use denote.Ref.{Bor}
+use Rattle.ix_graph.specs.declared.graph.Mode.{Mode}
+use Rattle.ix_graph.specs.Kinds.{kind_words}
+use Rattle.ix_sheet.specs.declared.problem.Bound.{Bound}
+use Rattle.ix_sheet.specs.declared.problem.Bound.TheVariants.{Early, Late, Dep, Chain}
+use Rattle.ix_sheet.specs.declared.problem.Node.{Node}
+use Rattle.ix_cert.specs.declared.item.Item.{Item}
+use Rattle.ix_cert.specs.declared.item.Item.TheVariants.{Title, Period, Behaviour, Op, Edge, Cost, Flow, Cycle, End}
+use Rattle.ix_cert.specs.declared.item.Operation.{Operation}
+use Rattle.ix_cert.specs.declared.report.Report.{Report}
+use Rattle.ix_cert.specs.declared.report.ReportBlock.{ReportBlock}
+use Rattle.ix_cert.specs.Layout.{Line, mode_text, IsName, IsKindName, IsNodeInForm}
+
+-- What was found has this form and these words; or nothing that has this form has these words.
+abbrev pub IsReading : {X Y : Type 0} → (X → Type 0) → (X → Y) → Y → Option X → Type 0
+IsReading {X} good shown all found = MatchOption found ((x : X) → good x → shown x ≡ all → ⊥) (λ x. good x × (shown x ≡ all))
+
+-- each value has this form
+abbrev pub IsAny : {X : Type 0} → X → Type 0
+IsAny x = Unit {0}
+
+-- an answer tells whether something holds
+abbrev pub Tells : Bool → Type 0 → Type 0
+Tells true P = P
+Tells false P = P → ⊥
+
+-- the words, as texts
+abbrev pub texts : List (Bor Line) → List Line
+texts words = map (λ (word : Bor Line). word.now) words
+
+abbrev pub node_words : Node → List Line
+node_words node =
+    codes "delay" ∷ decimal node.delay ∷ codes "latency" ∷ decimal node.latency
+    ∷ codes "early" ∷ decimal node.early ∷ codes "late" ∷ decimal node.late ∷ []
+
+abbrev pub time_words : Option ℕ → List Line
+time_words None = []
+time_words (Some time) = codes "time" ∷ decimal time ∷ []
+
+-- the words behind `op`
+abbrev pub op_words : Operation → List Line
+op_words op = decimal op.place ∷ op.kind ∷ (node_words op.node ++ time_words op.time)
+
+abbrev pub bound_words : Bound → List Line
+bound_words (Early k) = codes "early" ∷ decimal k ∷ []
+bound_words (Late k) = codes "late" ∷ decimal k ∷ []
+bound_words (Dep i j) = codes "dep" ∷ decimal i ∷ decimal j ∷ []
+bound_words (Chain path) = codes "chain" ∷ map decimal path
+
+abbrev pub item_words : Item → List Line
+item_words Title = codes "longnail" ∷ codes "report" ∷ codes "1" ∷ []
+item_words (Period period) = codes "period" ∷ decimal period ∷ []
+item_words (Behaviour name mode) = codes "behaviour" ∷ name ∷ mode_text mode ∷ []
+item_words (Op op) = codes "op" ∷ op_words op
+item_words (Edge i j) = codes "edge" ∷ decimal i ∷ decimal j ∷ []
+item_words (Cost cost) = codes "cost" ∷ decimal cost ∷ []
+item_words (Flow amount bound) = codes "flow" ∷ decimal amount ∷ bound_words bound
+item_words (Cycle bound) = codes "cycle" ∷ bound_words bound
+item_words End = codes "end" ∷ []
+
+-- words between which single spaces stand
+abbrev pub item_line : Item → Line
+item_line item = join_with_byte 32 (item_words item)
+
+-- ---- numbers in range
+abbrev pub IsTime : Option ℕ → Type 0
+IsTime None = Unit {0}
+IsTime (Some time) = time ≤ 255
+
+pub record IsOperation (op : Operation) : Type 0 where
+  pub place : op.place ≤ 65535
+  pub kind : IsKindName op.kind
+  pub node : IsNodeInForm op.node
+  pub time : IsTime op.time
+
+abbrev pub IsWide : ℕ → Type 0
+IsWide n = n ≤ 4294967295
+
+abbrev pub IsBound : Bound → Type 0
+IsBound (Early k) = IsWide k
+IsBound (Late k) = IsWide k
+IsBound (Dep i j) = IsWide i × IsWide j
+IsBound (Chain path) = (path ≢ []) × All IsWide path
+
+abbrev pub IsItem : Item → Type 0
+IsItem Title = Unit {0}
+IsItem (Period period) = (1 ≤ period) × (period ≤ 1000000)
+IsItem (Behaviour name mode) = IsName name
+IsItem (Op op) = IsOperation op
+IsItem (Edge i j) = IsWide i × IsWide j
+IsItem (Cost cost) = cost ≤ 18446744073709551615
+IsItem (Flow amount bound) = (1 ≤ amount) × (amount ≤ 18446744073709551615) × IsBound bound
+IsItem (Cycle bound) = IsBound bound
+IsItem End = Unit {0}
+
+-- ---- the items of a report
+abbrev pub operation : ℕ → Line → Node → Option ℕ → Operation
+operation place kind node time = record { place = place; kind = kind; node = node; time = time }
+
+abbrev pub timed_items : ℕ → List Line → List Node → List ℕ → List Item
+timed_items k (kind ∷ kinds) (node ∷ nodes) (time ∷ times) = Op (operation k kind node (Some time)) ∷ timed_items (k + 1) kinds nodes times
+timed_items k _ _ _ = []
+
+abbrev pub untimed_items : ℕ → List Line → List Node → List Item
+untimed_items k (kind ∷ kinds) (node ∷ nodes) = Op (operation k kind node None) ∷ untimed_items (k + 1) kinds nodes
+untimed_items k _ _ = []
+
+abbrev pub op_items : ReportBlock → Option Mode → List Item
+op_items b None = untimed_items 0 b.kinds b.problem.ops
+op_items b (Some mode) = timed_items 0 b.kinds b.problem.ops b.times
+
+abbrev pub edge_item : ℕ × ℕ → Item
+edge_item e = Edge e.0 e.1
+
+abbrev pub flow_item : Bound × ℕ → Item
+flow_item c = Flow c.1 c.0
+
+abbrev pub certificate_items : ReportBlock → Option Mode → List Item
+certificate_items b None = map Cycle b.cycle
+certificate_items b (Some mode) = Cost b.cost ∷ map flow_item b.flow
+
+abbrev pub block_items : ReportBlock → List Item
+block_items b = Behaviour b.name b.mode ∷ (op_items b b.mode ++ (map edge_item b.problem.edges ++ (certificate_items b b.mode ++ End ∷ [])))
+
+abbrev pub report_items : Report → List Item
+report_items r = Title ∷ Period r.period ∷ flat_map block_items r.blocks
+
+-- ---- words
+pub record IsRegister (word : Line) : Type 0 where
+  pub register : ℕ
+  pub small : register ≤ 15
+  pub is : word ≡ decimal register
+
+-- the name of a kind without a register
+pub record IsPlainKind (word : Line) : Type 0 where
+  pub place : ℕ
+  pub below : place < 34
+  pub no_read : place ≢ 4
+  pub no_write : place ≢ 8
+  pub is : word ≡ slice_index_or kind_words place []
+
+-- ---- words behind the first of a line
+-- the first word, and those behind it
+abbrev pub IsParted : List Line → Option (Bor Line × Bor (List (Bor Line))) → Type 0
+IsParted words found = MatchOption found (words ≡ []) (λ x. words ≡ x.0.now ∷ texts x.1.now)
+
+-- a number of at most `most`, and the words behind it
+abbrev pub IsCounted : ℕ → List Line → Option (ℕ × Bor (List (Bor Line))) → Type 0
+IsCounted most words found =
+    MatchOption found ((n : ℕ) (rest : List Line) → n ≤ most → decimal n ∷ rest ≡ words → ⊥)
+    (λ x. (x.0 ≤ most) × (decimal x.0 ∷ texts x.1.now ≡ words))
+
+-- a label, a number of at most `most`, and the words behind it
+abbrev pub IsLabelled : Line → ℕ → List Line → Option (ℕ × Bor (List (Bor Line))) → Type 0
+IsLabelled label most words found =
+    MatchOption found ((n : ℕ) (rest : List Line) → n ≤ most → label ∷ decimal n ∷ rest ≡ words → ⊥)
+    (λ x. (x.0 ≤ most) × (label ∷ decimal x.0 ∷ texts x.1.now ≡ words))
+
+-- the numbers of an operation, and the words behind them
+abbrev pub IsNodeRead : List Line → Option (Node × Bor (List (Bor Line))) → Type 0
+IsNodeRead words found =
+    MatchOption found ((node : Node) (rest : List Line) → IsNodeInForm node → node_words node ++ rest ≡ words → ⊥)
+    (λ x. IsNodeInForm x.0 × (node_words x.0 ++ texts x.1.now ≡ words))
+
+abbrev pub pair_words : ℕ × ℕ → List Line
+pair_words p = decimal p.0 ∷ decimal p.1 ∷ []
+
+abbrev pub AreWide : ℕ × ℕ → Type 0
+AreWide p = IsWide p.0 × IsWide p.1

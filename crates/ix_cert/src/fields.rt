@@ -1,0 +1,234 @@
+ghost use Rattle.std.specs.Prelude.{◌≡◌, ℕ, ◌≤◌, [], ◌∷◌, map, decimal, codes, All, IfOk};
+ghost use Rattle.ix_cert.specs.Items.{IsReading, IsParted, IsCounted, IsLabelled, IsNodeRead, IsTime, IsWide, AreWide, IsBound, IsItem, IsOperation, Tells, texts, time_words, op_words, bound_words, item_words, pair_words};
+
+use crate::item::{Item, Operation};
+use crate::word::{is_kind, is_name, mode, name, number};
+use ix_bits::{List, Memory};
+use ix_sheet::{Bound, Node};
+use std::alloc::Global;
+
+/// The greatest number of an operation that a bound or an edge can tell.
+const MOST: u64 = 0xffff_ffff;
+
+/// The first word, and those behind it.
+pub fn parted<'a, 'b>(words: &'a [&'b [u8]]) -> Option<(&'b [u8], &'a [&'b [u8]])>
+    ensures { IsParted (texts words.now) result }
+{
+    match words {
+        [first, rest @ ..] => Some((*first, rest)),
+        [] => None,
+    }
+}
+
+pub fn is_end(words: &[&[u8]]) -> bool
+    ensures { Tells result (texts words.now ≡ []) }
+{
+    words.is_empty()
+}
+
+pub fn is_label(word: &[u8], label: &[u8]) -> bool
+    ensures { Tells result (word.now ≡ label.now) }
+{
+    word == label
+}
+
+/// The first word as a number of at most `most`, and the words behind it.
+pub fn counted<'a, 'b>(words: &'a [&'b [u8]], most: u64) -> Option<(u64, &'a [&'b [u8]])>
+    ensures { IsCounted most (texts words.now) result }
+{
+    let Some((first, rest)) = parted(words) else {
+        return None;
+    };
+    match number(first, most) {
+        Some(number) => Some((number, rest)),
+        None => None,
+    }
+}
+
+/// The number behind a label, at most `most`, and the words behind it.
+fn labelled<'a, 'b>(
+    words: &'a [&'b [u8]],
+    label: &[u8],
+    most: u64,
+) -> Option<(u64, &'a [&'b [u8]])>
+    ensures { IsLabelled label.now most (texts words.now) result }
+{
+    let Some((first, rest)) = parted(words) else {
+        return None;
+    };
+    if !is_label(first, label) {
+        return None;
+    }
+    counted(rest, most)
+}
+
+/// The numbers of an operation, and the words behind them.
+fn node<'a, 'b>(words: &'a [&'b [u8]]) -> Option<(Node, &'a [&'b [u8]])>
+    ensures { IsNodeRead (texts words.now) result }
+{
+    let Some((delay, behind_delay)) = labelled(words, b"delay", 1_000_000) else {
+        return None;
+    };
+    let Some((latency, behind_latency)) = labelled(behind_delay, b"latency", 255) else {
+        return None;
+    };
+    let Some((early, behind_early)) = labelled(behind_latency, b"early", 255) else {
+        return None;
+    };
+    let Some((late, rest)) = labelled(behind_early, b"late", 255) else {
+        return None;
+    };
+    let node = Node {
+        delay: delay as u32,
+        latency: latency as u8,
+        early: early as u8,
+        late: late as u8,
+    };
+    Some((node, rest))
+}
+
+/// The time at the end of an operation's line, if it has one there.
+fn time(words: &[&[u8]]) -> Option<Option<u8>>
+    ensures { IsReading IsTime time_words (texts words.now) result }
+{
+    if is_end(words) {
+        return Some(None);
+    }
+    let Some((time, rest)) = labelled(words, b"time", 255) else {
+        return None;
+    };
+    if is_end(rest) {
+        Some(Some(time as u8))
+    } else {
+        None
+    }
+}
+
+/// An operation by the words behind `op`.
+pub fn operation(alloc: Global, words: &[&[u8]]) -> Result<Option<Operation>, Memory>
+    ensures { IfOk result (λ found. IsReading IsOperation op_words (texts words.now) found) }
+{
+    let Some((place, behind_place)) = counted(words, 65_535) else {
+        return Ok(None);
+    };
+    let Some((kind, behind_kind)) = parted(behind_place) else {
+        return Ok(None);
+    };
+    if !is_kind(kind) {
+        return Ok(None);
+    }
+    let Some((node, rest)) = node(behind_kind) else {
+        return Ok(None);
+    };
+    let Some(time) = time(rest) else {
+        return Ok(None);
+    };
+    Ok(Some(Operation {
+        place: place as u32,
+        kind: name(alloc, kind)?,
+        node,
+        time,
+    }))
+}
+
+/// The numbers that words are.
+fn path(alloc: Global, words: &[&[u8]]) -> Result<Option<List<u32>>, Memory>
+    ensures { IfOk result (λ found. IsReading (All IsWide) (map decimal) (texts words.now) found) }
+{
+    let mut path = List::new(alloc);
+    for word in words {
+        match number(*word, MOST) {
+            Some(number) => path.push(number as u32)?,
+            None => return Ok(None),
+        }
+    }
+    Ok(Some(path))
+}
+
+/// The one number that words are.
+fn one(words: &[&[u8]]) -> Option<u32>
+    ensures { IsReading IsWide (λ n. decimal n ∷ []) (texts words.now) result }
+{
+    let Some((number, rest)) = counted(words, MOST) else {
+        return None;
+    };
+    if is_end(rest) {
+        Some(number as u32)
+    } else {
+        None
+    }
+}
+
+/// The two numbers that words are.
+pub fn two(words: &[&[u8]]) -> Option<(u32, u32)>
+    ensures { IsReading AreWide pair_words (texts words.now) result }
+{
+    let Some((first, rest)) = counted(words, MOST) else {
+        return None;
+    };
+    match one(rest) {
+        Some(second) => Some((first as u32, second)),
+        None => None,
+    }
+}
+
+/// The bound that words are.
+pub fn bound(alloc: Global, words: &[&[u8]]) -> Result<Option<Bound>, Memory>
+    ensures { IfOk result (λ found. IsReading IsBound bound_words (texts words.now) found) }
+{
+    let Some((label, rest)) = parted(words) else {
+        return Ok(None);
+    };
+    if is_label(label, b"early") {
+        return Ok(early(rest));
+    }
+    if is_label(label, b"late") {
+        return Ok(late(rest));
+    }
+    if is_label(label, b"dep") {
+        return Ok(dep(rest));
+    }
+    if is_label(label, b"chain") {
+        return chain(alloc, rest);
+    }
+    Ok(None)
+}
+
+fn early(words: &[&[u8]]) -> Option<Bound>
+    ensures { IsReading IsBound bound_words (codes "early" ∷ texts words.now) result }
+{
+    match one(words) {
+        Some(op) => Some(Bound::Early(op)),
+        None => None,
+    }
+}
+
+fn late(words: &[&[u8]]) -> Option<Bound>
+    ensures { IsReading IsBound bound_words (codes "late" ∷ texts words.now) result }
+{
+    match one(words) {
+        Some(op) => Some(Bound::Late(op)),
+        None => None,
+    }
+}
+
+fn dep(words: &[&[u8]]) -> Option<Bound>
+    ensures { IsReading IsBound bound_words (codes "dep" ∷ texts words.now) result }
+{
+    match two(words) {
+        Some((from, to)) => Some(Bound::Dep(from, to)),
+        None => None,
+    }
+}
+
+fn chain(alloc: Global, words: &[&[u8]]) -> Result<Option<Bound>, Memory>
+    ensures { IfOk result (λ found. IsReading IsBound bound_words (codes "chain" ∷ texts words.now) found) }
+{
+    if is_end(words) {
+        return Ok(None);
+    }
+    match path(alloc, words)? {
+        Some(path) => Ok(Some(Bound::Chain(path))),
+        None => Ok(None),
+    }
+}

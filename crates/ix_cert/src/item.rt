@@ -1,0 +1,29 @@
+use ix_bits::Name;
+use ix_graph::Mode;
+use ix_sheet::{Bound, Node};
+
+/// An operation as its line tells it.
+#[derive(Debug, Drop)]
+pub struct Operation {
+    pub place: u32,
+    /// The printed kind.
+    pub kind: Name,
+    pub node: Node,
+    /// The time, where the line tells one.
+    pub time: Option<u8>,
+}
+
+/// What a line of a report says.
+#[derive(Debug, Drop)]
+pub enum Item {
+    Title,
+    Period(u32),
+    Behaviour(Name, Option<Mode>),
+    Op(Operation),
+    Edge(u32, u32),
+    Cost(u64),
+    /// An amount, and the bound that has it.
+    Flow(u64, Bound),
+    Cycle(Bound),
+    End,
+}

@@ -1,0 +1,24 @@
+//! Reports of schedules with their certificates: their text, and the check that believes nothing but the report itself.
+#![tactic(auto)]
+
+mod bound_test;
+mod check;
+mod cycle;
+mod read;
+mod report;
+mod steps;
+mod sum;
+mod verdict;
+#[cfg(test)]
+mod verdict_tests;
+mod fields;
+mod item;
+mod lines;
+mod print;
+mod state;
+mod word;
+
+pub use print::print_report;
+pub use read::read_report;
+pub use report::{CertErr, Report, ReportBlock};
+pub use verdict::certify;

@@ -1,0 +1,134 @@
+ghost use Rattle.std.specs.Prelude.{◌≡◌, ◌≢◌, ℕ, ◌≤◌, ◌++◌, MatchOption, length, decimal, IfOk, IsUtf8, true};
+ghost use Rattle.std.specs.List.{list_all};
+ghost use Rattle.ix_cert.specs.Layout.{Line, IsName, IsKindName, mode_text, is_letter as specified_is_letter, is_name_byte as specified_is_name_byte};
+ghost use Rattle.ix_cert.specs.Items.{IsReading, Tells, IsAny, IsRegister, IsPlainKind};
+
+use itoa::Buffer;
+use ix_bits::{Memory, Name};
+use ix_graph::{Mode, kind_number};
+use std::alloc::Global;
+
+/// The number that a word is in decimal digits without leading zeros, where it is at most `most`.
+pub fn number(word: &[u8], most: u64) -> Option<u64>
+    ensures { IsReading (λ n. n ≤ most) decimal word.now result }
+{
+    let Ok(text) = str::from_utf8(word) else {
+        return None;
+    };
+    let Ok(number) = text.parse::<u64>() else {
+        return None;
+    };
+    if number > most {
+        return None;
+    }
+    if is_written(number, word) {
+        Some(number)
+    } else {
+        None
+    }
+}
+
+fn is_written(number: u64, word: &[u8]) -> bool
+    ensures { Tells result (decimal number ≡ word.now) }
+{
+    Buffer::new().format(number).as_bytes() == word
+}
+
+fn is_letter(byte: u8) -> bool
+    ensures { result ≡ specified_is_letter byte }
+{
+    byte.is_ascii_alphabetic() || byte == b'_'
+}
+
+fn is_name_byte(byte: u8) -> bool
+    ensures { result ≡ specified_is_name_byte byte }
+{
+    is_letter(byte) || byte.is_ascii_digit()
+}
+
+fn are_name_bytes(word: &[u8]) -> bool
+    ensures { result ≡ list_all specified_is_name_byte word.now }
+{
+    word.iter().all(|byte| is_name_byte(*byte))
+}
+
+/// Whether a word is a name: a letter or `_`, then at most 63 letters, digits and `_`.
+pub fn is_name(word: &[u8]) -> bool
+    ensures { Tells result (IsName word.now) }
+{
+    match word {
+        [first, rest @ ..] => is_letter(*first) && rest.len() <= 63 && are_name_bytes(rest),
+        [] => false,
+    }
+}
+
+fn is_register(word: &[u8]) -> bool
+    ensures { Tells result (IsRegister word.now) }
+{
+    number(word, 15).is_some()
+}
+
+/// What stands behind a front.
+fn behind<'a>(word: &'a [u8], front: &[u8]) -> Option<&'a [u8]>
+    ensures { MatchOption result ((rest : Line) → word.now ≢ front.now ++ rest) (λ rest. word.now ≡ front.now ++ rest.now) }
+{
+    word.strip_prefix(front)
+}
+
+/// Whether a word is the name of a kind without a register.
+fn is_plain_kind(word: &[u8]) -> bool
+    ensures { Tells result (IsPlainKind word.now) }
+{
+    let Ok(text) = str::from_utf8(word) else {
+        return false;
+    };
+    let Some(place) = kind_number(text) else {
+        return false;
+    };
+    is_unregistered(place)
+}
+
+fn is_unregistered(place: u8) -> bool
+    ensures { Tells result ((place ≢ 4) × (place ≢ 8)) }
+{
+    place != 4 && place != 8
+}
+
+/// Whether a word is the printed name of a kind; a register has a number from 0 to 15.
+pub fn is_kind(word: &[u8]) -> bool
+    ensures { Tells result (IsKindName word.now) }
+{
+    if let Some(register) = behind(word, b"RdCustReg.") {
+        return is_register(register);
+    }
+    if let Some(register) = behind(word, b"WrCustReg.") {
+        return is_register(register);
+    }
+    is_plain_kind(word)
+}
+
+/// The mode that a word names; `none` is no mode.
+pub fn mode(word: &[u8]) -> Option<Option<Mode>>
+    ensures { IsReading IsAny mode_text word.now result }
+{
+    match word {
+        b"none" => Some(None),
+        b"InPipeline" => Some(Some(Mode::InPipeline)),
+        b"Tight" => Some(Some(Mode::Tight)),
+        b"Decoupled" => Some(Some(Mode::Decoupled)),
+        b"Always" => Some(Some(Mode::Always)),
+        _ => None,
+    }
+}
+
+/// The name with these bytes.
+pub fn name(alloc: Global, word: &[u8]) -> Result<Name, Memory>
+    requires short { length word.now ≤ 80 }
+    requires text { IsUtf8 word.now }
+    ensures { IfOk result (λ name. name ≡ word.now) }
+{
+    match str::from_utf8(word) {
+        Ok(text) => Name::from_text(alloc, text),
+        Err(_) => unreachable!(),
+    }
+}
