@@ -8,3 +8,4 @@ pub mod Going
 pub mod Statements
 pub mod Texts
 pub mod Flat
+pub mod TurnLaws

@@ -3,6 +3,7 @@
 
 mod assigned;
 mod error;
+mod laws;
 mod number;
 mod parts;
 mod put;
@@ -15,4 +16,5 @@ mod turns;
 mod value;
 
 pub use error::UnrollErr;
+pub use laws::loop_laws;
 pub use text::unroll;

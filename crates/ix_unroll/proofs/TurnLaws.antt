@@ -1,0 +1,86 @@
+-- The values that are given are those of the turns.
+use Rattle.std.proofs.Common.{◌≡◌, ℕ, zero, suc, ◌+◌, ◌<◌, ◌≤◌, List, [], ◌∷◌, length, Option, Some, None, Bool, true, false, cond, ℤ, refl, ap, sym, ◌∙◌, subst, arith}
+use Rattle.ix_bits.specs.Operators.{is_true}
+use Rattle.ix_tree.specs.LoopHeads.{Binding, Valued, is_int}
+use Rattle.ix_tree.specs.Unrolling.{Head, Turns, these, breaks, bound, turns, after, on_value, on_test, test_value, next_value, turns_from}
+use Rattle.ix_unroll.specs.Laws.{TurnsOf, no_turn, one_turn, TurnsAre, TurnsLaw}
+
+-- one step where the tests are known
+stop : (bs : List Binding) (h : Head) (x t : Valued) (rest : ℤ → Turns) → is_int x.number ≡ true → test_value bs h x.number ≡ Some t → is_true t.number ≡ false
+    → on_value (Some x) (λ v. on_test (test_value bs h v) (rest v)) ≡ these []
+stop bs h x t rest i e f = rw (i, e, f) refl
+
+go : (bs : List Binding) (h : Head) (x t : Valued) (rest : ℤ → Turns) → is_int x.number ≡ true → test_value bs h x.number ≡ Some t → is_true t.number ≡ true
+    → on_value (Some x) (λ v. on_test (test_value bs h v) (rest v)) ≡ rest x.number
+go bs h x t rest i e f = rw (i, e, f) refl
+
+pub all_turns : (left : ℕ) (bs : List Binding) (h : Head) (x : Option Valued) (vs : List ℤ) → TurnsOf bs h x vs → length vs ≤ left → turns_from left bs h x ≡ these vs
+unfolding turns_from
+all_turns zero bs h _ _ (no_turn x t i e f) l = stop bs h x t (λ v. breaks turns) i e f
+all_turns (suc n) bs h _ _ (no_turn x t i e f) l = stop bs h x t (λ v. after v (turns_from n bs h (next_value bs h v))) i e f
+all_turns zero bs h _ _ (one_turn {vs = vs} x t i e f r) l = absurd (omega arith)
+all_turns (suc n) bs h _ _ (one_turn {vs = vs} x t i e f r) l =
+    go bs h x t (λ v. after v (turns_from n bs h (next_value bs h v))) i e f ∙ ap (after x.number) (all_turns n bs h (next_value bs h x.number) vs r (omega arith))
+
+pub more_turns : (left : ℕ) (bs : List Binding) (h : Head) (x : Option Valued) (vs : List ℤ) → TurnsOf bs h x vs → left < length vs → turns_from left bs h x ≡ breaks turns
+unfolding turns_from
+more_turns zero bs h _ _ (no_turn x t i e f) l = absurd (omega arith)
+more_turns (suc n) bs h _ _ (no_turn x t i e f) l = absurd (omega arith)
+more_turns zero bs h _ _ (one_turn {vs = vs} x t i e f r) l = go bs h x t (λ v. breaks turns) i e f
+more_turns (suc n) bs h _ _ (one_turn {vs = vs} x t i e f r) l =
+    go bs h x t (λ v. after v (turns_from n bs h (next_value bs h v))) i e f ∙ ap (after x.number) (more_turns n bs h (next_value bs h x.number) vs r (omega arith))
+
+-- what a step that gives values was
+pub data Stepped (bs : List Binding) (h : Head) (x : Valued) (rest : Turns) (vs : List ℤ) : Type 0 where
+  ended : (t : Valued) → is_int x.number ≡ true → test_value bs h x.number ≡ Some t → is_true t.number ≡ false → vs ≡ [] → Stepped bs h x rest vs
+  went : (t : Valued) → is_int x.number ≡ true → test_value bs h x.number ≡ Some t → is_true t.number ≡ true → rest ≡ these vs → Stepped bs h x rest vs
+
+by_truth : (bs : List Binding) (h : Head) (x t : Valued) (rest : Turns) (vs : List ℤ) (b : Bool) → is_int x.number ≡ true → test_value bs h x.number ≡ Some t → is_true t.number ≡ b
+    → cond b rest (these []) ≡ these vs → Stepped bs h x rest vs
+by_truth bs h x t rest vs true i e f g = went t i e f g
+by_truth bs h x t rest vs false i e f g = ended t i e f cc
+
+by_test : (bs : List Binding) (h : Head) (x : Valued) (rest : Turns) (vs : List ℤ) (o : Option Valued) → is_int x.number ≡ true → test_value bs h x.number ≡ o → on_test o rest ≡ these vs → Stepped bs h x rest vs
+by_test bs h x rest vs None i e g = cc
+by_test bs h x rest vs (Some t) i e g = by_truth bs h x t rest vs (is_true t.number) i e refl g
+
+by_int : (bs : List Binding) (h : Head) (x : Valued) (rest : ℤ → Turns) (vs : List ℤ) (b : Bool) → is_int x.number ≡ b
+    → cond b (on_test (test_value bs h x.number) (rest x.number)) (breaks bound) ≡ these vs → Stepped bs h x (rest x.number) vs
+by_int bs h x rest vs true i g = by_test bs h x (rest x.number) vs (test_value bs h x.number) i refl g
+by_int bs h x rest vs false i g = cc
+
+-- the turn before turns that give values
+pub data Front (v : ℤ) (rest : Turns) (vs : List ℤ) : Type 0 where
+  front : (ws : List ℤ) → rest ≡ these ws → vs ≡ v ∷ ws → Front v rest vs
+
+front_of : (v : ℤ) (rest : Turns) (vs : List ℤ) → after v rest ≡ these vs → Front v rest vs
+front_of v (these ws) vs e = front ws refl cc
+front_of v (breaks b) vs e = cc
+
+pub given_turns : (left : ℕ) (bs : List Binding) (h : Head) (x : Option Valued) (vs : List ℤ) → turns_from left bs h x ≡ these vs → TurnsOf bs h x vs × (length vs ≤ left)
+unfolding turns_from
+given_turns zero bs h None vs g = cc
+given_turns (suc n) bs h None vs g = cc
+given_turns zero bs h (Some x) vs g = last (by_int bs h x (λ v. breaks turns) vs (is_int x.number) refl g)
+  where
+    last : Stepped bs h x (breaks turns) vs → TurnsOf bs h (Some x) vs × (length vs ≤ 0)
+    last (ended t i e f k) = let P : List ℤ → Type 0 = λ ws. TurnsOf bs h (Some x) ws × (length ws ≤ 0) in subst P (sym k) (no_turn x t i e f, omega arith)
+    last (went t i e f k) = cc
+given_turns (suc n) bs h (Some x) vs g =
+    some (λ ws k. given_turns n bs h (next_value bs h x.number) ws k) (by_int bs h x (λ v. after v (turns_from n bs h (next_value bs h v))) vs (is_int x.number) refl g)
+  where
+    with_front : (t : Valued) → is_int x.number ≡ true → test_value bs h x.number ≡ Some t → is_true t.number ≡ true
+        → ((ws : List ℤ) → turns_from n bs h (next_value bs h x.number) ≡ these ws → TurnsOf bs h (next_value bs h x.number) ws × (length ws ≤ n))
+        → Front x.number (turns_from n bs h (next_value bs h x.number)) vs → TurnsOf bs h (Some x) vs × (length vs ≤ suc n)
+    with_front t i e f rec (front ws k m) =
+        let r = rec ws k in
+        let P : List ℤ → Type 0 = λ us. TurnsOf bs h (Some x) us × (length us ≤ suc n) in
+        subst P (sym m) (one_turn x t i e f r.0, omega (arith, r.1))
+
+    some : ((ws : List ℤ) → turns_from n bs h (next_value bs h x.number) ≡ these ws → TurnsOf bs h (next_value bs h x.number) ws × (length ws ≤ n))
+        → Stepped bs h x (after x.number (turns_from n bs h (next_value bs h x.number))) vs → TurnsOf bs h (Some x) vs × (length vs ≤ suc n)
+    some rec (ended t i e f k) = let P : List ℤ → Type 0 = λ ws. TurnsOf bs h (Some x) ws × (length ws ≤ suc n) in subst P (sym k) (no_turn x t i e f, omega arith)
+    some rec (went t i e f k) = with_front t i e f rec (front_of x.number _ vs k)
+
+pub turns_law : TurnsLaw
+turns_law left bs h x vs = record { given = given_turns left bs h x vs; all = all_turns left bs h x vs; more = more_turns left bs h x vs }
