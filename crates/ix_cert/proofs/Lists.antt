@@ -1,5 +1,5 @@
 -- Fronts of lists, and parts of lines put one behind the other.
-use Rattle.std.proofs.Common.{◌≡◌, ℕ, zero, suc, ◌<◌, ◌≤◌, List, [], ◌∷◌, ◌++◌, length, take, drop, get_or, refl, ap, arith}
+use Rattle.std.proofs.Common.{◌≡◌, ℕ, zero, suc, ◌<◌, ◌≤◌, List, [], ◌∷◌, ◌++◌, length, take, get_or, refl, ap, arith}
 use Rattle.std.specs.Prelude.{codes}
 use Rattle.ix_sheet.specs.declared.problem.Node.{Node}
 use Rattle.ix_cert.specs.Layout.{Line, field}

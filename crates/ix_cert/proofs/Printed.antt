@@ -1,5 +1,5 @@
 -- Lines of a report, one after another.
-use Rattle.std.proofs.Common.{◌≡◌, ◌≢◌, ℕ, zero, suc, ◌+◌, ◌<◌, ◌≤◌, List, [], ◌∷◌, ◌++◌, length, take, drop, get_or, refl, sym, ap, ◌∙◌, arith, append_assoc, drop-cons, Option, Some, None}
+use Rattle.std.proofs.Common.{◌≡◌, ℕ, zero, suc, ◌+◌, ◌<◌, ◌≤◌, List, [], ◌∷◌, ◌++◌, length, take, drop, get_or, refl, sym, ap, ◌∙◌, arith, append_assoc, drop-cons, Option, Some, None}
 use Rattle.std.specs.List.{flat_map}
 use Rattle.std.specs.Prelude.{map, codes, decimal, Result, Ok, Err, OnOk}
 use Rattle.std.proofs.lemmas.Grind.{flat_map-append}
@@ -12,7 +12,7 @@ use Rattle.ix_sheet.specs.declared.problem.Node.{Node}
 use Rattle.ix_cert.specs.declared.report.ReportBlock.{ReportBlock}
 use Rattle.ix_cert.specs.Layout.{Line, op_line, timed_lines, untimed_lines, op_lines}
 use Rattle.ix_cert.proofs.Lists.{take_next, take_whole, run_on, node_parts}
-use Rattle.ix_cert.specs.Printing.{text_of, time_field, time_at, IsPrintable, HasTimes}
+use Rattle.ix_cert.specs.Printing.{text_of, time_field, time_at, HasTimes}
 
 -- one piece more
 pub piece_more : {X : Type 0} (f : X → List ℕ) (before out new : List ℕ) (xs : List X) (k : ℕ) (d : X) → out ≡ before ++ flat_map f (take k xs) → new ≡ out ++ f (get_or xs k d) → k < length xs
