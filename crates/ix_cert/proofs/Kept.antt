@@ -152,9 +152,13 @@ given_op b costed op None (Some time) o n t e w g = absurd t
 given_op b costed op (Some mode) None o n t e w g = absurd t
 given_op b true op (Some mode) (Some time) o n t e w g = absurd cc
 given_op b false op (Some mode) (Some time) o n t e w g =
-    let small : time ≤ 255 = small_time op.time time e w.time in
-    (ap (λ x. length (b.times ++ as_list x)) (sym e) ∙ length-append b.times (time ∷ []) ∙ ap (λ k. k + 1) g.0 ∙ sym (length-append b.problem.ops (op.node ∷ [])),
-    subst (λ x. All (λ u. u ≤ 255) (b.times ++ as_list x)) e (All-push (λ u. u ≤ 255) b.times time g.1 small), g.2, g.3, g.4)
+    let small : time ≤ 255 = small_time op.time time e w.time in (
+      ap (λ x. length (b.times ++ as_list x)) (sym e) ∙ length-append b.times (time ∷ []) ∙ ap (λ k. k + 1) g.0 ∙ sym (length-append b.problem.ops (op.node ∷ [])),
+      subst (λ x. All (λ u. u ≤ 255) (b.times ++ as_list x)) e (All-push (λ u. u ≤ 255) b.times time g.1 small),
+      g.2,
+      g.3,
+      g.4,
+    )
 
 open_op : (period : ℕ) (b : ReportBlock) (costed : Bool) (op : Operation) → IsOpen period b costed → IsOperation op → MayBeOp b costed op → IsOpen period (with_op b op) costed
 open_op period b costed op o w m = record {
@@ -308,8 +312,8 @@ end_more : (period : ℕ) (blocks : List ReportBlock) (b : ReportBlock) (costed 
 end_more period blocks b costed m o =
     flat_map-append block_items blocks (b ∷ [])
     ∙ ap (λ l. flat_map block_items blocks ++ l) (append-nil (block_items b)
-      ∙ ap (λ l. Behaviour b.name b.mode ∷ l) (behind_given (op_items b b.mode) (map edge_item b.problem.edges) (certificate_items b b.mode) End)
-      ∙ ap (λ l. (Behaviour b.name b.mode ∷ (op_items b b.mode ++ (map edge_item b.problem.edges ++ l))) ++ End ∷ []) (sym (end_items b costed b.mode m o.told)))
+    ∙ ap (λ l. Behaviour b.name b.mode ∷ l) (behind_given (op_items b b.mode) (map edge_item b.problem.edges) (certificate_items b b.mode) End)
+    ∙ ap (λ l. (Behaviour b.name b.mode ∷ (op_items b b.mode ++ (map edge_item b.problem.edges ++ l))) ++ End ∷ []) (sym (end_items b costed b.mode m o.told)))
     ∙ sym (append_assoc (flat_map block_items blocks) (begun_items b costed) (End ∷ []))
 
 begun_given : (name : Line) (mode : Option Mode) (period : ℕ) → HasGiven (begun name mode period) mode false

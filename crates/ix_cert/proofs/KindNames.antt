@@ -194,7 +194,7 @@ write_told false text rest e g = λ k. g (write_of text rest e (kind_form text k
 
 pub plain_told : (told : Bool) (text : Line) → ((rest : Line) → text ≢ reads ++ rest) → ((rest : Line) → text ≢ writes ++ rest) → Tells told (IsPlainKind text) → Tells told (IsKindName text)
 plain_told true text r w p = form_kind text (inl p)
-plain_told false text r w p = λ k. elim (kind_form text k) [ | inl q ↦ p q | inr g ↦ elim g [ | inl x ↦ r _ x.is | inr x ↦ w _ x.is ] ]
+plain_told false text r w p = λ k. elim (kind_form text k) [ inl q ↦ p q | inr g ↦ elim g [ inl x ↦ r _ x.is | inr x ↦ w _ x.is ] ]
 
 -- the number of a plain word
 plain_number : (text : Line) → (p : IsPlainKind text) → number_of text ≡ Some p.place

@@ -10,6 +10,7 @@ pub mod Decoded
 pub mod Kept
 pub mod KindNames
 pub mod Lined
+pub mod Lists
 pub mod Numerals
 pub mod Outcomes
 pub mod Printed

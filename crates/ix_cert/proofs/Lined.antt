@@ -13,11 +13,8 @@ use Rattle.ix_cert.specs.declared.item.Item.TheVariants.{Behaviour, Op, Cycle, E
 use Rattle.ix_cert.specs.declared.report.Report.{Report}
 use Rattle.ix_cert.specs.declared.report.ReportBlock.{ReportBlock}
 use Rattle.ix_cert.specs.Layout.{Line, mode_text, field, bound_text, op_line, time_text, timed_lines, untimed_lines, edge_line, flow_line, cycle_line, op_lines, certificate_lines, block_lines, report_lines, IsInForm, IsBlockInForm, IsNodeInForm, IsBoundInForm, IsPartInForm, IsEdgeInForm, IsKindName, HasCertificate}
+use Rattle.ix_cert.proofs.Lists.{run_on, node_parts}
 use Rattle.ix_cert.specs.Items.{IsItem, IsBound, IsWide, item_line, bound_words, operation, timed_items, untimed_items, op_items, edge_item, flow_item, certificate_items, block_items, report_items}
-
-abbrev run_on : Line → List Line → Line
-run_on o [] = o
-run_on o (p ∷ ps) = run_on (o ++ p) ps
 
 abbrev right : Line → List Line → Line
 right p [] = p
@@ -26,9 +23,6 @@ right p (q ∷ ps) = p ++ right q ps
 run_right : (o p : Line) (ps : List Line) → run_on o (p ∷ ps) ≡ o ++ right p ps
 run_right o p [] = refl
 run_right o p (q ∷ ps) = run_right (o ++ p) q ps ∙ append_assoc o p (right q ps)
-
-abbrev node_parts : Node → List Line → List Line
-node_parts node rest = field node.delay ∷ codes " latency" ∷ field node.latency ∷ codes " early" ∷ field node.early ∷ codes " late" ∷ field node.late ∷ rest
 
 untimed_line : (k : ℕ) (kind : Line) (node : Node) → op_line k kind node [] ≡ item_line (Op (operation k kind node None))
 untimed_line k kind node = append-nil (run_on (codes "op") (field k ∷ codes " " ∷ kind ∷ codes " delay" ∷ node_parts node [])) ∙ run_right (codes "op") (field k) (codes " " ∷ kind ∷ codes " delay" ∷ node_parts node [])
@@ -71,7 +65,7 @@ map_same : {X : Type 0} (f : X → Line) (g : X → Item) (same : (x : X) → f 
 map_same f g same [] = refl
 map_same f g same (x ∷ xs) = rw (same x, map_same f g same xs) refl
 
-map_join : (xs ys : List Item) → map item_line (xs ++ ys) ≡ map item_line xs ++ map item_line ys
+pub map_join : (xs ys : List Item) → map item_line (xs ++ ys) ≡ map item_line xs ++ map item_line ys
 map_join [] ys = refl
 map_join (x ∷ xs) ys = ap (λ l. item_line x ∷ l) (map_join xs ys)
 
@@ -146,17 +140,19 @@ edge_wide n few e h = (omega (arith, few, h.0, h.1), omega (arith, few, h.1))
 untimed_each : (k : ℕ) (kinds : List Line) (nodes : List Node) → k + length nodes ≤ 65536 → All IsKindName kinds → All IsNodeInForm nodes → EachItem (untimed_items k kinds nodes)
 untimed_each k [] nodes few a b = tt
 untimed_each k (kind ∷ kinds) [] few a b = tt
-untimed_each k (kind ∷ kinds) (node ∷ nodes) few a b =
-    (record { place = omega (arith, few); kind = All-head IsKindName kind kinds a; node = All-head IsNodeInForm node nodes b; time = tt },
-    untimed_each (k + 1) kinds nodes (omega (arith, few)) (All-tail IsKindName kind kinds a) (All-tail IsNodeInForm node nodes b))
+untimed_each k (kind ∷ kinds) (node ∷ nodes) few a b = (
+  record { place = omega (arith, few); kind = All-head IsKindName kind kinds a; node = All-head IsNodeInForm node nodes b; time = tt },
+  untimed_each (k + 1) kinds nodes (omega (arith, few)) (All-tail IsKindName kind kinds a) (All-tail IsNodeInForm node nodes b),
+)
 
 timed_each : (k : ℕ) (kinds : List Line) (nodes : List Node) (times : List ℕ) → k + length nodes ≤ 65536 → All IsKindName kinds → All IsNodeInForm nodes → All (λ t. t ≤ 255) times → EachItem (timed_items k kinds nodes times)
 timed_each k [] nodes times few a b c = tt
 timed_each k (kind ∷ kinds) [] times few a b c = tt
 timed_each k (kind ∷ kinds) (node ∷ nodes) [] few a b c = tt
-timed_each k (kind ∷ kinds) (node ∷ nodes) (time ∷ times) few a b c =
-    (record { place = omega (arith, few); kind = All-head IsKindName kind kinds a; node = All-head IsNodeInForm node nodes b; time = All-head (λ t. t ≤ 255) time times c },
-    timed_each (k + 1) kinds nodes times (omega (arith, few)) (All-tail IsKindName kind kinds a) (All-tail IsNodeInForm node nodes b) (All-tail (λ t. t ≤ 255) time times c))
+timed_each k (kind ∷ kinds) (node ∷ nodes) (time ∷ times) few a b c = (
+  record { place = omega (arith, few); kind = All-head IsKindName kind kinds a; node = All-head IsNodeInForm node nodes b; time = All-head (λ t. t ≤ 255) time times c },
+  timed_each (k + 1) kinds nodes times (omega (arith, few)) (All-tail IsKindName kind kinds a) (All-tail IsNodeInForm node nodes b) (All-tail (λ t. t ≤ 255) time times c),
+)
 
 ops_each : (period : ℕ) (b : ReportBlock) (mode : Option Mode) → IsBlockInForm period b → HasCertificate b mode → EachItem (op_items b mode)
 ops_each period b None f h = untimed_each 0 b.kinds b.problem.ops (omega (arith, f.few)) f.kinds f.nodes
@@ -167,10 +163,12 @@ certificate_each period b None f h = each_map (IsBoundInForm (length b.problem.o
 certificate_each period b (Some mode) f h = (omega (arith, h.2), each_map (IsPartInForm (length b.problem.ops)) flow_item (part_item (length b.problem.ops) f.few) b.flow h.3)
 
 pub block_each : (period : ℕ) (b : ReportBlock) → IsBlockInForm period b → EachItem (block_items b)
-block_each period b f =
-    (f.named, each_join (op_items b b.mode) _ (ops_each period b b.mode f f.certificate)
-    (each_join (map edge_item b.problem.edges) _ (each_map (IsEdgeInForm (length b.problem.ops)) edge_item (edge_wide (length b.problem.ops) f.few) b.problem.edges f.edges)
-    (each_join (certificate_items b b.mode) (End ∷ []) (certificate_each period b b.mode f f.certificate) (tt, tt))))
+block_each period b f = (
+  f.named,
+  each_join (op_items b b.mode) _ (ops_each period b b.mode f f.certificate)
+      (each_join (map edge_item b.problem.edges) _ (each_map (IsEdgeInForm (length b.problem.ops)) edge_item (edge_wide (length b.problem.ops) f.few) b.problem.edges f.edges)
+      (each_join (certificate_items b b.mode) (End ∷ []) (certificate_each period b b.mode f f.certificate) (tt, tt))),
+)
 
 blocks_each : (period : ℕ) (bs : List ReportBlock) → All (IsBlockInForm period) bs → EachItem (flat_map block_items bs)
 blocks_each period [] a = tt

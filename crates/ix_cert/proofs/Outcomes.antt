@@ -19,6 +19,7 @@ use Rattle.ix_cert.specs.Refusals.{IsNext, NoNext, IsBadAt, TellsLine, bytes_in,
 use Rattle.ix_cert.proofs.Lined.{EachItem, report_are, report_each}
 use Rattle.ix_cert.proofs.Shown.{plain_item, no_feed}
 use Rattle.ix_cert.proofs.Walked.{report_leads}
+use Rattle.ix_cert.proofs.Lists.{take_whole}
 use Rattle.ix_cert.proofs.Viable.{Reached, reached_more, refuted, reached_begins, whole_between, IsReport, reached_whole, lines_one}
 
 -- ---- one line after another
@@ -54,12 +55,6 @@ take_texts (v ∷ lines) (suc i) d l = ap (λ t. v.now ∷ t) (take_texts lines 
 length_texts : (lines : List (Bor Line)) → length (texts lines) ≡ length lines
 length_texts [] = refl
 length_texts (v ∷ lines) = ap suc (length_texts lines)
-
-take_whole : (ls : List Line) (i : ℕ) → length ls ≤ i → take i ls ≡ ls
-take_whole [] zero l = refl
-take_whole [] (suc i) l = refl
-take_whole (v ∷ ls) zero l = absurd (omega (arith, l))
-take_whole (v ∷ ls) (suc i) l = ap (λ t. v ∷ t) (take_whole ls i (omega (arith, l)))
 
 pub reached_next : (lines : List (Bor Line)) (i : ℕ) (d : Bor Line) (r more : Reading) → i < length lines → Reached (take i (texts lines)) r → IsNext r (get_or lines i d).now more → Reached (take (i + 1) (texts lines)) more
 reached_next lines i d r more l h n =
@@ -246,7 +241,7 @@ not_less bytes m n a b h = a.next (omega (arith, h, b.place)) (begin_shorter (be
 one_bad : (bytes : List ℕ) (m n : ℕ) → IsBadLine bytes m → IsBadLine bytes n → m ≡ n
 one_bad bytes m n a b = elim (compare a.before b.before) [
   | inl h ↦ absurd (not_less bytes m n a b h)
-  | inr g ↦ elim g [ | inl h ↦ absurd (not_less bytes n m b a h) | inr h ↦ a.number ∙ ap (λ k. first_line (lines_of bytes) + k) h ∙ sym b.number ]
+  | inr g ↦ elim g [ inl h ↦ absurd (not_less bytes n m b a h) | inr h ↦ a.number ∙ ap (λ k. first_line (lines_of bytes) + k) h ∙ sym b.number ]
 ]
 
 bad_line : (bytes : List ℕ) (n : ℕ) → IsBadAt (behind_refusal (lines_of bytes)) (first_line (lines_of bytes)) n → IsBadLine bytes n
@@ -295,7 +290,7 @@ err_same : {A E : Type 0} (e f : E) (r : Result A E) → r ≡ Err e → r ≡ E
 err_same e f r a b = cc
 
 pub err_moved : (A B : Type 0) {E : Type 0} (e f g : E) → ((r : Result A E) × (r ≡ Err e) × ((r ≡ Err f) ⊎ (r ≡ Err g))) → (s : Result B E) → s ≡ Err e → (s ≡ Err f) ⊎ (s ≡ Err g)
-err_moved A B e f g h s is = elim h.2 [ | inl x ↦ inl (is ∙ ap (λ k. Err k) (err_same e f h.0 h.1 x)) | inr x ↦ inr (is ∙ ap (λ k. Err k) (err_same e g h.0 h.1 x)) ]
+err_moved A B e f g h s is = elim h.2 [ inl x ↦ inl (is ∙ ap (λ k. Err k) (err_same e f h.0 h.1 x)) | inr x ↦ inr (is ∙ ap (λ k. Err k) (err_same e g h.0 h.1 x)) ]
 
 -- ---- the text that is printed
 split_text : (xs : List Item) → EachItem xs → slice_split (λ b. b == 10) (text_of (map item_line xs)) ≡ map item_line xs ++ [] ∷ []
@@ -314,8 +309,8 @@ without_end ((b ∷ x) ∷ ls) = ap (λ l. (b ∷ x) ∷ l) (without_end ls)
 pub printed : (text : List ℕ) (r : Report) → IsInForm r → text ≡ text_of (report_lines r) → IsReportText text r
 printed text r f e =
     let lines : lines_of text ≡ report_lines r =
-      ap lines_of (e ∙ ap text_of (report_are r))
-      ∙ ap without_last_empty (split_text (report_items r) (report_each r f))
-      ∙ without_end (map item_line (report_items r))
-      ∙ sym (report_are r) in
+    ap lines_of (e ∙ ap text_of (report_are r))
+    ∙ ap without_last_empty (split_text (report_items r) (report_each r f))
+    ∙ without_end (map item_line (report_items r))
+    ∙ sym (report_are r) in
     record { lines = ap behind_refusal lines; in_form = f }

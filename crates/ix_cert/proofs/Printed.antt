@@ -1,5 +1,5 @@
 -- Lines of a report, one after another.
-use Rattle.std.proofs.Common.{◌≡◌, ◌≢◌, ℕ, zero, suc, ◌+◌, ◌<◌, ◌≤◌, List, [], ◌∷◌, ◌++◌, length, take, drop, get_or, refl, sym, ap, ◌∙◌, arith, append_assoc, drop-cons, Option, Some, None}
+use Rattle.std.proofs.Common.{◌≡◌, ℕ, zero, suc, ◌+◌, ◌<◌, ◌≤◌, List, [], ◌∷◌, ◌++◌, length, take, drop, get_or, refl, sym, ap, ◌∙◌, arith, append_assoc, drop-cons, Option, Some, None}
 use Rattle.std.specs.List.{flat_map}
 use Rattle.std.specs.Prelude.{map, codes, decimal, Result, Ok, Err, OnOk}
 use Rattle.std.proofs.lemmas.Grind.{flat_map-append}
@@ -11,18 +11,8 @@ use Rattle.ix_graph.specs.declared.graph.Mode.{Mode}
 use Rattle.ix_sheet.specs.declared.problem.Node.{Node}
 use Rattle.ix_cert.specs.declared.report.ReportBlock.{ReportBlock}
 use Rattle.ix_cert.specs.Layout.{Line, op_line, timed_lines, untimed_lines, op_lines}
-use Rattle.ix_cert.specs.Printing.{text_of, time_field, time_at, IsPrintable, HasTimes}
-
-take_next : {X : Type 0} (xs : List X) (k : ℕ) (d : X) → k < length xs → take (suc k) xs ≡ take k xs ++ get_or xs k d ∷ []
-take_next [] k d l = absurd (omega (arith, l))
-take_next (x ∷ xs) zero d l = refl
-take_next (x ∷ xs) (suc k) d l = ap (λ t. x ∷ t) (take_next xs k d (omega (arith, l)))
-
-take_all : {X : Type 0} (xs : List X) (k : ℕ) → length xs ≤ k → take k xs ≡ xs
-take_all [] zero l = refl
-take_all [] (suc k) l = refl
-take_all (x ∷ xs) zero l = absurd (omega (arith, l))
-take_all (x ∷ xs) (suc k) l = ap (λ t. x ∷ t) (take_all xs k (omega (arith, l)))
+use Rattle.ix_cert.proofs.Lists.{take_next, take_whole, run_on, node_parts}
+use Rattle.ix_cert.specs.Printing.{text_of, time_field, time_at, HasTimes}
 
 -- one piece more
 pub piece_more : {X : Type 0} (f : X → List ℕ) (before out new : List ℕ) (xs : List X) (k : ℕ) (d : X) → out ≡ before ++ flat_map f (take k xs) → new ≡ out ++ f (get_or xs k d) → k < length xs
@@ -33,7 +23,7 @@ piece_more f before out new xs k d e n l =
 
 -- all pieces
 pub pieces_all : {X : Type 0} (f : X → List ℕ) (before out : List ℕ) (xs : List X) (k : ℕ) → out ≡ before ++ flat_map f (take k xs) → length xs ≤ k → out ≡ before ++ flat_map f xs
-pieces_all f before out xs k e l = e ∙ ap (λ t. before ++ flat_map f t) (take_all xs k l)
+pieces_all f before out xs k e l = e ∙ ap (λ t. before ++ flat_map f t) (take_whole xs k l)
 
 -- and where the pieces are lines
 pub lines_all : {X : Type 0} (f : X → Line) (before out : List ℕ) (xs : List X) (k : ℕ) → out ≡ before ++ flat_map (λ x. f x ++ 10 ∷ []) (take k xs) → length xs ≤ k → out ≡ before ++ text_of (map f xs)
@@ -102,17 +92,9 @@ four o a b c d = simp append_assoc
 abbrev node_text : Node → List ℕ
 node_text node = codes " delay" ++ field node.delay ++ codes " latency" ++ field node.latency ++ codes " early" ++ field node.early ++ codes " late" ++ field node.late
 
--- parts put one behind the other
-abbrev run_on : Line → List Line → Line
-run_on o [] = o
-run_on o (p ∷ ps) = run_on (o ++ p) ps
-
 push_front : (o x : Line) (ps : List Line) → o ++ run_on x ps ≡ run_on (o ++ x) ps
 push_front o x [] = refl
 push_front o x (p ∷ ps) = push_front o (x ++ p) ps ∙ ap (λ l. run_on l ps) (sym (append_assoc o x p))
-
-abbrev node_parts : Node → List Line → List Line
-node_parts node rest = field node.delay ∷ codes " latency" ∷ field node.latency ∷ codes " early" ∷ field node.early ∷ codes " late" ∷ field node.late ∷ rest
 
 report_shape : (p bs : List ℕ) → codes "longnail report 1\n" ++ ((codes "period" ++ codes " " ++ p) ++ (codes "\n" ++ bs)) ≡ (codes "longnail report 1" ++ 10 ∷ []) ++ (((codes "period" ++ codes " " ++ p) ++ 10 ∷ []) ++ bs)
 report_shape p bs = simp append_assoc
@@ -123,8 +105,8 @@ pub op_parts : (o n1 n2 n3 n4 n5 n6 : List ℕ) (place : ℕ) (kind : Line) (nod
     → n5 ≡ n4 ++ time_field time → n6 ≡ n5 ++ codes "\n" → n6 ≡ o ++ (op_line place kind node (time_field time) ++ 10 ∷ [])
 op_parts o n1 n2 n3 n4 n5 n6 place kind node time e1 e2 e3 e4 e5 e6 =
     e6 ∙ ap (λ n. n ++ codes "\n") (e5 ∙ ap (λ n. n ++ time_field time)
-        (e4 ∙ ap (λ n. n ++ node_text node) (e3 ∙ ap (λ n. n ++ kind) (e2 ∙ ap (λ n. n ++ codes " ") (e1 ∙ sym (append_assoc o (codes "op") (field place)))))
-        ∙ push_front ((((o ++ codes "op") ++ field place) ++ codes " ") ++ kind) (codes " delay") (node_parts node [])))
+    (e4 ∙ ap (λ n. n ++ node_text node) (e3 ∙ ap (λ n. n ++ kind) (e2 ∙ ap (λ n. n ++ codes " ") (e1 ∙ sym (append_assoc o (codes "op") (field place)))))
+    ∙ push_front ((((o ++ codes "op") ++ field place) ++ codes " ") ++ kind) (codes " delay") (node_parts node [])))
     ∙ sym (push_front o (codes "op") (field place ∷ codes " " ∷ kind ∷ codes " delay" ∷ node_parts node (time_field time ∷ codes "\n" ∷ [])))
 
 pub report_parts : (o n1 n2 n3 n4 : List ℕ) (r : Report) (period : ℕ) (blocks : List ReportBlock) → period ≡ r.period → blocks ≡ r.blocks → n1 ≡ o ++ codes "longnail report 1\n" → n2 ≡ n1 ++ (codes "period" ++ field period) → n3 ≡ n2 ++ codes "\n"

@@ -1,5 +1,5 @@
 -- The problem of a behaviour in the range of its form.
-use Rattle.std.proofs.Common.{◌≡◌, ◌≢◌, ℕ, ◌<◌, ◌⊎◌, inl, inr, ap, arith}
+use Rattle.std.proofs.Common.{◌≢◌, ℕ, inl, inr, ap, arith}
 use Rattle.ix_sheet.specs.Schedules.{IsValidProblem}
 use Rattle.ix_cert.specs.declared.report.ReportBlock.{ReportBlock}
 use Rattle.ix_cert.specs.Layout.{IsBlockInForm, IsBefore}

@@ -18,9 +18,9 @@ use Rattle.ix_cert.specs.Layout.{Line, IsInForm, IsKindName, IsEdgeInForm, Begin
 use Rattle.ix_cert.specs.Items.{IsItem, item_line, operation, report_items}
 use Rattle.ix_cert.specs.Steps.{MayFollow, HasMode, IsTimed, reading, after, run, start, AllFollow}
 use Rattle.ix_cert.specs.Refusals.{IsNext, NoNext}
-use Rattle.ix_cert.proofs.Lined.{EachItem, each_join, report_are, report_each}
+use Rattle.ix_cert.proofs.Lined.{EachItem, each_join, map_join, report_are, report_each}
 use Rattle.ix_cert.proofs.Decoded.{one_item}
-use Rattle.ix_cert.proofs.Walked.{run_join, report_leads}
+use Rattle.ix_cert.proofs.Walked.{follow_join, run_join, report_leads}
 use Rattle.ix_cert.proofs.Kept.{IsSound, IsSoundAt, IsOpen, HasGiven, AreDone, so_far, keep_all, start_sound}
 
 -- items with which a report is whole
@@ -85,8 +85,10 @@ complete_none period blocks b costed [] (node ∷ ops) o m z c n = record {
 complete_none period blocks b costed [] [] o m z c n = record {
   extra = first_op ∷ Cycle (Early 0) ∷ End ∷ [];
   each = (first_good, (omega arith, (tt, tt)));
-  follow = (record { open_cost = z; place = sym (ap length n); no_edges = no_edge b.problem.edges (subst (λ l. All (IsEdgeInForm (length l)) b.problem.edges) n o.edges); no_cycle = c; timed = untimed_mode b.mode m },
-    ((m, omega (arith, length-append b.problem.ops (no_delay ∷ []))), ((λ _. some_behind b.cycle (Early 0)), tt)));
+  follow = (
+    record { open_cost = z; place = sym (ap length n); no_edges = no_edge b.problem.edges (subst (λ l. All (IsEdgeInForm (length l)) b.problem.edges) n o.edges); no_cycle = c; timed = untimed_mode b.mode m },
+    ((m, omega (arith, length-append b.problem.ops (no_delay ∷ []))), ((λ _. some_behind b.cycle (Early 0)), tt)),
+  );
   period = period;
   blocks = _;
   comes = refl;
@@ -118,13 +120,6 @@ complete period blocks place.Between s = record { extra = []; each = tt; follow 
 complete period blocks (place.Inside b costed) s = complete_inside period blocks b costed b.mode s.1 refl s.1.told
 
 -- ---- lines that were read
-follow_join : (from : Reading) (xs ys : List Item) → AllFollow from xs → AllFollow (run from xs) ys → AllFollow from (xs ++ ys)
-follow_join from [] ys a b = b
-follow_join from (x ∷ xs) ys a b = (a.0, follow_join (after from x) xs ys a.1 b)
-
-map_join : (xs ys : List Item) → map item_line (xs ++ ys) ≡ map item_line xs ++ map item_line ys
-map_join [] ys = refl
-map_join (x ∷ xs) ys = ap (λ l. item_line x ∷ l) (map_join xs ys)
 
 -- items after which a report is whole are those of the report
 pub record IsWhole (items : List Item) (period : ℕ) (blocks : List ReportBlock) : Type 0 where

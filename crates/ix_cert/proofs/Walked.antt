@@ -22,7 +22,7 @@ pub record Leads (from : Reading) (items : List Item) (to : Reading) : Type 0 wh
   pub follow : AllFollow from items
   pub comes : run from items ≡ to
 
-follow_join : (from : Reading) (xs ys : List Item) → AllFollow from xs → AllFollow (run from xs) ys → AllFollow from (xs ++ ys)
+pub follow_join : (from : Reading) (xs ys : List Item) → AllFollow from xs → AllFollow (run from xs) ys → AllFollow from (xs ++ ys)
 follow_join from [] ys a b = b
 follow_join from (x ∷ xs) ys a b = (a.0, follow_join (after from x) xs ys a.1 b)
 
@@ -60,8 +60,8 @@ untimed_leads period blocks name kinds ops k (kind ∷ more) [] e l = absurd (om
 untimed_leads period blocks name kinds ops k (kind ∷ more) (node ∷ nodes) e l =
     leads_cons _ _ _ _ (record { open_cost = refl; place = e; no_edges = refl; no_cycle = refl; timed = tt })
     (subst (λ to. Leads (in_block period blocks false (block_of name None period (kinds ++ kind ∷ []) (ops ++ node ∷ []) [] [] 0 [] [])) (untimed_items (k + 1) more nodes) to)
-      (rw (push_more kinds kind more, push_more ops node nodes) refl)
-      (untimed_leads period blocks name (kinds ++ kind ∷ []) (ops ++ node ∷ []) (k + 1) more nodes (next_place k ops node e) (omega (arith, l))))
+    (rw (push_more kinds kind more, push_more ops node nodes) refl)
+    (untimed_leads period blocks name (kinds ++ kind ∷ []) (ops ++ node ∷ []) (k + 1) more nodes (next_place k ops node e) (omega (arith, l))))
 
 timed_leads : (period : ℕ) (blocks : List ReportBlock) (name : Line) (mode : Mode) (kinds : List Line) (ops : List Node) (times : List ℕ) (k : ℕ) (more : List Line) (nodes : List Node) (later : List ℕ)
     → k ≡ length ops → length more ≡ length nodes → length later ≡ length nodes
@@ -74,8 +74,8 @@ timed_leads period blocks name mode kinds ops times k (kind ∷ more) (node ∷ 
 timed_leads period blocks name mode kinds ops times k (kind ∷ more) (node ∷ nodes) (time ∷ later) e l t =
     leads_cons _ _ _ _ (record { open_cost = refl; place = e; no_edges = refl; no_cycle = refl; timed = tt })
     (subst (λ to. Leads (in_block period blocks false (block_of name (Some mode) period (kinds ++ kind ∷ []) (ops ++ node ∷ []) [] (times ++ time ∷ []) 0 [] [])) (timed_items (k + 1) more nodes later) to)
-      (rw (push_more kinds kind more, push_more ops node nodes, push_more times time later) refl)
-      (timed_leads period blocks name mode (kinds ++ kind ∷ []) (ops ++ node ∷ []) (times ++ time ∷ []) (k + 1) more nodes later (next_place k ops node e) (omega (arith, l)) (omega (arith, t))))
+    (rw (push_more kinds kind more, push_more ops node nodes, push_more times time later) refl)
+    (timed_leads period blocks name mode (kinds ++ kind ∷ []) (ops ++ node ∷ []) (times ++ time ∷ []) (k + 1) more nodes later (next_place k ops node e) (omega (arith, l)) (omega (arith, t))))
 
 -- the last edge before one is before it
 pairs_tail : {X : Type 0} (R : X → X → Type 0) (x : X) (xs : List X) → AllPairs R (x ∷ xs) → AllPairs R xs
@@ -100,8 +100,8 @@ edges_lead period blocks name mode kinds ops times done (e ∷ left) a p =
     let here = All-head (IsEdgeInForm (length ops)) e left a in
     leads_cons _ _ _ _ (record { open_cost = refl; no_cycle = refl; forward = here.0; there = here.1; behind = last_before done e left p })
     (subst (λ to. Leads (in_block period blocks false (block_of name mode period kinds ops (done ++ e ∷ []) times 0 [] [])) (map edge_item left) to)
-      (rw (push_more done e left) refl)
-      (edges_lead period blocks name mode kinds ops times (done ++ e ∷ []) left (All-tail (IsEdgeInForm (length ops)) e left a) (subst (λ l. AllPairs IsBefore l) (sym (push_more done e left)) p)))
+    (rw (push_more done e left) refl)
+    (edges_lead period blocks name mode kinds ops times (done ++ e ∷ []) left (All-tail (IsEdgeInForm (length ops)) e left a) (subst (λ l. AllPairs IsBefore l) (sym (push_more done e left)) p)))
 
 flow_leads : (period : ℕ) (blocks : List ReportBlock) (name : Line) (mode : Option Mode) (kinds : List Line) (ops : List Node) (edges : List (ℕ × ℕ)) (times : List ℕ) (cost : ℕ) (done left : List (Bound × ℕ))
     → All (IsPartInForm (length ops)) left
@@ -110,8 +110,8 @@ flow_leads period blocks name mode kinds ops edges times cost done [] a = leads_
 flow_leads period blocks name mode kinds ops edges times cost done (c ∷ left) a =
     leads_cons _ _ _ _ (refl, (All-head (IsPartInForm (length ops)) c left a).bound)
     (subst (λ to. Leads (in_block period blocks true (block_of name mode period kinds ops edges times cost (done ++ c ∷ []) [])) (map flow_item left) to)
-      (rw (push_more done c left) refl)
-      (flow_leads period blocks name mode kinds ops edges times cost (done ++ c ∷ []) left (All-tail (IsPartInForm (length ops)) c left a)))
+    (rw (push_more done c left) refl)
+    (flow_leads period blocks name mode kinds ops edges times cost (done ++ c ∷ []) left (All-tail (IsPartInForm (length ops)) c left a)))
 
 cycle_leads : (period : ℕ) (blocks : List ReportBlock) (name : Line) (kinds : List Line) (ops : List Node) (edges : List (ℕ × ℕ)) (done left : List Bound)
     → All (IsBoundInForm (length ops)) left
@@ -120,8 +120,8 @@ cycle_leads period blocks name kinds ops edges done [] a = leads_none _ _ (rw (a
 cycle_leads period blocks name kinds ops edges done (bound ∷ left) a =
     leads_cons _ _ _ _ (refl, All-head (IsBoundInForm (length ops)) bound left a)
     (subst (λ to. Leads (in_block period blocks false (block_of name None period kinds ops edges [] 0 [] (done ++ bound ∷ []))) (map Cycle left) to)
-      (rw (push_more done bound left) refl)
-      (cycle_leads period blocks name kinds ops edges (done ++ bound ∷ []) left (All-tail (IsBoundInForm (length ops)) bound left a)))
+    (rw (push_more done bound left) refl)
+    (cycle_leads period blocks name kinds ops edges (done ++ bound ∷ []) left (All-tail (IsBoundInForm (length ops)) bound left a)))
 
 end_leads : (period : ℕ) (blocks : List ReportBlock) (costed : Bool) (b : ReportBlock) → (costed ≡ false → b.cycle ≢ []) → Leads (in_block period blocks costed b) (End ∷ []) (reading period (blocks ++ b ∷ []) place.Between)
 end_leads period blocks costed b m = leads_cons _ _ _ _ m (leads_none _ _ refl)
@@ -132,29 +132,29 @@ part_leads : (period : ℕ) (blocks : List ReportBlock) (name : Line) (mode : Op
     → Leads (reading period blocks place.Between) (block_items (block_of name mode period kinds ops edges times cost flow cycle)) (reading period (blocks ++ block_of name mode period kinds ops edges times cost flow cycle ∷ []) place.Between)
 part_leads period blocks name None kinds ops edges times cost flow cycle c e o h =
     rw (h.0, h.1, h.2) (leads_cons _ _ _ _ tt
-      (leads_join _ _ _ (untimed_items 0 kinds ops) _ (untimed_leads period blocks name [] [] 0 kinds ops refl c)
-      (leads_join _ _ _ (map edge_item edges) _ (edges_lead period blocks name None kinds ops [] [] edges e o)
-      (leads_join _ _ _ (map Cycle cycle) _ (cycle_leads period blocks name kinds ops edges [] cycle h.3)
-      (end_leads period blocks false _ (λ _. h.4))))))
+    (leads_join _ _ _ (untimed_items 0 kinds ops) _ (untimed_leads period blocks name [] [] 0 kinds ops refl c)
+    (leads_join _ _ _ (map edge_item edges) _ (edges_lead period blocks name None kinds ops [] [] edges e o)
+    (leads_join _ _ _ (map Cycle cycle) _ (cycle_leads period blocks name kinds ops edges [] cycle h.3)
+    (end_leads period blocks false _ (λ _. h.4))))))
 part_leads period blocks name (Some mode) kinds ops edges times cost flow cycle c e o h =
     rw h.4 (leads_cons _ _ _ _ tt
-      (leads_join _ _ _ (timed_items 0 kinds ops times) _ (timed_leads period blocks name mode [] [] [] 0 kinds ops times refl c h.0)
-      (leads_join _ _ _ (map edge_item edges) _ (edges_lead period blocks name (Some mode) kinds ops times [] edges e o)
-      (leads_cons _ _ _ _ (refl, tt)
-      (leads_join _ _ _ (map flow_item flow) _ (flow_leads period blocks name (Some mode) kinds ops edges times cost [] flow h.3)
-      (end_leads period blocks true _ (λ z. absurd cc)))))))
+    (leads_join _ _ _ (timed_items 0 kinds ops times) _ (timed_leads period blocks name mode [] [] [] 0 kinds ops times refl c h.0)
+    (leads_join _ _ _ (map edge_item edges) _ (edges_lead period blocks name (Some mode) kinds ops times [] edges e o)
+    (leads_cons _ _ _ _ (refl, tt)
+    (leads_join _ _ _ (map flow_item flow) _ (flow_leads period blocks name (Some mode) kinds ops edges times cost [] flow h.3)
+    (end_leads period blocks true _ (λ z. absurd cc)))))))
 
 pub block_leads : (period : ℕ) (blocks : List ReportBlock) (b : ReportBlock) → IsBlockInForm period b → Leads (reading period blocks place.Between) (block_items b) (reading period (blocks ++ b ∷ []) place.Between)
 block_leads period blocks b f =
     subst (λ q. Leads (reading q blocks place.Between) (block_items b) (reading q (blocks ++ b ∷ []) place.Between)) f.period_is
-      (part_leads b.problem.period blocks b.name b.mode b.kinds b.problem.ops b.problem.edges b.times b.cost b.flow b.cycle f.count f.edges f.ordered f.certificate)
+    (part_leads b.problem.period blocks b.name b.mode b.kinds b.problem.ops b.problem.edges b.times b.cost b.flow b.cycle f.count f.edges f.ordered f.certificate)
 
 blocks_lead : (period : ℕ) (done left : List ReportBlock) → All (IsBlockInForm period) left → Leads (reading period done place.Between) (flat_map block_items left) (reading period (done ++ left) place.Between)
 blocks_lead period done [] a = leads_none _ _ (rw (append-nil done) refl)
 blocks_lead period done (b ∷ left) a =
     leads_join _ _ _ (block_items b) (flat_map block_items left) (block_leads period done b (All-head (IsBlockInForm period) b left a))
     (subst (λ to. Leads (reading period (done ++ b ∷ []) place.Between) (flat_map block_items left) to) (rw (push_more done b left) refl)
-      (blocks_lead period (done ++ b ∷ []) left (All-tail (IsBlockInForm period) b left a)))
+    (blocks_lead period (done ++ b ∷ []) left (All-tail (IsBlockInForm period) b left a)))
 
 -- the items of a report in the range of its form lead to it
 pub report_leads : (r : Report) → IsInForm r → Leads start (report_items r) (reading r.period r.blocks place.Between)

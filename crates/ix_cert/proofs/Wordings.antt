@@ -94,9 +94,3 @@ pub path_more : (x : List ℕ) (n : ℕ) (ws : List (Bor Line)) (i : ℕ) (d : B
 path_more x n ws i d e s l =
     let j : i + 1 ≡ suc i = omega arith in
     map_behind x n ∙ ap (λ t. t ++ decimal n ∷ []) e ∙ ap (λ w. take i (texts ws) ++ w ∷ []) s ∙ sym (take_more ws i d l) ∙ ap (λ k. take k (texts ws)) (sym j)
-
-pub take_whole : (ws : List (Bor Line)) (i : ℕ) → length ws ≤ i → take i (texts ws) ≡ texts ws
-take_whole [] zero l = refl
-take_whole [] (suc i) l = refl
-take_whole (v ∷ ws) zero l = absurd (omega (arith, l))
-take_whole (v ∷ ws) (suc i) l = ap (λ t. v.now ∷ t) (take_whole ws i (omega (arith, l)))

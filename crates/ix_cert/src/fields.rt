@@ -46,11 +46,7 @@ pub fn counted<'a, 'b>(words: &'a [&'b [u8]], most: u64) -> Option<(u64, &'a [&'
 }
 
 /// The number behind a label, at most `most`, and the words behind it.
-fn labelled<'a, 'b>(
-    words: &'a [&'b [u8]],
-    label: &[u8],
-    most: u64,
-) -> Option<(u64, &'a [&'b [u8]])>
+fn labelled<'a, 'b>(words: &'a [&'b [u8]], label: &[u8], most: u64) -> Option<(u64, &'a [&'b [u8]])>
     ensures { IsLabelled label.now most (texts words.now) result }
 {
     let Some((first, rest)) = parted(words) else {

@@ -7,6 +7,9 @@ use crate::word::{is_name, mode, name};
 use ix_bits::Memory;
 use std::alloc::Global;
 
+/// The least amount of a bound in a flow.
+const LEAST_AMOUNT: u64 = 1;
+
 fn title(words: &[&[u8]]) -> Option<Item>
     ensures { IsReading IsItem item_words (codes "longnail" ∷ texts words.now) result }
 {
@@ -96,7 +99,7 @@ fn flow(alloc: Global, words: &[&[u8]]) -> Result<Option<Item>, Memory>
     let Some((amount, rest)) = counted(words, u64::MAX) else {
         return Ok(None);
     };
-    if amount == 0 {
+    if amount < LEAST_AMOUNT {
         return Ok(None);
     }
     match bound(alloc, rest)? {

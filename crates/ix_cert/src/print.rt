@@ -92,7 +92,13 @@ fn put_time(out: &mut Vec<u8>, time: Option<u8>) -> Result<(), Memory>
     }
 }
 
-fn put_op(out: &mut Vec<u8>, place: u64, kind: &str, node: &Node, time: Option<u8>) -> Result<(), Memory>
+fn put_op(
+    out: &mut Vec<u8>,
+    place: u64,
+    kind: &str,
+    node: &Node,
+    time: Option<u8>,
+) -> Result<(), Memory>
     ensures { OnOk result (out.new.items ≡ out.old.items ++ (op_line place kind.now node.now (time_field time) ++ 10 ∷ [])) }
 {
     put_labelled(out, "op", place)?;

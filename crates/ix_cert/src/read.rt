@@ -57,7 +57,11 @@ fn with_item(alloc: Global, reading: Reading, item: Item) -> Result<Option<Readi
 fn ended(reading: Reading) -> Option<Report>
     ensures { MatchOption result (reading.place ≢ at.Between) (λ report. (reading.place ≡ at.Between) × (report ≡ report_of reading)) }
 {
-    let Reading { period, blocks, place } = reading;
+    let Reading {
+        period,
+        blocks,
+        place,
+    } = reading;
     match place {
         Place::Between => Some(Report { period, blocks }),
         _ => None,
@@ -68,13 +72,7 @@ fn without_last_empty<'a, 'b>(lines: &'a [&'b [u8]]) -> &'a [&'b [u8]]
     ensures { texts result.now ≡ specified_without_last_empty (texts lines.now) }
 {
     match lines {
-        [front @ .., last] => {
-            if last.is_empty() {
-                front
-            } else {
-                lines
-            }
-        }
+        [front @ .., last] => { if last.is_empty() { front } else { lines } }
         [] => lines,
     }
 }
@@ -118,13 +116,17 @@ fn read_lines(alloc: Global, lines: &[&[u8]], first: u32) -> Result<Report, Cert
     for (i, line) in lines.iter().enumerate() {
         match next(alloc, reading, *line) {
             Ok(Some(more)) => reading = more,
-            Ok(None) => return Err(CertErr::Line { line: first + i as u32 }),
+            Ok(None) => return Err(CertErr::Line {
+                line: first + i as u32,
+            }),
             Err(_) => return Err(CertErr::Memory),
         }
     }
     match ended(reading) {
         Some(report) => Ok(report),
-        None => Err(CertErr::Line { line: first + lines.len() as u32 }),
+        None => Err(CertErr::Line {
+            line: first + lines.len() as u32,
+        }),
     }
 }
 

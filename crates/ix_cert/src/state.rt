@@ -60,9 +60,7 @@ fn is_behind(edges: &[(u32, u32)], from: u32, to: u32) -> bool
     ensures { Tells result (IsBehind (last_edge edges.now) (from, to)) }
 {
     match edges.last() {
-        Some((last_from, last_to)) => {
-            *last_to < to || (*last_to == to && *last_from < from)
-        }
+        Some((last_from, last_to)) => { *last_to < to || (*last_to == to && *last_from < from) }
         None => true,
     }
 }
@@ -194,13 +192,29 @@ fn ended(blocks: List<ReportBlock>, block: ReportBlock) -> Result<List<ReportBlo
 pub fn after(alloc: Global, reading: Reading, item: Item) -> Result<Reading, Memory>
     ensures { IfOk result (λ more. more ≡ specified_after reading item) }
 {
-    let Reading { period, blocks, place } = reading;
+    let Reading {
+        period,
+        blocks,
+        place,
+    } = reading;
     match (place, item) {
-        (Place::Title, _) => Ok(Reading { period, blocks, place: Place::Period }),
-        (Place::Period, Item::Period(period)) => Ok(Reading { period, blocks, place: Place::Between }),
+        (Place::Title, _) => Ok(Reading {
+            period,
+            blocks,
+            place: Place::Period,
+        }),
+        (Place::Period, Item::Period(period)) => Ok(Reading {
+            period,
+            blocks,
+            place: Place::Between,
+        }),
         (Place::Between, Item::Behaviour(name, mode)) => {
             let block = begun(alloc, name, mode, period);
-            Ok(Reading { period, blocks, place: Place::Inside(block, false) })
+            Ok(Reading {
+                period,
+                blocks,
+                place: Place::Inside(block, false),
+            })
         }
         (Place::Inside(block, _), Item::End) => Ok(Reading {
             period,
@@ -212,6 +226,10 @@ pub fn after(alloc: Global, reading: Reading, item: Item) -> Result<Reading, Mem
             blocks,
             place: inside(block, costed, item)?,
         }),
-        (place, _) => Ok(Reading { period, blocks, place }),
+        (place, _) => Ok(Reading {
+            period,
+            blocks,
+            place,
+        }),
     }
 }

@@ -39,4 +39,4 @@ pub returns-clause-refuses : goal.returns-clause-refuses
 returns-clause-refuses c = λ n bad.
     let cut = c.without_last_empty.ensures ∙ ap without_last_empty (ap texts c.as_slice.ensures.value ∙ c.in-Ok.ensures) in
     let told = told_line c.args.bytes.now (texts c.behind_refusal-first.result.0.now) c.behind_refusal-first.result.1 c.in-Err.error (c.behind_refusal-first.ensures.behind ∙ ap behind_refusal cut) (c.behind_refusal-first.ensures.first ∙ ap first_line cut) c.in-Err.ensures.refused in
-    elim (err_refuses c.args.bytes.now c.in-Err.error told n bad) [ | inl h ↦ inl (ap (λ e. Err e) h) | inr h ↦ inr (ap (λ e. Err e) h) ]
+    elim (err_refuses c.args.bytes.now c.in-Err.error told n bad) [ inl h ↦ inl (ap (λ e. Err e) h) | inr h ↦ inr (ap (λ e. Err e) h) ]
