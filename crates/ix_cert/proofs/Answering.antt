@@ -5,7 +5,7 @@ use Rattle.ix_cert.specs.declared.report.CertErr.{CertErr}
 use Rattle.ix_cert.specs.declared.report.CertErr.TheVariants.{Line, Dep, Window, Chain, Balance, Value, NotPositive, NotClosed, Memory}
 use Rattle.ix_cert.specs.declared.report.Report.{Report}
 use Rattle.ix_cert.specs.Layout.{lines_of, first_line, IsReportText, IsBadLine}
-use Rattle.ix_cert.specs.Faults.{IsFirstFault, HasNoFault, steps_of, IsCertified}
+use Rattle.ix_cert.specs.Faults.{IsFirstFault, HasNoFault, steps_of}
 use Rattle.ix_cert.specs.Checks.{Judges, lines_in, IsReadyIn}
 use Rattle.ix_cert.specs.Certificates.{IsCertifiedText, IsFaultless, IsFaulty, IsRefused, Accepts, Refuses}
 use Rattle.ix_cert.proofs.OneFault.{one_fault, no_fault}

@@ -1,10 +1,9 @@
 -- Balances of a flow, from amounts at operations; cycles from their parts.
-use Rattle.std.proofs.Common.{◌≡◌, ◌≢◌, ℕ, zero, suc, ◌+◌, ◌-◌, ◌*◌, ◌≤◌, ◌<◌, ◌==◌, if◌then◌else◌, List, [], ◌∷◌, ◌++◌, length, get_or, map, Some, None, refl, sym, ◌∙◌, ap, subst, arith, ◌⊎◌, inl, inr}
-use Rattle.std.specs.Prelude.{Option, All, sum_by}
+use Rattle.std.proofs.Common.{◌≡◌, ◌≢◌, ℕ, ◌+◌, ◌<◌, ◌==◌, if◌then◌else◌, List, [], ◌∷◌, length, get_or, map, Some, None, refl, ◌∙◌, ap, arith}
+use Rattle.std.specs.Prelude.{Option, sum_by}
 use Rattle.std.proofs.lemmas.List.Sums.{sum_by-cons, sum_by-append}
 use Rattle.ix_sheet.specs.declared.problem.Bound.{Bound}
 use Rattle.ix_sheet.specs.declared.problem.Problem.{Problem}
-use Rattle.ix_sheet.specs.Schedules.{node_at}
 use Rattle.ix_sheet.specs.Bounds.{arc_of, Flow, amount_at, inflow, outflow, weight_in, weight_out}
 use Rattle.ix_cert.specs.declared.report.ReportBlock.{ReportBlock}
 use Rattle.ix_cert.specs.Faults.{IsUnbalanced}

@@ -1,25 +1,21 @@
 -- Steps of the check, one after the other, and what it means that none has a fault.
-use Rattle.std.proofs.Common.{◌≡◌, ◌≢◌, ℕ, zero, suc, ◌+◌, ◌-◌, ◌*◌, ◌≤◌, ◌<◌, ◌==◌, nat_lt, Bool, true, false, List, [], ◌∷◌, ◌++◌, length, get_or, Some, None, refl, sym, ◌∙◌, ap, subst, arith, ◌⊎◌, inl, inr}
-use Rattle.std.specs.Prelude.{Option, All, AllPairs, Contains, sum_by}
-use Rattle.std.proofs.lemmas.Bool.{cases_Bool, eqb-true, eq-eqb}
-use Rattle.std.proofs.lemmas.Bool.Decides.{nat_tests}
+use Rattle.std.proofs.Common.{◌≡◌, ◌≢◌, ℕ, suc, ◌+◌, ◌-◌, ◌*◌, ◌≤◌, ◌<◌, List, [], ◌∷◌, ◌++◌, length, get_or, Some, None, refl, ◌∙◌, ap, subst, arith, ◌⊎◌, inl, inr}
+use Rattle.std.specs.Prelude.{Option, All, sum_by}
 use Rattle.std.proofs.lemmas.List.{get_or_default}
 use Rattle.std.proofs.lemmas.List.Elements.{All-nil, All-cons, All-head, All-tail}
-use Rattle.std.proofs.lemmas.List.Sums.{sum_by-cons}
 use Rattle.ix_graph.specs.declared.graph.Mode.{Mode}
 use Rattle.ix_sheet.specs.declared.problem.Bound.{Bound}
 use Rattle.ix_sheet.specs.declared.problem.Bound.TheVariants.{Early}
 use Rattle.ix_sheet.specs.declared.problem.Problem.{Problem}
-use Rattle.ix_sheet.specs.Schedules.{node_at, IsAfter, IsInWindow, KeepsPeriod, IsFreePath, first_of, last_of, delay_along, IsLegal, IsSchedule, IsCheapest, HasSchedule, cost, weight_of}
+use Rattle.ix_sheet.specs.Schedules.{node_at, IsAfter, IsInWindow, IsFreePath, last_of, delay_along, IsLegal, IsSchedule, IsCheapest, HasSchedule, cost, weight_of}
 use Rattle.ix_sheet.proofs.Duality.{cheapest_by_flow}
 use Rattle.ix_sheet.proofs.Cycles.{no_schedule}
 use Rattle.ix_sheet.proofs.Paths.{last_inside}
 use Rattle.ix_sheet.specs.Bounds.{IsBoundOf, arc_of, inflow, outflow, weight_in, weight_out, IsBalanced, IsDualFlow, HasValue, Leads, IsContradiction}
-use Rattle.ix_sheet.specs.Laws.{FlowLaw, CycleLaw}
 use Rattle.ix_cert.specs.declared.report.CertErr.{CertErr}
 use Rattle.ix_cert.specs.declared.report.ReportBlock.{ReportBlock}
-use Rattle.ix_cert.specs.Faults.{Step, IsFirstBad, HasNoBad, IsFirstFault, HasNoFault, times_of, IsBroken, IsOutside, IsPassed, IsOtherCost, blank_part, NamesNone, IsUnbalanced, IsOtherValue, end_before, IsOpen, IsNotPositive, times_steps, flow_steps, cycle_steps, steps_in, block_count, steps_from, IsCertifiedIn, IsCertified}
-use Rattle.ix_cert.specs.Checks.{Tells, has_value, IsReady, IsReadySchedule, IsReadyCycle, IsReadyIn}
+use Rattle.ix_cert.specs.Faults.{Step, IsFirstBad, HasNoBad, IsFirstFault, HasNoFault, times_of, IsBroken, IsOutside, blank_part, NamesNone, IsUnbalanced, end_before, IsOpen, times_steps, flow_steps, cycle_steps, steps_in, block_count, steps_from, IsCertifiedIn, IsCertified}
+use Rattle.ix_cert.specs.Checks.{Tells, IsReadySchedule, IsReadyCycle, IsReadyIn}
 use Rattle.ix_cert.proofs.BoundTests.{bound_or_not}
 
 -- ---- steps

@@ -1,8 +1,7 @@
 -- How many lines a report has, and how many bytes they take; what a report in form is ready for.
-use Rattle.std.proofs.Common.{◌≡◌, ◌≢◌, ℕ, zero, suc, ◌+◌, ◌*◌, ◌^◌, ◌≤◌, ◌<◌, ◌==◌, Bool, true, false, cond, List, [], ◌∷◌, ◌++◌, length, get_or, map, Some, None, refl, sym, ◌∙◌, ap, subst, arith, codes, decimal, ◌⊎◌, inl, inr}
-use Rattle.std.specs.Prelude.{Option, All, AllPairs, sum_by}
+use Rattle.std.proofs.Common.{◌≡◌, ℕ, ◌+◌, ◌*◌, ◌≤◌, ◌<◌, ◌==◌, Bool, List, [], ◌∷◌, ◌++◌, length, get_or, map, Some, None, refl, sym, ap, subst, arith, codes, inl, inr}
+use Rattle.std.specs.Prelude.{Option, All, sum_by}
 use Rattle.std.specs.List.{flat_map, slice_split, onto_first}
-use Rattle.std.specs.Str.{bytes_eq}
 use Rattle.std.proofs.lemmas.Bool.{cases_Bool}
 use Rattle.std.proofs.lemmas.List.{length-append, length-map}
 use Rattle.std.proofs.lemmas.List.Sums.{sum_by-cons}
@@ -10,13 +9,12 @@ use Rattle.std.proofs.lemmas.List.Elements.{All-nil, All-cons, All-head, All-tai
 use Rattle.ix_graph.specs.declared.graph.Mode.{Mode}
 use Rattle.ix_sheet.specs.declared.problem.Bound.{Bound}
 use Rattle.ix_sheet.specs.declared.problem.Node.{Node}
-use Rattle.ix_sheet.specs.declared.problem.Problem.{Problem}
-use Rattle.ix_sheet.specs.Schedules.{IsValidProblem}
 use Rattle.ix_cert.specs.declared.report.Report.{Report}
 use Rattle.ix_cert.specs.declared.report.ReportBlock.{ReportBlock}
-use Rattle.ix_cert.specs.Layout.{Line, op_line, time_text, timed_lines, untimed_lines, edge_line, flow_line, cycle_line, op_lines, certificate_lines, block_lines, report_lines, IsPartInForm, IsBefore, HasCertificate, IsBlockInForm, IsInForm, without_last_empty, lines_of, is_refusal, behind_refusal, first_line, IsReportText, mode_text, field}
+use Rattle.ix_cert.specs.Layout.{Line, op_line, time_text, timed_lines, untimed_lines, edge_line, flow_line, cycle_line, op_lines, certificate_lines, block_lines, report_lines, HasCertificate, IsBlockInForm, without_last_empty, lines_of, is_refusal, behind_refusal, first_line, IsReportText, mode_text, field}
 use Rattle.ix_cert.specs.Faults.{certificate_count, block_count}
-use Rattle.ix_cert.specs.Checks.{lines_in, IsReady, IsReadySchedule, IsReadyCycle, IsReadyIn}
+use Rattle.ix_cert.proofs.Problems.{valid_problem}
+use Rattle.ix_cert.specs.Checks.{lines_in, IsReadyIn}
 
 -- ---- bytes and lines
 abbrev wide : Line → ℕ
@@ -186,22 +184,11 @@ room_for_lines bytes r text small =
     omega (arith, first, split, last, behind, same, double, count, small)
 
 -- ---- readiness
-before_differ : (e f : ℕ × ℕ) → IsBefore e f → e ≡ f → ⊥
-before_differ e f (inl a) h = omega (arith, a, ap (λ (x : ℕ × ℕ). x.1) h)
-before_differ e f (inr a) h = omega (arith, a.1, ap (λ (x : ℕ × ℕ). x.0) h)
-
-pub problem_in_form : (period : ℕ) (b : ReportBlock) → IsBlockInForm period b → IsValidProblem b.problem
-problem_in_form period b form = record {
-  few = form.few;
-  forward = form.edges;
-  once = λ i j d less inside. before_differ (get_or b.problem.edges i d) (get_or b.problem.edges j d) (form.ordered i j d less inside);
-}
-
 ready_in : (period : ℕ) (b : ReportBlock) (mode : Option Mode) → IsBlockInForm period b → HasCertificate b mode → certificate_count b mode < 4294967296 → IsReadyIn b mode
 ready_in period b None form has small =
-    record { ready = record { valid = problem_in_form period b form; ordered = form.ordered; nodes = form.nodes }; form = has.3 }
+    record { ready = record { valid = valid_problem period b form; ordered = form.ordered; nodes = form.nodes }; form = has.3 }
 ready_in period b (Some mode) form has small = record {
-  ready = record { valid = problem_in_form period b form; ordered = form.ordered; nodes = form.nodes };
+  ready = record { valid = valid_problem period b form; ordered = form.ordered; nodes = form.nodes };
   times = has.0;
   form = λ k d h. (has.3 k d h).bound;
   few = omega (arith, small);

@@ -1,7 +1,7 @@
 -- One thing is told of each list of steps.
-use Rattle.std.proofs.Common.{◌≡◌, ℕ, ◌≤◌, ◌<◌, List, [], ◌∷◌, sym, ◌∙◌, ap, arith, ◌⊎◌, inl, inr}
+use Rattle.std.proofs.Common.{◌≡◌, ℕ, ◌<◌, List, [], ◌∷◌, sym, ◌∙◌, ap, arith, ◌⊎◌, inl, inr}
 use Rattle.ix_cert.specs.declared.report.CertErr.{CertErr}
-use Rattle.ix_cert.specs.Faults.{Step, IsFirstBad, HasNoBad, IsFirstFault, HasNoFault}
+use Rattle.ix_cert.specs.Faults.{Step, IsFirstBad, IsFirstFault, HasNoFault}
 
 first_of_two : (i j : ℕ) → (i < j) ⊎ ((i ≡ j) ⊎ (j < i))
 first_of_two i j = grind arith

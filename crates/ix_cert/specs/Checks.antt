@@ -1,10 +1,10 @@
 -- What the functions of the check tell. No clause of a public call cites this.
-use Rattle.std.specs.Prelude.{◌≡◌, ℕ, zero, suc, ◌+◌, ◌*◌, ◌<◌, ◌≤◌, ◌==◌, ◌&&◌, Bool, true, false, List, [], ◌∷◌, ◌++◌, map, length, slice_index, slice_index_or, sum_by, All, AllPairs, Result, Ok, Err, ◌≢◌, Option, Some, None, nat_lt, nat_le, ◌||◌}
+use Rattle.std.specs.Prelude.{◌≡◌, ℕ, ◌+◌, ◌*◌, ◌<◌, ◌≤◌, ◌==◌, ◌&&◌, Bool, true, false, List, [], ◌∷◌, ◌++◌, map, length, slice_index, slice_index_or, sum_by, All, AllPairs, Result, Ok, Err, ◌≢◌, Option, Some, None, nat_lt, nat_le, ◌||◌}
 use Rattle.std.specs.List.{list_any}
 use Rattle.ix_sheet.specs.declared.problem.Bound.{Bound}
 use Rattle.ix_sheet.specs.declared.problem.Bound.TheVariants.{Early, Late, Dep, Chain}
 use Rattle.ix_sheet.specs.declared.problem.Problem.{Problem}
-use Rattle.ix_sheet.specs.Schedules.{IsValidProblem, node_at, weight_of, HasFreeEdge, IsFreePath, first_of, last_of, delay_along}
+use Rattle.ix_sheet.specs.Schedules.{IsValidProblem, node_at, weight_of, IsFreePath, first_of, last_of, delay_along}
 use Rattle.ix_sheet.specs.Bounds.{arc_of, Flow, amount_at}
 use Rattle.ix_graph.specs.declared.graph.Mode.{Mode}
 use Rattle.ix_cert.specs.declared.report.ReportBlock.{ReportBlock}

@@ -2,7 +2,7 @@
 use Rattle.std.specs.Prelude.{◌≡◌, ◌≢◌, ℕ, zero, suc, ◌+◌, ◌-◌, ◌<◌, ◌≤◌, ◌⊎◌, List, [], ◌∷◌, ◌++◌, length, slice_index, slice_index_or, sum_by, All, Option, Some, None}
 use Rattle.ix_graph.specs.declared.graph.Mode.{Mode}
 use Rattle.ix_sheet.specs.declared.problem.Bound.{Bound}
-use Rattle.ix_sheet.specs.declared.problem.Bound.TheVariants.{Early, Late, Dep as dep, Chain as chain}
+use Rattle.ix_sheet.specs.declared.problem.Bound.TheVariants.{Early, Dep as dep}
 use Rattle.ix_sheet.specs.declared.problem.Problem.{Problem}
 use Rattle.ix_sheet.specs.Schedules.{node_at, IsFreePath, first_of, last_of, delay_along, IsAfter, IsInWindow, IsSchedule, IsCheapest, HasSchedule, cost}
 use Rattle.ix_sheet.specs.Bounds.{IsBoundOf, arc_of, inflow, outflow, weight_in, weight_out, HasValue}

@@ -4,18 +4,18 @@
 mod bound_test;
 mod check;
 mod cycle;
+mod fields;
+mod item;
+mod lines;
+mod print;
 mod read;
 mod report;
+mod state;
 mod steps;
 mod sum;
 mod verdict;
 #[cfg(test)]
 mod verdict_tests;
-mod fields;
-mod item;
-mod lines;
-mod print;
-mod state;
 mod word;
 
 pub use print::print_report;

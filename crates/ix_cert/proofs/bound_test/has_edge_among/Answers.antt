@@ -1,7 +1,4 @@
-use Rattle.std.proofs.Common.{rules, ◌≡◌, ◌<◌, ◌≤◌, length, All, AllPairs, ℕ, ◌+◌, ◌-◌, ◌*◌, ◌/◌, ◌%◌, Bool, true, false, nat_eq, nat_lt, List, [], ◌∷◌, ◌++◌, slice_index_or, slice_set, bit_and, bit_or, Fits, w8, w32, w64, Bor, MutBor}
-use Rattle.ix_sheet.specs.Schedules.{delay_along}
-use Rattle.ix_cert.specs.Layout.{IsBefore, IsBoundInForm}
-use Rattle.ix_cert.specs.Checks.{has_edge, has_all_runs, names_bound}
+use Rattle.std.proofs.Common.{ℕ, ◌+◌, ◌-◌, ◌/◌}
 use Rattle.ix_cert.proofs.bound_test.has_edge_among.Goals as goal
 use Rattle.std.proofs.Common.{sym, arith}
 use Rattle.ix_cert.proofs.EdgeLists.{before_from, has_found, not_found, up_to, from_on, nowhere}

@@ -1,8 +1,4 @@
-use Rattle.std.proofs.Common.{rules, ◌≡◌, ◌+◌, ◌<◌, length, All, is_some, true, None, slice_index_or, ℕ, ◌-◌, ◌*◌, ◌≤◌, ◌/◌, ◌%◌, Bool, false, nat_eq, nat_lt, List, [], ◌∷◌, ◌++◌, slice_set, bit_and, bit_or, Fits, w8, w32, w64, Bor, MutBor}
-use Rattle.ix_sheet.specs.Schedules.{IsAfter}
-use Rattle.ix_cert.specs.Faults.{times_of, times_steps, flow_steps, cycle_steps, steps_in, steps_of, block_count, certificate_place, unnamed, blank_part}
-use Rattle.ix_sheet.specs.declared.problem.Bound.TheVariants.{Early}
-use Rattle.ix_cert.specs.Checks.{Judges, IsReady, IsReadySchedule, IsReadyCycle, IsReadyIn, lines_in}
+use Rattle.std.proofs.Common.{◌≡◌, ◌+◌, ◌<◌, length, List, ◌∷◌}
 use Rattle.ix_cert.proofs.check.check_report.Goals as goal
 use Rattle.std.proofs.Common.{subst, sym, ap, ◌∙◌, drop, arith, List, ◌∷◌, get_or}
 use Rattle.std.proofs.lemmas.List.{drop_more}

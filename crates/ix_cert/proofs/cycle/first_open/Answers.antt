@@ -1,10 +1,8 @@
-use Rattle.std.proofs.Common.{rules, ◌≡◌, ℕ, ◌<◌, ◌≤◌, length, All, sum_by, nat_lt, ◌+◌, ◌-◌, ◌*◌, ◌/◌, ◌%◌, Bool, true, false, nat_eq, List, [], ◌∷◌, ◌++◌, slice_index_or, slice_set, bit_and, bit_or, Fits, w8, w32, w64, Bor, MutBor}
-use Rattle.ix_sheet.specs.Schedules.{IsValidProblem}
-use Rattle.ix_sheet.specs.Bounds.{IsBoundOf, arc_of}
+use Rattle.std.proofs.Common.{◌≡◌, ◌<◌, length, ◌+◌, List, slice_index_or}
+use Rattle.ix_sheet.specs.Bounds.{arc_of}
 use Rattle.ix_cert.specs.Faults.{IsOpen, end_before}
-use Rattle.ix_cert.specs.Checks.{Tells}
 use Rattle.ix_cert.proofs.cycle.first_open.Goals as goal
-use Rattle.std.proofs.Common.{sym, ◌∙◌, ap, List, subst, suc, arith}
+use Rattle.std.proofs.Common.{sym, ◌∙◌, ap, List, suc, arith}
 use Rattle.ix_sheet.specs.declared.problem.Arc.{Arc}
 use Rattle.ix_sheet.specs.declared.problem.Bound.{Bound}
 use Rattle.ix_sheet.specs.declared.problem.Bound.TheVariants.{Early}

@@ -1,10 +1,6 @@
-use Rattle.std.proofs.Common.{rules, ◌≡◌, ◌<◌, ◌≤◌, ◌+◌, max, map, length, All, AllPairs, IfOk, slice_index, slice_index_or, ℕ, ◌-◌, ◌*◌, ◌/◌, ◌%◌, Bool, true, false, nat_eq, nat_lt, List, [], ◌∷◌, ◌++◌, slice_set, bit_and, bit_or, Fits, w8, w32, w64, Bor, MutBor}
-use Rattle.ix_sheet.specs.declared.problem.Bound.TheVariants.{Early}
-use Rattle.ix_sheet.specs.Schedules.{IsValidProblem, IsAfter, IsInWindow, node_at}
-use Rattle.ix_sheet.specs.Bounds.{IsBoundOf}
-use Rattle.ix_cert.specs.Layout.{IsBefore, IsBoundInForm}
-use Rattle.ix_cert.specs.Faults.{IsBroken, IsOutside, IsPassed, NamesNone, IsUnbalanced, IsOpen, times_of, blank_part}
-use Rattle.ix_cert.specs.Checks.{Tells, AreReached}
+use Rattle.std.proofs.Common.{length}
+use Rattle.ix_cert.specs.Faults.{times_of}
+use Rattle.ix_cert.specs.Checks.{AreReached}
 use Rattle.ix_cert.proofs.steps.first_passed.Goals as goal
 use Rattle.std.proofs.Common.{subst, sym}
 use Rattle.ix_cert.proofs.Paths.{tells_passed}

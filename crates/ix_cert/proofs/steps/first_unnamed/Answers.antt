@@ -1,12 +1,8 @@
-use Rattle.std.proofs.Common.{rules, ◌≡◌, ◌<◌, ◌≤◌, ◌+◌, ℕ, max, map, length, All, AllPairs, IfOk, IfNone, slice_index, slice_index_or, ◌-◌, ◌*◌, ◌/◌, ◌%◌, Bool, true, false, nat_eq, nat_lt, List, [], ◌∷◌, ◌++◌, slice_set, bit_and, bit_or, Fits, w8, w32, w64, Bor, MutBor}
+use Rattle.std.proofs.Common.{◌≡◌, ◌<◌, length, slice_index_or, List}
 use Rattle.ix_sheet.specs.declared.problem.Bound.TheVariants.{Early}
-use Rattle.ix_sheet.specs.Schedules.{IsValidProblem, IsAfter, IsInWindow, node_at}
-use Rattle.ix_sheet.specs.Bounds.{IsBoundOf}
-use Rattle.ix_cert.specs.Layout.{IsBefore, IsBoundInForm}
-use Rattle.ix_cert.specs.Faults.{IsBroken, IsOutside, IsPassed, NamesNone, IsUnbalanced, IsOpen, times_of, blank_part}
-use Rattle.ix_cert.specs.Checks.{Tells, keeps_edge, joins_edge, delay_at, AreSmall, AreReached}
+use Rattle.ix_cert.specs.Faults.{NamesNone}
 use Rattle.ix_cert.proofs.steps.first_unnamed.Goals as goal
-use Rattle.std.proofs.Common.{sym, ap, subst, arith, ◌∙◌, List}
+use Rattle.std.proofs.Common.{sym, ap, arith, ◌∙◌, List}
 use Rattle.ix_sheet.specs.declared.problem.Bound.{Bound}
 use Rattle.ix_cert.proofs.BoundTests.{none_more, unnamed_at, named_at}
 use Rattle.ix_cert.proofs.Faultless.{all_bounds}

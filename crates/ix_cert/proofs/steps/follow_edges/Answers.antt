@@ -1,12 +1,8 @@
-use Rattle.std.proofs.Common.{rules, ◌≡◌, ◌<◌, ◌≤◌, ◌+◌, ℕ, max, map, length, All, AllPairs, IfOk, slice_index, slice_index_or, ◌-◌, ◌*◌, ◌/◌, ◌%◌, Bool, true, false, nat_eq, nat_lt, List, [], ◌∷◌, ◌++◌, slice_set, bit_and, bit_or, Fits, w8, w32, w64, Bor, MutBor}
-use Rattle.ix_sheet.specs.declared.problem.Bound.TheVariants.{Early}
-use Rattle.ix_sheet.specs.Schedules.{IsValidProblem, IsAfter, IsInWindow, node_at}
-use Rattle.ix_sheet.specs.Bounds.{IsBoundOf}
-use Rattle.ix_cert.specs.Layout.{IsBefore, IsBoundInForm}
-use Rattle.ix_cert.specs.Faults.{IsBroken, IsOutside, IsPassed, NamesNone, IsUnbalanced, IsOpen, times_of, blank_part}
-use Rattle.ix_cert.specs.Checks.{Tells, keeps_edge, joins_edge, delay_at, AreSmall, AreReached}
+use Rattle.std.proofs.Common.{◌≡◌, ◌<◌, ℕ, length, slice_index_or, List}
+use Rattle.ix_cert.specs.Faults.{times_of}
+use Rattle.ix_cert.specs.Checks.{joins_edge}
 use Rattle.ix_cert.proofs.steps.follow_edges.Goals as goal
-use Rattle.std.proofs.Common.{◌∙◌, ap, sym, subst, arith, set}
+use Rattle.std.proofs.Common.{◌∙◌, ap, sym, arith}
 use Rattle.ix_cert.proofs.Paths.{step_over, step_along_it}
 use Rattle.ix_cert.proofs.steps.follow_edges.Goals.{then-joins, else-joins}
 

@@ -1,11 +1,7 @@
-use Rattle.std.proofs.Common.{rules, ◌≡◌, ◌≢◌, ℕ, ◌<◌, ◌≤◌, ◌+◌, ◌*◌, ◌++◌, ◌==◌, length, map, All, IfOk, sum_by, slice_index, ◌-◌, ◌/◌, ◌%◌, Bool, true, false, nat_eq, nat_lt, List, [], ◌∷◌, slice_index_or, slice_set, bit_and, bit_or, Fits, w8, w32, w64, Bor, MutBor}
-use Rattle.ix_sheet.specs.Schedules.{IsValidProblem, IsAfter, cost, kept_along, sum_below, node_at, weight_of}
-use Rattle.ix_sheet.specs.Bounds.{IsBoundOf, arc_of}
-use Rattle.ix_cert.specs.Layout.{IsNodeInForm}
-use Rattle.ix_cert.specs.Faults.{IsUnbalanced, IsOpen, times_of}
-use Rattle.ix_cert.specs.Checks.{Tells, AreAmounts, parts_in, parts_out, has_value, ups_of, downs_of, up_of, down_of}
+use Rattle.std.proofs.Common.{◌≡◌, length}
+use Rattle.ix_cert.specs.Checks.{AreAmounts, parts_in, parts_out}
 use Rattle.ix_cert.proofs.sum.first_unbalanced.Goals as goal
-use Rattle.std.proofs.Common.{subst, sym, ◌∙◌, ap, List}
+use Rattle.std.proofs.Common.{◌∙◌}
 use Rattle.ix_cert.proofs.Balances.{tells_unbalanced}
 
 pub returns : goal.returns

@@ -1,7 +1,3 @@
-use Rattle.std.proofs.Common.{rules, ◌≡◌, ◌≢◌, ◌<◌, length, OnOk, IfErr, ℕ, ◌+◌, ◌-◌, ◌*◌, ◌≤◌, ◌/◌, ◌%◌, Bool, true, false, nat_eq, nat_lt, List, [], ◌∷◌, ◌++◌, slice_index_or, slice_set, bit_and, bit_or, Fits, w8, w32, w64, Bor, MutBor}
-use Rattle.ix_cert.specs.declared.report.CertErr.{CertErr as Fault}
-use Rattle.ix_cert.specs.declared.report.CertErr.TheVariants.{Memory}
-use Rattle.ix_cert.specs.Certificates.{IsCertifiedText, IsFaultless, IsRefused, Accepts, Refuses}
 use Rattle.ix_cert.proofs.verdict.certify.Goals as goal
 use Rattle.ix_cert.proofs.Answering.{room, ready, certified, accepted, refused, unread}
 
