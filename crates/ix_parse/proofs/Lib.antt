@@ -1,0 +1,11 @@
+mod Stacks
+mod Runs
+mod Answering
+mod Settling
+mod Expressions
+mod Deep
+mod Blocks
+mod Deeper
+mod Tops
+mod Places
+mod Powers
