@@ -5,69 +5,74 @@ use std::alloc::AllocError;
 /// Puts the expression behind the text.
 #[cycle(expressions)]
 pub fn put_expr(out: &mut String, e: &Expr) -> Result<(), AllocError> {
+    put_front(out, e)?;
+    match &e.kind {
+        ExprKind::Literal(_, _) => Ok(()),
+        ExprKind::Name(_) => Ok(()),
+        ExprKind::Pc => Ok(()),
+        ExprKind::X => Ok(()),
+        ExprKind::Mem => Ok(()),
+        ExprKind::Index(x, l) => {
+            put_one(out, x)?;
+            put_last(out, l)
+        }
+        ExprKind::Range(x, h, l) => {
+            put_one(out, x)?;
+            put_one(out, h)?;
+            put_last(out, l)
+        }
+        ExprKind::Unary(_, x) => put_last(out, x),
+        ExprKind::Cast(_, x) => put_last(out, x),
+        ExprKind::Binary(_, x, y) => {
+            put_one(out, x)?;
+            put_last(out, y)
+        }
+        ExprKind::Choose(c, x, y) => {
+            put_one(out, c)?;
+            put_one(out, x)?;
+            put_last(out, y)
+        }
+    }
+}
+
+/// Puts what stands before the operands of an expression, or all of one without operands.
+fn put_front(out: &mut String, e: &Expr) -> Result<(), AllocError> {
     match &e.kind {
         ExprKind::Literal(ty, bits) => put_literal(out, *ty, *bits),
         ExprKind::Name(name) => out.push_str(name.as_str()),
         ExprKind::Pc => out.push_str("PC"),
         ExprKind::X => out.push_str("X"),
         ExprKind::Mem => out.push_str("MEM"),
-        ExprKind::Index(x, l) => {
-            out.push_str("([]")?;
-            put_two(out, x, l)
-        }
-        ExprKind::Range(x, h, l) => {
-            out.push_str("([:]")?;
-            put_three(out, x, h, l)
-        }
-        ExprKind::Unary(op, x) => {
+        ExprKind::Index(_, _) => out.push_str("([]"),
+        ExprKind::Range(_, _, _) => out.push_str("([:]"),
+        ExprKind::Unary(op, _) => {
             out.push_str("(")?;
-            out.push_str(unary_text(*op))?;
-            put_one(out, x)
+            out.push_str(unary_text(*op))
         }
-        ExprKind::Cast(to, x) => {
+        ExprKind::Cast(to, _) => {
             out.push_str("(cast ")?;
-            put_cast(out, *to)?;
-            put_one(out, x)
+            put_cast(out, *to)
         }
-        ExprKind::Binary(op, x, y) => {
+        ExprKind::Binary(op, _, _) => {
             out.push_str("(")?;
-            out.push_str(binary_text(*op))?;
-            put_two(out, x, y)
+            out.push_str(binary_text(*op))
         }
-        ExprKind::Choose(c, x, y) => {
-            out.push_str("(?")?;
-            put_three(out, c, x, y)
-        }
+        ExprKind::Choose(_, _, _) => out.push_str("(?"),
     }
 }
 
-/// Puts the one operand behind the text, and the bracket that ends it.
+/// Puts an operand behind the text.
 #[cycle(expressions)]
 fn put_one(out: &mut String, x: &Expr) -> Result<(), AllocError> {
     out.push_str(" ")?;
-    put_expr(out, x)?;
-    out.push_str(")")
+    put_expr(out, x)
 }
 
-/// Puts two operands behind the text, and the bracket that ends them.
+/// Puts the last operand behind the text, and the bracket that ends it.
 #[cycle(expressions)]
-fn put_two(out: &mut String, x: &Expr, y: &Expr) -> Result<(), AllocError> {
+fn put_last(out: &mut String, x: &Expr) -> Result<(), AllocError> {
     out.push_str(" ")?;
     put_expr(out, x)?;
-    out.push_str(" ")?;
-    put_expr(out, y)?;
-    out.push_str(")")
-}
-
-/// Puts three operands behind the text, and the bracket that ends them.
-#[cycle(expressions)]
-fn put_three(out: &mut String, x: &Expr, y: &Expr, z: &Expr) -> Result<(), AllocError> {
-    out.push_str(" ")?;
-    put_expr(out, x)?;
-    out.push_str(" ")?;
-    put_expr(out, y)?;
-    out.push_str(" ")?;
-    put_expr(out, z)?;
     out.push_str(")")
 }
 
