@@ -4,9 +4,8 @@ use Rattle.std.proofs.lemmas.Int.{ints}
 use Rattle.std.proofs.lemmas.Nat.{pow_pos, pow_below}
 use Rattle.std.proofs.lemmas.Bool.{cases_lt}
 use Rattle.ix_bits.specs.declared.number.Ty.{Ty}
-use Rattle.ix_bits.specs.Types.{HoldsNumber}
+use Rattle.ix_bits.specs.Types.{HoldsNumber, IsWithin}
 use Rattle.ix_bits.specs.ResultTypes.{Embeds, common_signed, common_width}
-use Rattle.ix_bits.specs.Operators.{IsWithin}
 use Rattle.ix_bits.proofs.Ranges.{holds_wider, holds_signed}
 
 pub within : (ty : Ty) (n : ℤ) → HoldsNumber ty n → IsWithin ty.signed ty.width n

@@ -8,9 +8,9 @@ use Rattle.ix_bits.specs.declared.operator.BinOp.{BinOp}
 use Rattle.ix_bits.specs.declared.operator.BinOp.TheVariants.{Add, Sub, Mul, And, Or, Xor, Shl, Shr, Eq, Ne, Lt, Le, Gt, Ge, Land, Lor, Concat}
 use Rattle.ix_bits.specs.declared.operator.UnOp.{UnOp}
 use Rattle.ix_bits.specs.declared.operator.UnOp.TheVariants.{Neg, Not, Lnot}
-use Rattle.ix_bits.specs.Types.{number_of}
+use Rattle.ix_bits.specs.Types.{number_of, IsWithin}
 use Rattle.ix_bits.specs.ResultTypes.{common_signed, common_width, binary_signed, binary_width, unary_signed, unary_width}
-use Rattle.ix_bits.specs.Operators.{IsWithin, pattern_of, fit, truth, binary_number, unary_number}
+use Rattle.ix_bits.specs.Operators.{pattern_of, fit, truth, binary_number, unary_number}
 use Rattle.ix_bits.proofs.Remainders.{rem_below_lem}
 use Rattle.ix_bits.proofs.Ranges.{holds_wider, holds_signed, holds_sum, holds_difference, holds_negation, holds_product, holds_shift}
 use Rattle.ix_bits.proofs.Results.{within_value}

@@ -7,3 +7,5 @@ pub mod InRange
 pub mod Operations
 pub mod Unique
 pub mod Embeddings
+pub mod Same
+pub mod WidthLemmas

@@ -5,7 +5,7 @@ use Rattle.std.proofs.lemmas.Nat.{pow_pos, pow-add, mul-le, mul-lt, row_fits, sh
 use Rattle.std.proofs.lemmas.Int.{unsigned_abs-mul}
 use Rattle.std.specs.Prelude.{unsigned_abs}
 use Rattle.std.specs.Int.{int_shr}
-use Rattle.ix_bits.specs.Operators.{IsWithin}
+use Rattle.ix_bits.specs.Types.{IsWithin}
 use Rattle.ix_bits.proofs.Patterns.{pow_half, pow_rises}
 
 -- a wider type holds the number too, also a signed one with one bit more

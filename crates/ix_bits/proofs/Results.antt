@@ -8,8 +8,7 @@ use Rattle.std.proofs.lemmas.Nat.{pow_pos, or_shifted, or_comm, div_below, le-di
 use Rattle.std.proofs.lemmas.Nat.Bits.{ones_shr}
 use Rattle.std.proofs.lemmas.Bool.{cases_lt, cases_order, lt-ltb, le-ltb, eq-eqb, ne_eqb}
 use Rattle.std.proofs.Math.Nat.{mod-eq_of_lt}
-use Rattle.ix_bits.specs.Types.{number_of, IsCongruent}
-use Rattle.ix_bits.specs.Operators.{IsWithin}
+use Rattle.ix_bits.specs.Types.{number_of, IsCongruent, IsWithin}
 use Rattle.ix_bits.proofs.Remainders.{rem_of, rem_is, rem_splits, rem_below_lem}
 use Rattle.ix_bits.proofs.Patterns.{pow_half, pow_parts, pow_rises, pattern_narrows, number_below, number_above, pattern_of_number, number_of_pattern, number_from_least, number_below_past}
 

@@ -5,8 +5,7 @@ use Rattle.std.specs.Prelude.{int_lt}
 use Rattle.std.proofs.lemmas.Nat.{pow_pos, shr_le, or_shifted, div_below, shl_below, mul-add-lt, pow-add}
 use Rattle.std.proofs.lemmas.Bool.{le-ltb, both_ways}
 use Rattle.std.proofs.Math.Nat.{mod-eq_of_lt}
-use Rattle.ix_bits.specs.Types.{number_of}
-use Rattle.ix_bits.specs.Operators.{IsWithin}
+use Rattle.ix_bits.specs.Types.{number_of, IsWithin}
 use Rattle.ix_bits.proofs.Remainders.{rem_of, rem_is}
 use Rattle.ix_bits.proofs.Patterns.{pow_parts, pow_rises, pattern_narrows}
 use Rattle.ix_bits.proofs.Ranges.{holds_shift}

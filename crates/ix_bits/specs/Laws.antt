@@ -3,9 +3,9 @@ use Rattle.std.specs.Prelude.{◌≡◌, ◌<◌, ◌≤◌, ◌^◌, ℕ, ℤ}
 use Rattle.ix_bits.specs.declared.number.Ty.{Ty}
 use Rattle.ix_bits.specs.declared.operator.BinOp.{BinOp}
 use Rattle.ix_bits.specs.declared.operator.UnOp.{UnOp}
-use Rattle.ix_bits.specs.Types.{IsFit, HoldsNumber}
+use Rattle.ix_bits.specs.Types.{IsFit, HoldsNumber, IsWithin}
 use Rattle.ix_bits.specs.ResultTypes.{binary_signed, binary_width, unary_signed, unary_width, common_signed, common_width, Embeds}
-use Rattle.ix_bits.specs.Operators.{IsWithin, pattern_of, value_of, fit, binary_number, unary_number}
+use Rattle.ix_bits.specs.Operators.{pattern_of, value_of, fit, binary_number, unary_number}
 
 -- `fit` gives a number that fits, and no other number does
 pub record FitIsTheOne (ty : Ty) (n : ℤ) : Type 0 where

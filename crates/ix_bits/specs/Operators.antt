@@ -1,5 +1,5 @@
 -- The number of each operation (CoreDSL 2: arithmetic is exact; only a cast, `~` and `<<` fit a number to a type).
-use Rattle.std.specs.Prelude.{ℕ, ◌+◌, ◌-◌, ◌*◌, ◌/◌, ◌%◌, ◌^◌, ℤ, pos, neg_ℤ, ◌+ℤ◌, ◌-ℤ◌, ◌*ℤ◌, ◌≤ℤ◌, ◌<ℤ◌, Bool, not, ◌&&◌, ◌||◌, if◌then◌else◌, unsigned_abs, bit_and, bit_or, bit_xor}
+use Rattle.std.specs.Prelude.{ℕ, ◌+◌, ◌-◌, ◌*◌, ◌/◌, ◌%◌, ◌^◌, ℤ, pos, neg_ℤ, ◌+ℤ◌, ◌-ℤ◌, ◌*ℤ◌, Bool, not, ◌&&◌, ◌||◌, if◌then◌else◌, unsigned_abs, bit_and, bit_or, bit_xor}
 use Rattle.std.specs.Int.{int_rem_euclid, int_shr}
 use Rattle.std.specs.Ordering.{int_cmp, is_eq, is_ne, is_lt, is_le, is_gt, is_ge}
 use Rattle.ix_bits.specs.declared.number.Ty.{Ty}
@@ -7,13 +7,8 @@ use Rattle.ix_bits.specs.declared.operator.BinOp.{BinOp}
 use Rattle.ix_bits.specs.declared.operator.BinOp.TheVariants.{Add, Sub, Mul, And, Or, Xor, Shl, Shr, Eq, Ne, Lt, Le, Gt, Ge, Land, Lor, Concat}
 use Rattle.ix_bits.specs.declared.operator.UnOp.{UnOp}
 use Rattle.ix_bits.specs.declared.operator.UnOp.TheVariants.{Neg, Not, Lnot}
-use Rattle.ix_bits.specs.Types.{number_of, least_of, past_of}
+use Rattle.ix_bits.specs.Types.{number_of}
 use Rattle.ix_bits.specs.ResultTypes.{binary_width}
-
--- the number is one of the type of this signedness and width
-pub record IsWithin (signed : Bool) (width : ℕ) (n : ℤ) : Type 0 where
-  pub from_least : least_of signed width ≤ℤ n
-  pub below_past : n <ℤ past_of signed width
 
 -- the pattern of a number in a width: its remainder by 2^width, which is never negative
 abbrev pub pattern_of : ℕ → ℤ → ℕ

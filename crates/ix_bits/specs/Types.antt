@@ -12,10 +12,14 @@ abbrev pub past_of : Bool → ℕ → ℤ
 past_of false width = pos (2 ^ width)
 past_of true width = pos (2 ^ (width - 1))
 
+-- the number is one of the type of this signedness and width
+pub record IsWithin (signed : Bool) (width : ℕ) (n : ℤ) : Type 0 where
+  pub from_least : least_of signed width ≤ℤ n
+  pub below_past : n <ℤ past_of signed width
+
 -- the number is one of the type's
-pub record HoldsNumber (ty : Ty) (n : ℤ) : Type 0 where
-  pub from_least : least_of ty.signed ty.width ≤ℤ n
-  pub below_past : n <ℤ past_of ty.signed ty.width
+abbrev pub HoldsNumber : Ty → ℤ → Type 0
+HoldsNumber ty n = IsWithin ty.signed ty.width n
 
 -- the two numbers differ by a multiple of 2^width
 abbrev pub IsCongruent : ℕ → ℤ → ℤ → Type 0

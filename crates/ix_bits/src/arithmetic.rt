@@ -103,8 +103,8 @@ fn truncated(raw: u128, width: u8) -> Bits
     }
 }
 
-// Whether the number is negative.
-fn is_negative(ty: Ty, a: Bits) -> bool
+/// Whether the number of type `ty` that the pattern stands for is negative. The pattern has the width of the type.
+pub fn is_negative(ty: Ty, a: Bits) -> bool
     requires { a.width ≡ ty.width }
     ensures { result ≡ int_lt (value_of ty a.raw) (pos 0) }
 {

@@ -10,11 +10,13 @@ mod number;
 mod operator;
 #[cfg(test)]
 mod tests;
+mod width;
 
-pub use arithmetic::{binary, cast, range, unary, width_of_both};
+pub use arithmetic::{binary, cast, is_negative, range, unary, width_of_both};
 pub use laws::number_laws;
 pub use list::List;
 pub use memory::Memory;
 pub use name::Name;
-pub use number::{Bits, Ty};
+pub use number::{Bits, Ty, Value};
 pub use operator::{BinOp, UnOp};
+pub use width::least_width;

@@ -20,3 +20,11 @@ pub struct Bits {
     pub ghost most_width: { width ≤ 128 },
     pub ghost in_width: { raw < 2 ^ width },
 }
+
+/// A number of a type, as the pattern of that type.
+#[derive(Clone, Copy)]
+pub struct Value {
+    pub ty: Ty,
+    pub bits: Bits,
+    pub ghost fits: { bits.width ≡ ty.width },
+}

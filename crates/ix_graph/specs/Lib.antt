@@ -1,3 +1,4 @@
 pub mod Kinds
 pub mod Graphs
 pub mod KindLaws
+pub mod Roles

@@ -5,6 +5,7 @@ mod args;
 mod graph;
 mod kind;
 mod laws;
+mod role;
 #[cfg(test)]
 mod tests;
 
@@ -12,3 +13,4 @@ pub use args::{Arg, Args};
 pub use graph::{Graph, Mode, Op};
 pub use kind::{Kind, kind_name, kind_number, kind_place, kind_word};
 pub use laws::kind_laws;
+pub use role::{Role, kind_role};

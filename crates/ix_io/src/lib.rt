@@ -16,7 +16,7 @@ mod write;
 pub use host::{HostShelf, HostSink};
 pub use mem::{MemShelf, MemSink};
 pub use out::Out;
-pub use read::{ReadErr, read_all};
+pub use read::{MOST_BYTES, ReadErr, read_all};
 pub use shelf::{Failed, Shelf};
 pub use sink::Sink;
 pub use sure::{SureShelf, SureSink};

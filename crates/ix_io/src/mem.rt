@@ -1,4 +1,5 @@
 ghost use Rattle.std.specs.Prelude.{◌≡◌, ◌+◌, ◌-◌, ◌^◌, ◌<◌, ◌≤◌, ◌⊎◌, ◌↔◌, ◌++◌, [], Some, None, length, min, take, unwrap_or, Contains, IfOk, OnErr, OnOk, IsErr};
+ghost use Rattle.ix_io.specs.Limits.{most_bytes};
 ghost use Rattle.ix_io.specs.Calls.{first_call, after_call, after_fault};
 ghost use Rattle.ix_io.specs.Faults.{AllInRange, NoneFell, Rose};
 ghost use Rattle.ix_io.specs.Shelf.{Places, file_named, told_file};
@@ -6,7 +7,7 @@ ghost use Rattle.ix_io.specs.Sink.{Appends};
 
 use crate::calls::Calls;
 use crate::files::{find, place};
-use crate::{Failed, Shelf, Sink};
+use crate::{Failed, MOST_BYTES, Shelf, Sink};
 use ix_bits::{List, Memory, Name};
 use std::alloc::Global;
 use std::marker::Model;
@@ -49,7 +50,7 @@ impl Shelf for MemShelf {
     ghost faults = { λ shelf _. shelf.calls.faults };
 
     fn read_part(&mut self, name: &str, from: u64, into: &mut [u8]) -> Result<usize, Failed>
-        requires near { from ≤ 1048576 }
+        requires near { from ≤ most_bytes }
         requires room { 0 < length into.old }
 
         // It fails where that is planned, and for a name that is not there.
@@ -82,9 +83,6 @@ impl Shelf for MemShelf {
     }
 }
 
-/// The count of bytes that a `MemSink` takes.
-const ROOM: usize = 1_048_576;
-
 /// An output in memory, which is told, with room for 1,048,576 bytes, some of whose writes are to fail.
 #[derive(Drop)]
 pub struct MemSink {
@@ -94,6 +92,7 @@ pub struct MemSink {
 
 impl Model for MemSink {
     ghost use Rattle.std.specs.Prelude.{◌<◌, ◌≤◌, ◌^◌, vec_len, vec_capacity};
+    ghost use Rattle.ix_io.specs.Limits.{most_bytes};
     ghost use Rattle.ix_io.specs.Mem.{Taken};
 
     ghost Value = { Taken };
@@ -101,7 +100,7 @@ impl Model for MemSink {
     ghost view = { λ sink. record { written = sink.bytes.items; calls = sink.calls } };
 
     ghost invariant = { λ sink. (1 ≤ sink.calls.most) × (sink.calls.faults < 2 ^ 64)
-        × (vec_len sink.bytes ≤ 1048576) × (1048576 ≤ vec_capacity sink.bytes) };
+        × (vec_len sink.bytes ≤ most_bytes) × (most_bytes ≤ vec_capacity sink.bytes) };
 }
 
 impl MemSink {
@@ -111,7 +110,7 @@ impl MemSink {
         requires { 1 ≤ most }
         ensures { IfOk result (λ sink. sink ≡ record { written = []; calls = first_call fail most }) }
     {
-        match Vec::with_capacity(alloc, ROOM) {
+        match Vec::with_capacity(alloc, MOST_BYTES) {
             Ok(bytes) => Ok(MemSink {
                 bytes,
                 calls: Calls::new(fail, most),
@@ -138,7 +137,7 @@ impl Sink for MemSink {
 
         // It fails where that is planned, and where the bytes do not fit.
         ensures fails { IsErr result ↔ (Contains self.old.calls.fail self.old.calls.next
-            ⊎ (1048576 < length self.old.written + min (length piece.now) self.old.calls.most)) }
+            ⊎ (most_bytes < length self.old.written + min (length piece.now) self.old.calls.most)) }
         ensures ok { IfOk result (λ n. self.new ≡
             record { written = self.old.written ++ take n piece.now; calls = after_call self.old.calls }) }
         ensures err { OnErr result (self.new ≡ record self.old { calls = after_fault self.old.calls }) }
@@ -154,7 +153,7 @@ impl Sink for MemSink {
         ensures in_range { self.new.calls.faults < 2 ^ 64 }
     {
         let count = piece.len().min(self.calls.most as usize);
-        if self.calls.is_due() || count > ROOM - self.bytes.len() {
+        if self.calls.is_due() || count > MOST_BYTES - self.bytes.len() {
             self.calls.count_fault();
             return Err(Failed);
         }

@@ -1,4 +1,5 @@
 ghost use Rattle.std.specs.Prelude.{◌≡◌, ◌<◌, ◌≤◌, length, IfOk, IfSome, IsErrOf};
+ghost use Rattle.ix_io.specs.Limits.{most_bytes};
 ghost use Rattle.ix_io.specs.Faults.{NoneFell, Rose};
 ghost use Rattle.ix_io.specs.Shelf.{told_file};
 
@@ -8,7 +9,7 @@ use std::alloc::{AllocError, Global};
 use thiserror::Error;
 
 /// The greatest length of a file, in bytes.
-const MOST: usize = 1_048_576;
+pub const MOST_BYTES: usize = 1_048_576;
 
 /// The count of bytes that one turn asks for.
 const PIECE: usize = 65_536;
@@ -38,9 +39,9 @@ fn zeros(alloc: Global, count: usize) -> Result<Vec<u8>, AllocError>
 /// Reads a file of at most 1,048,576 bytes whole.
 pub fn read_all<F: Shelf>(alloc: Global, shelf: &mut F, name: &str) -> Result<List<u8>, ReadErr>
     ensures whole { IfOk result (λ bytes. IfSome (told_file (F.files shelf.old) name.now) (λ file. bytes ≡ file)) }
-    ensures short { IfOk result (λ bytes. length bytes ≤ 1048576) }
+    ensures short { IfOk result (λ bytes. length bytes ≤ most_bytes) }
     ensures too_long { IsErrOf result ReadErr.TooLong →
-        IfSome (told_file (F.files shelf.old) name.now) (λ file. 1048576 < length file) }
+        IfSome (told_file (F.files shelf.old) name.now) (λ file. most_bytes < length file) }
     ensures fault { IsErrOf result ReadErr.Fault → Rose (F.faults shelf.old name.now) (F.faults shelf.new name.now) }
 
     // Whatever the answer.
@@ -52,7 +53,7 @@ pub fn read_all<F: Shelf>(alloc: Global, shelf: &mut F, name: &str) -> Result<Li
     };
     let piece = space.as_mut_slice();
     let mut bytes = Vec::new(alloc);
-    while bytes.len() <= MOST {
+    while bytes.len() <= MOST_BYTES {
         match shelf.read_part(name, bytes.len() as u64, piece) {
             Ok(0) => return Ok(List::from_vec(bytes)),
             Ok(count) => {

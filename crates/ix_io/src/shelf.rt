@@ -1,4 +1,5 @@
 ghost use Rattle.std.specs.Prelude.{◌≡◌, ℕ, ◌<◌, ◌≤◌, List, Option, length, IfOk, OnErr};
+ghost use Rattle.ix_io.specs.Limits.{most_bytes};
 ghost use Rattle.ix_io.specs.Faults.{AllInRange, NoneFell, Rose};
 ghost use Rattle.ix_io.specs.Shelf.{NamedFiles, Places, told_file};
 
@@ -17,7 +18,7 @@ pub trait Shelf {
     /// Reads bytes of the file from the byte `from` on, which is at most 1,048,576, into the front of the slice, which
     /// is not empty, and answers their count. The count 0 is the end of the file. The rest of the slice may change.
     fn read_part(&mut self, name: &str, from: u64, into: &mut [u8]) -> Result<usize, Failed>
-        requires near { from ≤ 1048576 }
+        requires near { from ≤ most_bytes }
         requires room { 0 < length into.old }
         ensures kept { files self.new ≡ files self.old }
         ensures placed { IfOk result (λ n. Places (told_file (files self.old) name.now) from n into.new) }

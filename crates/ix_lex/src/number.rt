@@ -3,7 +3,7 @@ ghost use Rattle.std.specs.List.{list_all};
 ghost use Rattle.ix_tree.specs.Lexing.{digit_value, base_of, IsRun, IsDigits, IsNumber};
 ghost use Rattle.ix_lex.specs.Numbers.{Continues, NoTail, NoRun, NoDigits, NoNumber, IsWidth, NoWidth, IsUnsizedKind, IsSizedKind, not_tick};
 
-use ix_bits::{Bits, Ty};
+use ix_bits::{Bits, Ty, least_width};
 use ix_tree::TokenKind;
 
 /// The value of a digit in the base, 2, 10 or 16.
@@ -82,26 +82,11 @@ fn digits(base: u8, text: &[u8]) -> Option<u128>
     run_value(base, first as u128, &text[1..])
 }
 
-/// The least width, in bits, that holds the value.
-fn width_of(value: u128) -> u8
-    ensures some { 1 ≤ result }
-    ensures most { result ≤ 128 }
-    ensures holds { value < 2 ^ result }
-    ensures least { (w : ℕ) → 1 ≤ w → value < 2 ^ w → result ≤ w }
-{
-    for width in 1u8..128 {
-        if fits(width, value) {
-            return width;
-        }
-    }
-    128
-}
-
 /// The value as a literal without a width.
 fn unsized_kind(value: u128) -> TokenKind
     ensures { IsUnsizedKind value result }
 {
-    let width = width_of(value);
+    let width = least_width(value);
     let ty = Ty {
         signed: false,
         width,

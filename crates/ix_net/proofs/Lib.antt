@@ -9,3 +9,5 @@ pub mod Rank
 pub mod FormLemmas
 pub mod FitLemmas
 pub mod OneValuation
+pub mod FormFits
+pub mod RunLemmas

@@ -5,6 +5,7 @@ pub mod Chain
 pub mod Valid
 pub mod Valuation
 pub mod Run
+pub mod Declarations
 pub mod Laws
 pub mod Gates
 pub mod Tables

@@ -1,6 +1,6 @@
 -- Runs of a net, cycle by cycle (IEEE 1364-2005, 9.2.2: registers take the values from before the edge; that they start at 0
 -- is this project's choice).
-use Rattle.std.specs.Prelude.{ℕ, List, [], ◌∷◌, map, length, replicate, ◌≡◌, ◌==◌, if◌then◌else◌}
+use Rattle.std.specs.Prelude.{ℕ, List, [], ◌∷◌, map, length, replicate, slice_index_or, ◌≡◌, ◌==◌, if◌then◌else◌}
 use Rattle.ix_net.specs.declared.netlist.Net.{Net}
 use Rattle.ix_net.specs.declared.netlist.Bank.{Bank}
 use Rattle.ix_net.specs.Valuation.{IsValuation, value_of, banks_of}
@@ -25,3 +25,7 @@ first_banks net = replicate (length net.banks) 0
 -- a run of a net
 abbrev pub IsRun : Net → List (List ℕ) → Type 0
 IsRun net cycles = IsRunFrom net (first_banks net) cycles
+
+-- the values of a cycle, none past the last
+abbrev pub cycle_at : List (List ℕ) → ℕ → List ℕ
+cycle_at cycles k = slice_index_or cycles k []

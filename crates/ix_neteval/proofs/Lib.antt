@@ -3,3 +3,4 @@ pub mod GateLemmas
 pub mod RunLemmas
 pub mod LoadLemmas
 pub mod StateLemmas
+pub mod Simulating

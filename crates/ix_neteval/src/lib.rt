@@ -2,9 +2,11 @@
 #![tactic(auto)]
 
 mod arithmetic;
+mod laws;
 mod running;
 mod sim;
 #[cfg(test)]
 mod tests;
 
+pub use laws::simulators_run;
 pub use sim::{Sim, prepare};

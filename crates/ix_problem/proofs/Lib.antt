@@ -6,3 +6,4 @@ mod ChainLists
 mod BoundLists
 pub mod Places
 mod Additions
+mod EdgeRelation

@@ -2,7 +2,7 @@ ghost use Rattle.std.specs.Prelude.{◌≡◌, ◌≤◌, ◌++◌, IfOk, OnOk, 
 ghost use Rattle.std.specs.List.{zip, list_any};
 ghost use Rattle.ix_graph.specs.Graphs.{IsValidGraph};
 ghost use Rattle.ix_sheet.specs.Sheets.{IsValidSheet};
-ghost use Rattle.ix_sheet.specs.Behaviours.{node_of, names_op, edges_into, edges_from, problem_of};
+ghost use Rattle.ix_sheet.specs.Behaviours.{node_of, names_op, edges_into, edges_from, AreEdges, problem_of};
 
 use ix_bits::{List, Memory};
 use ix_graph::{Arg, Graph, Mode, Op, kind_place};
@@ -10,7 +10,8 @@ use ix_sheet::{Node, Problem, Sheet, latency, mode_window};
 use std::alloc::Global;
 
 /// The problem of a valid graph in a mode, by a datasheet: each operation has the sheet's delay, its latency (in times) and the
-/// window of the mode, which may be empty; the edges (from, to) are distinct, by their end and then by their start.
+/// window of the mode, which may be empty; there is an edge (from, to) exactly where `from` is an argument of `to`, by their
+/// end and then by their start.
 pub fn problem_of(
     alloc: Global,
     graph: &Graph,
@@ -19,7 +20,8 @@ pub fn problem_of(
 ) -> Result<Problem, Memory>
     requires graph { IsValidGraph graph.now }
     requires sheet { IsValidSheet sheet.now }
-    ensures { IfOk result (λ problem. problem ≡ problem_of graph.now sheet.now mode) }
+    ensures problem { IfOk result (λ problem. problem ≡ problem_of graph.now sheet.now mode) }
+    ensures edges { IfOk result (λ problem. AreEdges graph.now.ops problem.edges) }
 {
     Ok(Problem {
         ops: nodes_of(alloc, graph, sheet, mode)?,

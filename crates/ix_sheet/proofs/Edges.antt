@@ -1,37 +1,34 @@
--- The edges of a graph go from an operation to a later one, and stand once.
-use Rattle.std.proofs.Common.{◌≡◌, ◌≢◌, ℕ, zero, suc, ◌+◌, ◌≤◌, ◌<◌, Bool, List, [], ◌∷◌, ◌++◌, length, map, ap, refl, arith, inl, inr}
+-- The edges of a graph go from an operation to a later one, in order, and stand once.
+use Rattle.std.proofs.Common.{◌≡◌, ◌≢◌, ℕ, zero, suc, ◌+◌, ◌≤◌, ◌<◌, Bool, List, [], ◌∷◌, ◌++◌, length, map, ap, sym, refl, arith, inl, inr}
 use Rattle.std.specs.Prelude.{All, AllPairs, filter}
 use Rattle.std.specs.List.{list_any, range_with_len}
 use Rattle.std.proofs.lemmas.Bool.{cases_Bool}
 use Rattle.std.proofs.lemmas.List.Elements.{All-nil, All-cons, All-head, All-tail, All-append, All-weaker}
 use Rattle.std.proofs.lemmas.List.Kept.{AllPairs-cons}
 use Rattle.ix_graph.specs.declared.graph.Op.{Op}
-use Rattle.ix_sheet.specs.Behaviours.{names_op, edges_into, edges_from}
+use Rattle.ix_sheet.specs.Behaviours.{ComesBefore, names_op, edges_into, edges_from}
 
-abbrev Differ : ℕ × ℕ → ℕ × ℕ → Type 0
-Differ e f = e ≢ f
+by_start : (e f : ℕ × ℕ) → e.1 ≡ f.1 → e.0 < f.0 → ComesBefore e f
+by_start e f same less = inr (same, less)
 
-by_start : (e f : ℕ × ℕ) → e.0 < f.0 → Differ e f
-by_start e f less same = omega (arith, ap (λ (x : ℕ × ℕ). x.0) same)
+by_end : (e f : ℕ × ℕ) → e.1 < f.1 → ComesBefore e f
+by_end e f less = inl less
 
-by_end : (e f : ℕ × ℕ) → e.1 < f.1 → Differ e f
-by_end e f less same = omega (arith, ap (λ (x : ℕ × ℕ). x.1) same)
-
-pairs_nil : AllPairs Differ []
+pairs_nil : AllPairs ComesBefore []
 pairs_nil i j d less h = absurd (omega arith)
 
-pairs_head : (x : ℕ × ℕ) (xs : List (ℕ × ℕ)) → AllPairs Differ (x ∷ xs) → All (Differ x) xs
+pairs_head : (x : ℕ × ℕ) (xs : List (ℕ × ℕ)) → AllPairs ComesBefore (x ∷ xs) → All (ComesBefore x) xs
 pairs_head x xs h k d within = h 0 (suc k) d (omega arith) (omega arith)
 
-pairs_tail : (x : ℕ × ℕ) (xs : List (ℕ × ℕ)) → AllPairs Differ (x ∷ xs) → AllPairs Differ xs
+pairs_tail : (x : ℕ × ℕ) (xs : List (ℕ × ℕ)) → AllPairs ComesBefore (x ∷ xs) → AllPairs ComesBefore xs
 pairs_tail x xs h i j d less within = h (suc i) (suc j) d (omega arith) (omega arith)
 
-pairs_append : (xs ys : List (ℕ × ℕ)) → AllPairs Differ xs → AllPairs Differ ys → All (λ x. All (Differ x) ys) xs → AllPairs Differ (xs ++ ys)
+pairs_append : (xs ys : List (ℕ × ℕ)) → AllPairs ComesBefore xs → AllPairs ComesBefore ys → All (λ x. All (ComesBefore x) ys) xs → AllPairs ComesBefore (xs ++ ys)
 pairs_append [] ys a b across = b
 pairs_append (x ∷ xs) ys a b across =
-    AllPairs-cons Differ x (xs ++ ys)
-    (All-append (Differ x) xs ys (pairs_head x xs a) (All-head (λ y. All (Differ y) ys) x xs across))
-    (pairs_append xs ys (pairs_tail x xs a) b (All-tail (λ y. All (Differ y) ys) x xs across))
+    AllPairs-cons ComesBefore x (xs ++ ys)
+    (All-append (ComesBefore x) xs ys (pairs_head x xs a) (All-head (λ y. All (ComesBefore y) ys) x xs across))
+    (pairs_append xs ys (pairs_tail x xs a) b (All-tail (λ y. All (ComesBefore y) ys) x xs across))
 
 -- an edge to j from a number from a on and below b
 pub record IsInto (a b j : ℕ) (e : ℕ × ℕ) : Type 0 where
@@ -58,16 +55,16 @@ starts_into p j a (suc n) =
       | inr dropped ↦ rw dropped later
     ]
 
-starts_apart : (p : ℕ → Bool) (j a n : ℕ) → AllPairs Differ (starts p j a n)
-starts_apart p j a zero = pairs_nil
-starts_apart p j a (suc n) =
-    let rest = starts_apart p j (a + 1) n in
+starts_in_order : (p : ℕ → Bool) (j a n : ℕ) → AllPairs ComesBefore (starts p j a n)
+starts_in_order p j a zero = pairs_nil
+starts_in_order p j a (suc n) =
+    let rest = starts_in_order p j (a + 1) n in
     let into = starts_into p j (a + 1) n in
-    let differ : All (Differ (a, j)) (starts p j (a + 1) n) =
-    All-weaker (IsInto (a + 1) (a + 1 + n) j) (Differ (a, j)) (λ e h. by_start (a, j) e (omega (arith, h.from))) (starts p j (a + 1) n) into
+    let differ : All (ComesBefore (a, j)) (starts p j (a + 1) n) =
+    All-weaker (IsInto (a + 1) (a + 1 + n) j) (ComesBefore (a, j)) (λ e h. by_start (a, j) e (sym h.end) (omega (arith, h.from))) (starts p j (a + 1) n) into
     in
     elim (cases_Bool (p a)) [
-      | inl kept ↦ rw kept (AllPairs-cons Differ (a, j) (starts p j (a + 1) n) differ rest)
+      | inl kept ↦ rw kept (AllPairs-cons ComesBefore (a, j) (starts p j (a + 1) n) differ rest)
       | inr dropped ↦ rw dropped rest
     ]
 
@@ -98,15 +95,23 @@ edges_between j (op ∷ ops) =
     (All-weaker (IsInto 0 (0 + j) j) (IsBetween j high) (λ e. between_into j high e within) (edges_into j op) (starts_into (λ i. list_any (names_op i) op.args) j 0 j))
     (All-weaker (IsBetween (j + 1) high) (IsBetween j high) (between_later j high) (edges_from (j + 1) ops) rest)
 
-pub edges_apart : (j : ℕ) (ops : List Op) → AllPairs Differ (edges_from j ops)
-edges_apart j [] = pairs_nil
-edges_apart j (op ∷ ops) =
+pub edges_in_order : (j : ℕ) (ops : List Op) → AllPairs ComesBefore (edges_from j ops)
+edges_in_order j [] = pairs_nil
+edges_in_order j (op ∷ ops) =
     let later = edges_between (j + 1) ops in
     let into = starts_into (λ i. list_any (names_op i) op.args) j 0 j in
     pairs_append (edges_into j op) (edges_from (j + 1) ops)
-    (starts_apart (λ i. list_any (names_op i) op.args) j 0 j)
-    (edges_apart (j + 1) ops)
-    (All-weaker (IsInto 0 (0 + j) j) (λ e. All (Differ e) (edges_from (j + 1) ops))
+    (starts_in_order (λ i. list_any (names_op i) op.args) j 0 j)
+    (edges_in_order (j + 1) ops)
+    (All-weaker (IsInto 0 (0 + j) j) (λ e. All (ComesBefore e) (edges_from (j + 1) ops))
     (λ e h.
-    All-weaker (IsBetween (j + 1) (j + 1 + length ops)) (Differ e) (λ f g. by_end e f (omega (arith, h.end, g.from))) (edges_from (j + 1) ops) later)
+    All-weaker (IsBetween (j + 1) (j + 1 + length ops)) (ComesBefore e) (λ f g. by_end e f (omega (arith, h.end, g.from))) (edges_from (j + 1) ops) later)
     (edges_into j op) into)
+
+apart : (e f : ℕ × ℕ) → ComesBefore e f → e ≢ f
+apart e f (inl less) same = omega (arith, ap (λ (x : ℕ × ℕ). x.1) same)
+apart e f (inr both) same = omega (arith, both.1, ap (λ (x : ℕ × ℕ). x.0) same)
+
+-- what stands in order stands once
+pub edges_apart : (j : ℕ) (ops : List Op) → AllPairs (λ e f. e ≢ f) (edges_from j ops)
+edges_apart j ops i k d less within = apart _ _ (edges_in_order j ops i k d less within)

@@ -1,5 +1,5 @@
 -- The problem of a behaviour in a mode, and its mode (Longnail, execution modes; the windows and the rule are this project's choice).
-use Rattle.std.specs.Prelude.{◌≡◌, ℕ, ◌+◌, ◌-◌, max, min, nat_lt, if◌then◌else◌, ◌==◌, Bool, true, false, List, [], ◌∷◌, ◌++◌, map, filter, slice_index, Contains}
+use Rattle.std.specs.Prelude.{◌≡◌, ℕ, ◌+◌, ◌-◌, max, min, nat_lt, if◌then◌else◌, ◌==◌, Bool, true, false, List, [], ◌∷◌, ◌++◌, map, filter, slice_index, Contains, ◌<◌, ◌⊎◌, slice_get, Some, All, AllPairs}
 use Rattle.std.specs.List.{list_any, range_with_len, zip}
 use Rattle.rv_core.specs.declared.Shape.{Shape}
 use Rattle.ix_graph.specs.declared.args.Arg.{Arg}
@@ -67,6 +67,22 @@ edges_into j op = map (λ i. (i, j)) (filter (λ i. list_any (names_op i) op.arg
 abbrev pub edges_from : ℕ → List Op → List (ℕ × ℕ)
 edges_from j [] = []
 edges_from j (op ∷ ops) = edges_into j op ++ edges_from (j + 1) ops
+
+-- the edge's start is an argument of the operation at its end
+pub record IsEdge (ops : List Op) (e : ℕ × ℕ) : Type 0 where
+  pub op : Op
+  pub end : slice_get ops e.1 ≡ Some op
+  pub argument : Contains op.args (arg.Op e.0)
+
+-- by the end, and of one end by the start
+abbrev pub ComesBefore : ℕ × ℕ → ℕ × ℕ → Type 0
+ComesBefore e f = (e.1 < f.1) ⊎ ((e.1 ≡ f.1) × (e.0 < f.0))
+
+-- the edges between operations: each stands once, in order
+pub record AreEdges (ops : List Op) (edges : List (ℕ × ℕ)) : Type 0 where
+  pub each : All (IsEdge ops) edges
+  pub all : (e : ℕ × ℕ) → IsEdge ops e → Contains edges e
+  pub order : AllPairs ComesBefore edges
 
 -- the problem of a graph in a mode: its legal schedules and their cost are those of the behaviour
 unfoldable pub problem_of : Graph → Sheet → Mode → Problem

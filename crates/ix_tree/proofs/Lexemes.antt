@@ -7,58 +7,10 @@ use Rattle.std.proofs.lemmas.List.{append_cancel_left}
 use Rattle.std.proofs.lemmas.List.Folds.{list_all-append}
 use Rattle.ix_bits.specs.declared.number.Ty.{Ty}
 use Rattle.ix_bits.specs.declared.number.Bits.{Bits}
+use Rattle.ix_bits.proofs.Same.{ty_is, bits_are}
 use Rattle.ix_tree.specs.declared.token.TokenKind.{TokenKind}
 use Rattle.ix_tree.specs.declared.token.TokenKind.TheVariants.{Unsized, Sized}
 use Rattle.ix_tree.specs.Lexing.{Stops, ends_comment, IsComment, comment_end, comment_byte, digit_value, IsRun, run_end, run_digit, run_gap, IsDigits, digits, IsUnsized, IsSized, IsNumber, decimal, hexadecimal, binary, sized}
-
--- ---- numbers of one type and value are one
-ty_same : (s t : Bool) (w v : ℕ) (a : 1 ≤ w) (b : w ≤ 128) (c : 1 ≤ v) (d : v ≤ 128) → s ≡ t → w ≡ v
-    → let x : Ty = record { signed = s; width = w; some_width = a; most_width = b } in
-    let y : Ty = record { signed = t; width = v; some_width = c; most_width = d } in
-    x ≡ y
-ty_same s t w v a b c d e f =
-    subst
-    (λ (n : ℕ). (p : 1 ≤ n) (q : n ≤ 128) →
-    let x : Ty = record { signed = s; width = w; some_width = a; most_width = b } in
-    let y : Ty = record { signed = t; width = n; some_width = p; most_width = q } in
-    x ≡ y)
-    f
-    (λ p q.
-    ap (λ (r : Bool). let x : Ty = record { signed = r; width = w; some_width = a; most_width = b } in x) e
-    ∙ ap (λ (r : 1 ≤ w). let x : Ty = record { signed = t; width = w; some_width = r; most_width = b } in x) (le_prop a p)
-    ∙ ap (λ (r : w ≤ 128). let x : Ty = record { signed = t; width = w; some_width = p; most_width = r } in x) (le_prop b q))
-    c d
-
-pub ty_is : (x y : Ty) → x.signed ≡ y.signed → x.width ≡ y.width → x ≡ y
-ty_is x y e f = ty_same x.signed y.signed x.width y.width x.some_width x.most_width y.some_width y.most_width e f
-
-bits_same : (r s w v : ℕ) (a : 1 ≤ w) (b : w ≤ 128) (c : r < 2 ^ w) (a' : 1 ≤ v) (b' : v ≤ 128) (c' : s < 2 ^ v) → r ≡ s → w ≡ v
-    → let x : Bits = record { raw = r; width = w; some_width = a; most_width = b; in_width = c } in
-    let y : Bits = record { raw = s; width = v; some_width = a'; most_width = b'; in_width = c' } in
-    x ≡ y
-bits_same r s w v a b c a' b' c' e f =
-    subst
-    (λ (n : ℕ). (p : 1 ≤ n) (q : n ≤ 128) (u : s < 2 ^ n) →
-    let x : Bits = record { raw = r; width = w; some_width = a; most_width = b; in_width = c } in
-    let y : Bits = record { raw = s; width = n; some_width = p; most_width = q; in_width = u } in
-    x ≡ y)
-    f
-    (λ p q.
-    subst
-    (λ (m : ℕ). (u : m < 2 ^ w) →
-    let x : Bits = record { raw = r; width = w; some_width = a; most_width = b; in_width = c } in
-    let y : Bits = record { raw = m; width = w; some_width = p; most_width = q; in_width = u } in
-    x ≡ y)
-    e
-    (λ u.
-    ap (λ (k : 1 ≤ w). let x : Bits = record { raw = r; width = w; some_width = k; most_width = b; in_width = c } in x) (le_prop a p)
-    ∙ ap (λ (k : w ≤ 128). let x : Bits = record { raw = r; width = w; some_width = p; most_width = k; in_width = c } in x) (le_prop b q)
-    ∙ ap (λ (k : r < 2 ^ w). let x : Bits = record { raw = r; width = w; some_width = p; most_width = q; in_width = k } in x) (le_prop c u)))
-    a' b' c'
-
-pub bits_are : (x y : Bits) → x.raw ≡ y.raw → x.width ≡ y.width → x ≡ y
-bits_are x y e f =
-    bits_same x.raw y.raw x.width y.width x.some_width x.most_width x.in_width y.some_width y.most_width y.in_width e f
 
 apart : (a b : ℕ) → nat_eq a b ≡ false → a ≡ b → ⊥
 apart a b e f = false≢true (sym e ∙ rw f (same_is b))

@@ -19,3 +19,4 @@ pub mod ViableStates
 pub mod Verdicts
 pub mod Views
 pub mod Names
+pub mod TypedViews

@@ -11,3 +11,5 @@ pub mod Example
 pub mod LoopHeads
 pub mod Unrolling
 pub mod Rows
+pub mod TypedTrees
+pub mod TypedView

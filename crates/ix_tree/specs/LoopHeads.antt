@@ -1,12 +1,11 @@
 -- The types and numbers of the expressions in a loop's head (CoreDSL 2, integer expressions; the exact types, and that a loop's variable has the type `int` there, are this project's choice).
 use Rattle.std.specs.Prelude.{ℕ, ◌+◌, ◌-◌, ◌≤◌, ◌<◌, ◌^◌, min, max, ℤ, pos, int_lt, int_le, unsigned_abs, List, [], ◌∷◌, Option, Some, None, Bool, true, false, ◌&&◌, ◌||◌, if◌then◌else◌, nat_eq, nat_le, nat_lt}
-use Rattle.std.proofs.Common.{lit≤}
-use Rattle.std.proofs.Math.Nat.{le-max_left, max-le, min-le_right}
 use Rattle.ix_bits.specs.declared.number.Ty.{Ty}
 use Rattle.ix_bits.specs.declared.number.Bits.{Bits}
 use Rattle.ix_bits.specs.declared.operator.BinOp.{BinOp}
 use Rattle.ix_bits.specs.declared.operator.UnOp.{UnOp}
 use Rattle.ix_bits.specs.Types.{least_of, past_of}
+use Rattle.ix_bits.specs.NearTypes.{type_with, int_type}
 use Rattle.ix_bits.specs.ResultTypes.{is_mixed, widest, binary_signed, binary_width, unary_signed, unary_width, common_signed, common_width}
 use Rattle.ix_bits.specs.Operators.{pattern_of, value_of, fit, is_true, binary_number, unary_number, bits_between}
 use Rattle.ix_tree.specs.declared.expr.TypeKind.{TypeKind}
@@ -27,23 +26,6 @@ value_in [] n = None
 value_in (b ∷ bs) n = if same_bytes b.name n then Some b.value else value_in bs n
 
 -- ---- types
--- the type of this signedness and of the width from 1 to 128 that is next to the given one
-abbrev pub type_near : Bool → ℕ → Ty
-type_near signed width =
-    record {
-      signed = signed;
-      width = max 1 (min width 128);
-      some_width = le-max_left 1 (min width 128);
-      most_width = max-le (lit≤ tt) (min-le_right width 128);
-    }
-
--- the type of this signedness and width, which there is for widths from 1 to 128
-abbrev pub type_with : Bool → ℕ → Option Ty
-type_with signed width = if nat_le 1 width && nat_le width 128 then Some (type_near signed width) else None
-
-abbrev pub int_type : Ty
-int_type = record { signed = true; width = 32; some_width = lit≤ tt; most_width = lit≤ tt }
-
 -- the number is one of the type `int`
 abbrev pub is_int : ℤ → Bool
 is_int n = int_le (least_of true 32) n && int_lt n (past_of true 32)

@@ -1,7 +1,6 @@
 -- Loops unrolled: a loop means its body once for each value of its variable (CoreDSL 2, for loops; that they are unrolled, the limits and the refusals are this project's choice).
-use Rattle.std.specs.Prelude.{◌≡◌, ℕ, ◌+◌, ◌-◌, ◌%◌, ◌^◌, ◌<◌, max, zero, suc, ℤ, pos, int_lt, unsigned_abs, List, [], ◌∷◌, ◌++◌, map, Option, Some, None, Bool, true, false, ◌&&◌, ◌||◌, if◌then◌else◌, nat_lt}
+use Rattle.std.specs.Prelude.{◌≡◌, ℕ, ◌+◌, ◌%◌, ◌^◌, ◌<◌, zero, suc, ℤ, pos, int_lt, unsigned_abs, List, [], ◌∷◌, ◌++◌, map, Option, Some, None, Bool, true, false, ◌&&◌, ◌||◌, if◌then◌else◌, nat_lt}
 use Rattle.std.specs.List.{list_all}
-use Rattle.std.specs.Int.Count.{count_leading_zeros}
 use Rattle.std.proofs.Math.Nat.{mod-lt}
 use Rattle.std.proofs.lemmas.Nat.{pow_pos}
 use Rattle.ix_bits.specs.declared.number.Bits.{Bits}
@@ -11,7 +10,9 @@ use Rattle.ix_bits.specs.Operators.{is_true}
 use Rattle.ix_tree.specs.declared.token.Span.{Span}
 use Rattle.ix_tree.specs.declared.expr.TypeText.{TypeText}
 use Rattle.ix_tree.specs.Lexing.{same_bytes}
-use Rattle.ix_tree.specs.LoopHeads.{Binding, value_in, Valued, variable_value, binary_value, head_value, is_int, type_near}
+use Rattle.ix_bits.specs.NearTypes.{type_near}
+use Rattle.ix_bits.specs.Widths.{least_width}
+use Rattle.ix_tree.specs.LoopHeads.{Binding, value_in, Valued, variable_value, binary_value, head_value, is_int}
 use Rattle.ix_tree.specs.Trees.{ExprTree, e_literal, e_name, e_pc, e_x, e_mem, e_index, e_range, e_unary, e_cast, e_binary, e_choose, LvalueTree, l_name, l_pc, l_x, l_mem, Place, AssignTree, DeclTree, StmtTree, s_block, s_empty, s_locals, s_assign, s_if, s_if_else, s_for, s_spawn, StmtRow, row_end, row_more, InstrTree, BlockTree, SectionTree, SectionKindTree, k_states, k_instructions, k_always, TextTree}
 
 abbrev pub most_turns : ℕ
@@ -116,14 +117,10 @@ abbrev pub judged : List Binding → Head → StmtTree → Turns
 judged bs h body = if is_variable h.name h.last.target.tree then started bs h body (head_value h.start bs) else breaks bound
 
 -- ---- the variables replaced by their values
--- the least width that holds the value, for values below 2^128
-abbrev pub literal_width : ℕ → ℕ
-literal_width v = max 1 (128 - count_leading_zeros 128 v)
-
 -- an unsized literal
 abbrev pub literal : Span → ℕ → ExprTree
 literal s v =
-    let ty = type_near false (literal_width v) in
+    let ty = type_near false (least_width v) in
     e_literal s ty (record { raw = v % 2 ^ ty.width; width = ty.width; some_width = ty.some_width; most_width = ty.most_width; in_width = mod-lt v (pow_pos ty.width) })
 
 -- under a unary minus where the value is negative

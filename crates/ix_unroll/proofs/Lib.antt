@@ -9,3 +9,4 @@ pub mod Statements
 pub mod Texts
 pub mod Flat
 pub mod TurnLaws
+mod MarkLaws

@@ -5,11 +5,11 @@ use Rattle.ix_unroll.specs.declared.error.UnrollErr.{UnrollErr}
 use Rattle.ix_unroll.specs.declared.error.UnrollErr.TheVariants as E
 use Rattle.ix_unroll.specs.Telling.{statements, Passes, Refuses}
 
-chosen_none : (b : Bool) (x : Option Refusal) (r : Refusal) → cond b x (Some r) ≡ None → (b ≡ true) × (x ≡ None)
+pub chosen_none : (b : Bool) (x : Option Refusal) (r : Refusal) → cond b x (Some r) ≡ None → (b ≡ true) × (x ≡ None)
 chosen_none true x r e = (refl, e)
 chosen_none false x r e = cc
 
-count_join : (xs ys : List Mark) → statements (xs ++ ys) ≡ statements xs + statements ys
+pub count_join : (xs ys : List Mark) → statements (xs ++ ys) ≡ statements xs + statements ys
 count_join [] ys = omega arith
 count_join (statement s ∷ xs) ys = let h = count_join xs ys in omega arith
 count_join (fault b s ∷ xs) ys = count_join xs ys

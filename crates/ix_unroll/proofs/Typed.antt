@@ -14,15 +14,9 @@ use Rattle.ix_bits.specs.ResultTypes.{Embeds, binary_signed, binary_width, unary
 use Rattle.ix_bits.specs.Operators.{value_of, binary_number, unary_number, is_true, pattern_of, bits_between}
 use Rattle.ix_bits.proofs.Unique.{fit_is_the_one}
 use Rattle.ix_types.specs.Results.{IsBinaryType, IsUnaryType, IsCommon}
-use Rattle.ix_tree.specs.LoopHeads.{Valued, type_near, type_with, unary_value, binary_value, choice_value, bits_at, int_type, is_int}
-use Rattle.ix_tree.proofs.Lexemes.{ty_is}
-
-pub type_with_is : (ty : Ty) (s : Bool) (w : ℕ) → ty.signed ≡ s → ty.width ≡ w → type_with s w ≡ Some ty
-type_with_is ty s w e f =
-    let a : nat_le 1 w ≡ true = le-leb 1 w (omega (arith, ty.some_width)) in
-    let b : nat_le w 128 ≡ true = le-leb w 128 (omega (arith, ty.most_width)) in
-    let n : max 1 (min w 128) ≡ ty.width = omega (arith, ty.some_width, ty.most_width) in
-    rw (a, b) (ap Some (ty_is (type_near s w) ty (sym e) n))
+use Rattle.ix_bits.specs.NearTypes.{type_near, type_with, int_type}
+use Rattle.ix_tree.specs.LoopHeads.{Valued, unary_value, binary_value, choice_value, bits_at, is_int}
+use Rattle.ix_bits.proofs.Same.{ty_is, type_with_is}
 
 pub unary_is : (op : UnOp) (a ty : Ty) (n : ℤ) (w raw : ℕ) → IsUnaryType op a ty → w ≡ unary_width op a → number_of (unary_signed op a) w raw ≡ unary_number op a n
     → Some (let v : Valued = record { ty = ty; number = value_of ty raw } in v) ≡ unary_value op (Some (record { ty = a; number = n }))

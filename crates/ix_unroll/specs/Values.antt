@@ -2,7 +2,7 @@
 use Rattle.std.specs.Prelude.{ℕ, ℤ, pos, int_lt, int_le, unsigned_abs, Option, Some, None, ◌&&◌, if◌then◌else◌}
 use Rattle.ix_bits.specs.Operators.{value_of}
 use Rattle.ix_tree.specs.LoopHeads.{Valued, is_int}
-use Rattle.ix_unroll.specs.declared.number.Value.{Value}
+use Rattle.ix_bits.specs.declared.number.Value.{Value}
 
 abbrev pub seen : Value → Valued
 seen x = record { ty = x.ty; number = value_of x.ty x.bits.raw }

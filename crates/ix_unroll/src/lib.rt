@@ -4,7 +4,6 @@
 mod assigned;
 mod error;
 mod laws;
-mod number;
 mod parts;
 mod put;
 mod scope;
@@ -18,3 +17,4 @@ mod value;
 pub use error::UnrollErr;
 pub use laws::loop_laws;
 pub use text::unroll;
+pub use value::constant_value;

@@ -1,11 +1,11 @@
 ghost use Rattle.std.specs.Prelude.{◌≡◌, ◌≤◌, ◌^◌, ◌<◌, map, IfOk};
 ghost use Rattle.ix_tree.specs.LoopHeads.{value_in};
 ghost use Rattle.ix_tree.specs.View.{view, view_option, view_place, view_assign, view_decl};
-ghost use Rattle.ix_tree.specs.Unrolling.{literal, literal_width, number_tree, put_name, put, put_option, put_assign, put_decl, put_place};
+ghost use Rattle.ix_tree.specs.Unrolling.{literal, number_tree, put_name, put, put_option, put_assign, put_decl, put_place};
 ghost use Rattle.ix_unroll.specs.Scopes.{bindings};
 
 use crate::scope::{Scope, value_in};
-use ix_bits::{Bits, List, Memory, Name, Ty, UnOp};
+use ix_bits::{Bits, List, Memory, Name, Ty, UnOp, least_width};
 use ix_tree::{Assign, Decl, Expr, ExprKind, Lvalue, LvalueKind, Span};
 use std::alloc::Global;
 
@@ -81,7 +81,7 @@ fn literal(span: Span, value: u32) -> Expr
     ensures { view result ≡ literal span value }
 {
     let raw = u128::from(value);
-    let width = literal_width(raw);
+    let width = least_width(raw);
     Expr {
         span,
         kind: ExprKind::Literal(
@@ -91,20 +91,6 @@ fn literal(span: Span, value: u32) -> Expr
             },
             Bits { raw, width },
         ),
-    }
-}
-
-// The least width that holds the value, in bits.
-fn literal_width(value: u128) -> u8
-    ensures some { 1 ≤ result }
-    ensures most { result ≤ 128 }
-    ensures holds { value < 2 ^ result }
-    ensures value { result ≡ literal_width value }
-{
-    if value == 0 {
-        1
-    } else {
-        128 - value.leading_zeros() as u8
     }
 }
 

@@ -8,9 +8,9 @@ ghost use Rattle.ix_unroll.specs.Turning.{head_of, StepIs, ErrIs};
 
 use crate::UnrollErr;
 use crate::assigned::{is_variable, touches};
-use crate::number::Value;
 use crate::scope::Scope;
 use crate::value::{head_value, holds, in_int, stepped};
+use ix_bits::Value;
 use ix_tree::{Loop, Span};
 use std::alloc::Global;
 

@@ -1,15 +1,15 @@
-ghost use Rattle.std.specs.Prelude.{◌≡◌, ◌≤◌, pos, int_lt};
+ghost use Rattle.std.specs.Prelude.{◌≡◌, [], pos};
 ghost use Rattle.ix_bits.specs.ResultTypes.{Embeds};
 ghost use Rattle.ix_bits.specs.Operators.{is_true};
 ghost use Rattle.ix_tree.specs.Unrolling.{stepped};
 ghost use Rattle.ix_tree.specs.View.{view};
-ghost use Rattle.ix_tree.specs.LoopHeads.{head_value, type_with, written_type, cast_type, valued, literal_value, variable_value, unary_value, binary_value, cast_value, bits_value, bits_at, choice_value, int_type};
+ghost use Rattle.ix_bits.specs.NearTypes.{type_with, int_type};
+ghost use Rattle.ix_tree.specs.LoopHeads.{head_value, written_type, cast_type, valued, literal_value, variable_value, unary_value, binary_value, cast_value, bits_value, bits_at, choice_value};
 ghost use Rattle.ix_unroll.specs.Scopes.{bindings};
 ghost use Rattle.ix_unroll.specs.Values.{seen, seen_option, in_int, place_of};
 
-use crate::number::Value;
 use crate::scope::{Scope, value_in};
-use ix_bits::{BinOp, Bits, Ty, UnOp, binary, cast, range, unary};
+use ix_bits::{BinOp, Bits, Ty, UnOp, Value, binary, cast, is_negative, range, unary};
 use ix_tree::{CastTo, Expr, ExprKind, TypeKind};
 use ix_types::{common, type_of_binary, type_of_unary};
 
@@ -47,6 +47,13 @@ pub fn head_value(scope: &Scope, e: &Expr) -> Option<Value>
             head_value(scope, f),
         ),
     }
+}
+
+/// The value of an expression of literals alone, if it has a type.
+pub fn constant_value(e: &Expr) -> Option<Value>
+    ensures { seen_option result ≡ head_value (view e.now) [] }
+{
+    head_value(&Scope::Outside, e)
 }
 
 // The type of this signedness and width, if it has one.
@@ -187,18 +194,11 @@ fn bits_at(x: Value, high: Value, low: Value) -> Option<Value>
 fn place(x: Value) -> Option<u8>
     ensures { result ≡ place_of (seen x).number }
 {
-    if is_negative(x) || 128 <= x.bits.raw {
+    if is_negative(x.ty, x.bits) || 128 <= x.bits.raw {
         None
     } else {
         Some(x.bits.raw as u8)
     }
-}
-
-// Whether the number is negative.
-fn is_negative(x: Value) -> bool
-    ensures { result ≡ int_lt (seen x).number (pos 0) }
-{
-    x.ty.signed && x.bits.raw >> (x.ty.width - 1) != 0
 }
 
 fn choice_value(c: Option<Value>, x: Option<Value>, y: Option<Value>) -> Option<Value>
@@ -252,7 +252,7 @@ pub fn stepped(op: Option<BinOp>, v: i32, e: Option<Value>) -> Option<Value>
 pub fn in_int(x: Value) -> Option<i32>
     ensures { result ≡ in_int (seen x).number }
 {
-    if is_negative(x) {
+    if is_negative(x.ty, x.bits) {
         let beyond = (u128::MAX >> (128 - x.ty.width)) - x.bits.raw;
         if beyond < 1 << 31 {
             Some(-1 - beyond as i32)

@@ -1,5 +1,5 @@
 -- Between a word and its instruction, and back.
-use Rattle.std.proofs.Common.{ℕ, ◌+◌, ◌*◌, ◌/◌, ◌%◌, ◌^◌, ◌<◌, ◌≡◌, bit_and, refl, sym, ◌∙◌, ap, arith, w32, pos, lit≤, Option, Some, None}
+use Rattle.std.proofs.Common.{ℕ, ◌+◌, ◌*◌, ◌/◌, ◌%◌, ◌^◌, ◌<◌, ◌≡◌, bit_and, refl, sym, true, ◌∙◌, ap, arith, w32, pos, lit≤, Option, Some, None}
 use Rattle.std.specs.Int.{cast_unsigned}
 use Rattle.std.proofs.lemmas.Option.{none-some, same_Some}
 use Rattle.rv_isa.specs.Table.{pattern_of, format_of, row_of, Matches}
@@ -11,7 +11,8 @@ use Rattle.rv_isa.specs.declared.table.Format.TheVariants.{Register, Immediate, 
 use Rattle.rv_isa.proofs.FieldLemmas.{is_base}
 use Rattle.rv_isa.proofs.TableLemmas.{mask_of, mask_is, match_under_mask}
 use Rattle.rv_isa.proofs.MaskLemmas.{and_opcode, and_function, and_functions, and_whole}
-use Rattle.rv_isa.proofs.SignLemmas.{low_signed_12, low_signed_13, low_signed_21, low_signed_32, signed_low_12, signed_low_13, signed_low_21, signed_low_32, amount_low, even-cast_unsigned, page-cast_unsigned, cast_unsigned-lt, IsWithin-wider}
+use Rattle.rv_isa.proofs.SignLemmas.{low_signed_12, low_signed_13, low_signed_21, low_signed_32, signed_low_12, signed_low_13, signed_low_21, signed_low_32, amount_low, even-cast_unsigned, page-cast_unsigned, cast_unsigned-lt}
+use Rattle.ix_bits.proofs.Ranges.{holds_wider}
 use Rattle.rv_isa.proofs.RowLemmas.{row_of-from_Matches, decoded_from_row, decoded_from_None, row_of-Some, IsInRange-fields_of}
 use Rattle.rv_isa.specs.Decoded.{decoded}
 
@@ -155,7 +156,7 @@ round_Branch b h e =
     let rd = h.rd in
     let rs1 = h.rs1 in
     let rs2 = h.rs2 in
-    let even : y % 2 ≡ 0 = even-cast_unsigned b.imm (IsWithin-wider 4096 (2 ^ 31) b.imm (lit≤ tt) format.1) format.2 in
+    let even : y % 2 ≡ 0 = even-cast_unsigned b.imm (holds_wider true 13 32 b.imm (lit≤ tt) (lit≤ tt) format.1) format.2 in
     let imm : bits_of word 31 31 * 2 ^ 12 + bits_of word 7 7 * 2 ^ 11 + bits_of word 30 25 * 2 ^ 5 + bits_of word 11 8 * 2 ≡ y % 8192 = omega arith in
     record {
       fits = omega arith;
@@ -194,7 +195,7 @@ round_Jump b h e =
     let rd = h.rd in
     let rs1 = h.rs1 in
     let rs2 = h.rs2 in
-    let even : y % 2 ≡ 0 = even-cast_unsigned b.imm (IsWithin-wider (2 ^ 20) (2 ^ 31) b.imm (lit≤ tt) format.2) format.3 in
+    let even : y % 2 ≡ 0 = even-cast_unsigned b.imm (holds_wider true 21 32 b.imm (lit≤ tt) (lit≤ tt) format.2) format.3 in
     let imm : bits_of word 31 31 * 2 ^ 20 + bits_of word 19 12 * 2 ^ 12 + bits_of word 20 20 * 2 ^ 11 + bits_of word 30 21 * 2 ≡ y % 2097152 = omega arith in
     record {
       fits = omega arith;

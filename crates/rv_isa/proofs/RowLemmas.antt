@@ -12,7 +12,8 @@ use Rattle.rv_isa.specs.declared.table.Format.{Format}
 use Rattle.rv_isa.specs.declared.table.Format.TheVariants.{Register, Immediate, Shift, Store, Branch, Upper, Jump, Fixed}
 use Rattle.rv_isa.proofs.TableLemmas.{not_both}
 use Rattle.rv_isa.proofs.Positions.{fails_from_length, length_from_None}
-use Rattle.rv_isa.proofs.SignLemmas.{IsWithin-signed, even-signed, page-signed}
+use Rattle.ix_bits.proofs.Results.{within_value}
+use Rattle.rv_isa.proofs.SignLemmas.{even-signed, page-signed}
 
 length-patterns : length base_patterns ≡ 40
 unfolding base_patterns
@@ -39,27 +40,27 @@ unfolding fields_of
 IsInRange-fields_of Register row word e h =
     record { row = h; rd = omega arith; rs1 = omega arith; rs2 = omega arith; format = rw e refl }
 IsInRange-fields_of Immediate row word e h =
-    let within = IsWithin-signed 2048 (bits_of word 31 20) (omega arith) in
+    let within = within_value true 12 (bits_of word 31 20) (omega arith) (omega arith) in
     record { row = h; rd = omega arith; rs1 = omega arith; rs2 = omega arith; format = rw e (refl, within) }
 IsInRange-fields_of Shift row word e h =
     let amount : bits_of word 24 20 < 32 = omega arith in
     record { row = h; rd = omega arith; rs1 = omega arith; rs2 = omega arith; format = rw e (refl, omega (arith, ints), omega (arith, ints)) }
 IsInRange-fields_of Store row word e h =
-    let within = IsWithin-signed 2048 (bits_of word 31 25 * 2 ^ 5 + bits_of word 11 7) (omega arith) in
+    let within = within_value true 12 (bits_of word 31 25 * 2 ^ 5 + bits_of word 11 7) (omega arith) (omega arith) in
     record { row = h; rd = omega arith; rs1 = omega arith; rs2 = omega arith; format = rw e (refl, within) }
 IsInRange-fields_of Branch row word e h =
     let bits : ℕ = bits_of word 31 31 * 2 ^ 12 + bits_of word 7 7 * 2 ^ 11 + bits_of word 30 25 * 2 ^ 5 + bits_of word 11 8 * 2 in
-    let within = IsWithin-signed 4096 bits (omega arith) in
+    let within = within_value true 13 bits (omega arith) (omega arith) in
     let even = even-signed 4096 bits refl (omega arith) (omega arith) in
     record { row = h; rd = omega arith; rs1 = omega arith; rs2 = omega arith; format = rw e (refl, within, even) }
 IsInRange-fields_of Upper row word e h =
     let bits : ℕ = bits_of word 31 12 * 2 ^ 12 in
-    let within = IsWithin-signed (2 ^ 31) bits (omega arith) in
+    let within = within_value true 32 bits (omega arith) (omega arith) in
     let page = page-signed (2 ^ 31) bits refl (omega arith) (omega arith) in
     record { row = h; rd = omega arith; rs1 = omega arith; rs2 = omega arith; format = rw e (refl, refl, within, page) }
 IsInRange-fields_of Jump row word e h =
     let bits : ℕ = bits_of word 31 31 * 2 ^ 20 + bits_of word 19 12 * 2 ^ 12 + bits_of word 20 20 * 2 ^ 11 + bits_of word 30 21 * 2 in
-    let within = IsWithin-signed (2 ^ 20) bits (omega arith) in
+    let within = within_value true 21 bits (omega arith) (omega arith) in
     let even = even-signed (2 ^ 20) bits refl (omega arith) (omega arith) in
     record { row = h; rd = omega arith; rs1 = omega arith; rs2 = omega arith; format = rw e (refl, refl, within, even) }
 IsInRange-fields_of Fixed row word e h =

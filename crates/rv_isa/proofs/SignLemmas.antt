@@ -1,17 +1,13 @@
 -- Two's complement.
-use Rattle.std.proofs.Common.{ℕ, ◌-◌, ◌*◌, ◌/◌, ◌%◌, ◌^◌, ◌<◌, ◌≤◌, ◌≡◌, pos, ◌-ℤ◌, nat_lt, if◌then◌else◌, unsigned_abs, arith, to_z, of_z, w32, ◌∙◌, refl, inl, inr, ℤ, ◌≤ℤ◌, ◌<ℤ◌}
+use Rattle.std.proofs.Common.{ℕ, ◌-◌, ◌*◌, ◌/◌, ◌%◌, ◌^◌, ◌<◌, ◌≤◌, ◌≡◌, pos, ◌-ℤ◌, nat_lt, if◌then◌else◌, unsigned_abs, arith, to_z, of_z, w32, ◌∙◌, refl, inl, inr, ℤ, true, ◌≤ℤ◌, ◌<ℤ◌}
 use Rattle.std.proofs.lemmas.Int.{ints}
 use Rattle.std.proofs.lemmas.Bool.{cond_above, cases_lt}
 use Rattle.std.proofs.lemmas.Nat.{one_shl}
 use Rattle.std.proofs.Math.Nat.{div-eq_of_lt}
 use Rattle.std.proofs.Math.Pow.{pow_mono}
 use Rattle.std.specs.Int.{cast_unsigned}
-use Rattle.rv_isa.specs.Fields.{IsWithin, signed}
-
--- the number that x stands for, where 2 * half patterns are read in two's complement
-pub IsWithin-signed : (half x : ℕ) → x < 2 * half →
-    IsWithin half (if nat_lt x half then pos x else pos x -ℤ pos (2 * half))
-IsWithin-signed half x h = grind (arith, ints)
+use Rattle.ix_bits.specs.Types.{IsWithin}
+use Rattle.rv_isa.specs.Fields.{signed}
 
 -- what the code computes where the sign bit is set
 pub signed_negative : (width x : ℕ) → width ≤ 30 → x < 2 ^ width → (x / 2 ^ (width - 1) ≡ 0 → ⊥) →
@@ -49,32 +45,28 @@ pub low_signed_32 : (x : ℕ) → x < 2 ^ 32 → cast_unsigned w32 (signed 32 x)
 low_signed_32 x h = grind (arith, ints)
 
 -- the number that the low bits of a number within the width stand for is that number
-pub signed_low_12 : (z : ℤ) → IsWithin 2048 z → signed 12 (cast_unsigned w32 z % 4096) ≡ z
+pub signed_low_12 : (z : ℤ) → IsWithin true 12 z → signed 12 (cast_unsigned w32 z % 4096) ≡ z
 signed_low_12 z h = grind (arith, ints)
 
-pub signed_low_13 : (z : ℤ) → IsWithin 4096 z → signed 13 (cast_unsigned w32 z % 8192) ≡ z
+pub signed_low_13 : (z : ℤ) → IsWithin true 13 z → signed 13 (cast_unsigned w32 z % 8192) ≡ z
 signed_low_13 z h = grind (arith, ints)
 
-pub signed_low_21 : (z : ℤ) → IsWithin (2 ^ 20) z → signed 21 (cast_unsigned w32 z % 2097152) ≡ z
+pub signed_low_21 : (z : ℤ) → IsWithin true 21 z → signed 21 (cast_unsigned w32 z % 2097152) ≡ z
 signed_low_21 z h = grind (arith, ints)
 
-pub signed_low_32 : (z : ℤ) → IsWithin (2 ^ 31) z → signed 32 (cast_unsigned w32 z) ≡ z
+pub signed_low_32 : (z : ℤ) → IsWithin true 32 z → signed 32 (cast_unsigned w32 z) ≡ z
 signed_low_32 z h = grind (arith, ints)
 
 pub amount_low : (z : ℤ) → pos 0 ≤ℤ z → z <ℤ pos 32 → pos (cast_unsigned w32 z % 32) ≡ z
 amount_low z h k = grind (arith, ints)
 
 -- the pattern of a multiple of 2, or of 4096, is one
-pub even-cast_unsigned : (z : ℤ) → IsWithin (2 ^ 31) z → unsigned_abs z % 2 ≡ 0 → cast_unsigned w32 z % 2 ≡ 0
+pub even-cast_unsigned : (z : ℤ) → IsWithin true 32 z → unsigned_abs z % 2 ≡ 0 → cast_unsigned w32 z % 2 ≡ 0
 even-cast_unsigned z h e = grind (arith, ints)
 
-pub page-cast_unsigned : (z : ℤ) → IsWithin (2 ^ 31) z → unsigned_abs z % 4096 ≡ 0 → cast_unsigned w32 z % 4096 ≡ 0
+pub page-cast_unsigned : (z : ℤ) → IsWithin true 32 z → unsigned_abs z % 4096 ≡ 0 → cast_unsigned w32 z % 4096 ≡ 0
 page-cast_unsigned z h e = grind (arith, ints)
 
--- a number within a limit is within a greater one
-pub IsWithin-wider : (limit more : ℕ) (z : ℤ) → limit ≤ more → IsWithin limit z → IsWithin more z
-IsWithin-wider limit more z less h = grind (arith, ints)
-
 -- the pattern of a number has 32 bits
-pub cast_unsigned-lt : (z : ℤ) → IsWithin (2 ^ 31) z → cast_unsigned w32 z < 2 ^ 32
+pub cast_unsigned-lt : (z : ℤ) → IsWithin true 32 z → cast_unsigned w32 z < 2 ^ 32
 cast_unsigned-lt z h = grind (arith, ints)

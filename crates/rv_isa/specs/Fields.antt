@@ -1,7 +1,7 @@
 -- Fields and immediates of a word, by format
 -- (RISC-V Unprivileged ISA, RV32I, Base Instruction Formats and Immediate Encoding Variants).
-use Rattle.std.specs.Prelude.{ℕ, ◌+◌, ◌-◌, ◌*◌, ◌/◌, ◌%◌, ◌^◌, ◌<◌, ◌≡◌, ℤ, pos, neg_ℤ, ◌≤ℤ◌, ◌<ℤ◌, true, unsigned_abs}
-use Rattle.ix_bits.specs.Types.{number_of}
+use Rattle.std.specs.Prelude.{ℕ, ◌+◌, ◌-◌, ◌*◌, ◌/◌, ◌%◌, ◌^◌, ◌<◌, ◌≡◌, ℤ, pos, ◌≤ℤ◌, ◌<ℤ◌, true, unsigned_abs}
+use Rattle.ix_bits.specs.Types.{IsWithin, number_of}
 use Rattle.rv_isa.specs.Table.{format_of}
 use Rattle.rv_isa.specs.declared.base.Base.{Base}
 use Rattle.rv_isa.specs.declared.table.Format.{Format}
@@ -57,11 +57,6 @@ fields_of Upper row w = record { row = row; rd = rd_of w; rs1 = 0; rs2 = 0; imm 
 fields_of Jump row w = record { row = row; rd = rd_of w; rs1 = 0; rs2 = 0; imm = jump_offset_of w }
 fields_of Fixed row w = record { row = row; rd = 0; rs1 = 0; rs2 = 0; imm = pos 0 }
 
--- the number is at least -limit and below limit
-pub record IsWithin (limit : ℕ) (n : ℤ) : Type 0 where
-  pub low : neg_ℤ (pos limit) ≤ℤ n
-  pub high : n <ℤ pos limit
-
 -- the number is a multiple of the step
 abbrev pub IsMultiple : ℕ → ℤ → Type 0
 IsMultiple step n = unsigned_abs n % step ≡ 0
@@ -69,12 +64,12 @@ IsMultiple step n = unsigned_abs n % step ≡ 0
 -- the immediate is one that the format can hold, and the fields that the format lacks are 0
 abbrev pub HasFormat : Format → Base → Type 0
 HasFormat Register b = b.imm ≡ pos 0
-HasFormat Immediate b = (b.rs2 ≡ 0) × IsWithin (2 ^ 11) b.imm
+HasFormat Immediate b = (b.rs2 ≡ 0) × IsWithin true 12 b.imm
 HasFormat Shift b = (b.rs2 ≡ 0) × (pos 0 ≤ℤ b.imm) × (b.imm <ℤ pos 32)
-HasFormat Store b = (b.rd ≡ 0) × IsWithin (2 ^ 11) b.imm
-HasFormat Branch b = (b.rd ≡ 0) × IsWithin (2 ^ 12) b.imm × IsMultiple 2 b.imm
-HasFormat Upper b = (b.rs1 ≡ 0) × (b.rs2 ≡ 0) × IsWithin (2 ^ 31) b.imm × IsMultiple 4096 b.imm
-HasFormat Jump b = (b.rs1 ≡ 0) × (b.rs2 ≡ 0) × IsWithin (2 ^ 20) b.imm × IsMultiple 2 b.imm
+HasFormat Store b = (b.rd ≡ 0) × IsWithin true 12 b.imm
+HasFormat Branch b = (b.rd ≡ 0) × IsWithin true 13 b.imm × IsMultiple 2 b.imm
+HasFormat Upper b = (b.rs1 ≡ 0) × (b.rs2 ≡ 0) × IsWithin true 32 b.imm × IsMultiple 4096 b.imm
+HasFormat Jump b = (b.rs1 ≡ 0) × (b.rs2 ≡ 0) × IsWithin true 21 b.imm × IsMultiple 2 b.imm
 HasFormat Fixed b = (b.rd ≡ 0) × (b.rs1 ≡ 0) × (b.rs2 ≡ 0) × (b.imm ≡ pos 0)
 
 -- the row exists, and each field is in the range that the row's format gives it

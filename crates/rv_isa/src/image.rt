@@ -1,4 +1,5 @@
 ghost use Rattle.std.specs.Prelude.{◌≡◌, ◌==◌, ◌<◌, ◌≤◌, [], ◌∷◌, ◌++◌, length, slice_index, OnOk, OnErr};
+ghost use Rattle.rv_isa.specs.Images.{most_words};
 
 use ix_bits::{List, Memory};
 use std::alloc::Global;
@@ -12,12 +13,13 @@ pub struct Image {
 
 impl Model for Image {
     ghost use Rattle.std.specs.Prelude.{List, ℕ, ◌≤◌, length};
+    ghost use Rattle.rv_isa.specs.Images.{most_words};
 
     ghost Value = { List ℕ };
 
     ghost view = { λ image. image.words };
 
-    ghost invariant = { λ image. length image.words ≤ 65536 };
+    ghost invariant = { λ image. length image.words ≤ most_words };
 }
 
 impl Image {
@@ -35,7 +37,7 @@ impl Image {
 
     /// An image of these words, at most 65,536.
     pub fn from_list(words: List<u32>) -> Image
-        requires { length words ≤ 65536 }
+        requires { length words ≤ most_words }
         ensures { result ≡ words }
     {
         Image { words }
@@ -43,7 +45,7 @@ impl Image {
 
     /// Puts a word behind the last one, where there is room. Without memory the image stays as it was.
     pub fn push(&mut self, word: u32) -> Result<(), Memory>
-        requires { length self.old < 65536 }
+        requires { length self.old < most_words }
         ensures ok { OnOk result (self.new ≡ self.old ++ word ∷ []) }
         ensures err { OnErr result (self.new ≡ self.old) }
     {
@@ -53,7 +55,7 @@ impl Image {
     /// The count of words, at most 65,536.
     pub fn len(&self) -> u32
         ensures value { result ≡ length self.now }
-        ensures most { result ≤ 65536 }
+        ensures most { result ≤ most_words }
     {
         self.words.len() as u32
     }
@@ -76,7 +78,7 @@ impl Image {
     /// The words, in order.
     pub fn as_slice(&self) -> &[u32]
         ensures words { result.now ≡ self.now }
-        ensures most { length self.now ≤ 65536 }
+        ensures most { length self.now ≤ most_words }
     {
         self.words.as_slice()
     }

@@ -1,6 +1,7 @@
 ghost use Rattle.std.specs.Prelude.{ℕ, ◌≡◌, ◌<◌, ◌^◌, IsTrue, Some};
 ghost use Rattle.ix_bits.specs.BaseTable.{are_apart};
 ghost use Rattle.rv_isa.specs.Table.{Matches, pattern_of};
+ghost use Rattle.rv_isa.specs.RowNames.{RowsAreNumbered};
 ghost use Rattle.rv_isa.specs.Fields.{IsInRange};
 ghost use Rattle.rv_isa.specs.Decoded.{decoded};
 ghost use Rattle.rv_isa.specs.Encoded.{encoded};
@@ -18,4 +19,9 @@ pub fn decoding_undoes_encoding()
     ensures instruction { (b : Base) → IsInRange b → decoded (encoded b) ≡ Some b }
     ensures in_range { (word : ℕ) (b : Base) → decoded word ≡ Some b → IsInRange b }
     ensures word { (word : ℕ) (b : Base) → word < 2 ^ 32 → decoded word ≡ Some b → encoded b ≡ word }
+{}
+
+/// Each named row stands at its own place in the base table.
+pub fn rows_are_numbered()
+    ensures { RowsAreNumbered }
 {}

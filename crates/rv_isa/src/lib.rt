@@ -17,5 +17,5 @@ pub use base::Base;
 pub use decoding::decode;
 pub use encoding::encode;
 pub use image::Image;
-pub use law::{decoding_undoes_encoding, rows_are_apart};
+pub use law::{decoding_undoes_encoding, rows_are_apart, rows_are_numbered};
 pub use table::{Format, base_format, base_pattern};

@@ -4,7 +4,7 @@ use Rattle.ix_bits.specs.declared.number.Bits.{Bits}
 use Rattle.ix_tree.specs.declared.token.Span.{Span}
 use Rattle.ix_tree.specs.Trees.{e_literal}
 use Rattle.ix_tree.specs.Productions.{bit_type, one_bit}
-use Rattle.ix_tree.proofs.Lexemes.{ty_is, bits_are}
+use Rattle.ix_bits.proofs.Same.{ty_is, bits_are}
 use Rattle.ix_parse.proofs.place.one.Goals as goal
 
 one_is : (s : Span) (t : Ty) (b : Bits) → t.signed ≡ false → t.width ≡ 1 → b.raw ≡ 1 → b.width ≡ 1 → e_literal s t b ≡ e_literal s bit_type one_bit

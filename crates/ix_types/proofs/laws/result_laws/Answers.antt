@@ -1,7 +1,6 @@
 use Rattle.std.proofs.Common.{◌≡◌, ℕ, ℤ, Bool}
 use Rattle.ix_bits.specs.declared.number.Ty.{Ty}
-use Rattle.ix_bits.specs.Types.{HoldsNumber}
-use Rattle.ix_bits.specs.Operators.{IsWithin}
+use Rattle.ix_bits.specs.Types.{HoldsNumber, IsWithin}
 use Rattle.ix_bits.proofs.Embeddings.{within, held}
 use Rattle.ix_bits.proofs.InRange.{binary_holds, unary_holds}
 use Rattle.ix_types.proofs.laws.result_laws.Goals as goal

@@ -2,8 +2,8 @@ use Rattle.std.proofs.Common.{ap, ◌∙◌, true, refl}
 use Rattle.std.specs.Int.{cast_unsigned, w32}
 use Rattle.std.proofs.lemmas.Int.{to_z-of_z}
 use Rattle.ix_bits.specs.Types.{number_of}
-use Rattle.ix_tree.specs.LoopHeads.{int_type}
-use Rattle.ix_tree.proofs.Lexemes.{ty_is}
+use Rattle.ix_bits.specs.NearTypes.{int_type}
+use Rattle.ix_bits.proofs.Same.{ty_is}
 use Rattle.ix_unroll.proofs.Typed.{valued_same, int_is}
 use Rattle.ix_unroll.proofs.value.int_value.Goals as goal
 
