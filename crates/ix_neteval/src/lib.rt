@@ -4,7 +4,5 @@
 mod arithmetic;
 mod running;
 mod sim;
-#[cfg(test)]
-mod tests;
 
 pub use sim::{Sim, prepare};
