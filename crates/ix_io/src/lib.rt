@@ -21,6 +21,3 @@ pub use shelf::{Failed, Shelf};
 pub use sink::Sink;
 pub use sure::{SureShelf, SureSink};
 pub use write::{WriteErr, write_all};
-
-#[cfg(test)]
-mod tests;

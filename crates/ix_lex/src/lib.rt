@@ -8,8 +8,6 @@ mod reader;
 mod scan;
 mod symbol;
 mod table;
-#[cfg(test)]
-mod tests;
 mod word;
 
 pub use error::LexErr;

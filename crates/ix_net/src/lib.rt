@@ -7,8 +7,6 @@ mod laws;
 mod netlist;
 mod ordering;
 mod tables;
-#[cfg(test)]
-mod tests;
 mod wires;
 
 pub use gates::Gate;

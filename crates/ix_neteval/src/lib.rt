@@ -5,8 +5,6 @@ mod arithmetic;
 mod laws;
 mod running;
 mod sim;
-#[cfg(test)]
-mod tests;
 
 pub use laws::simulators_run;
 pub use sim::{Sim, prepare};

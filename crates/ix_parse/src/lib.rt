@@ -25,8 +25,6 @@ mod stack;
 mod state;
 mod step;
 mod stmt;
-#[cfg(test)]
-mod tests;
 mod types;
 mod verdict;
 

@@ -10,7 +10,5 @@ mod optimum;
 mod residual;
 mod schedule;
 mod search;
-#[cfg(test)]
-mod tests;
 
 pub use schedule::{SolveErr, Solved, solve};

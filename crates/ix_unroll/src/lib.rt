@@ -8,8 +8,6 @@ mod parts;
 mod put;
 mod scope;
 mod statement;
-#[cfg(test)]
-mod tests;
 mod text;
 mod turns;
 mod value;

@@ -1,5 +1,5 @@
-use crate::{ParseErr, parse};
 use ix_bits::Name;
+use ix_parse::{ParseErr, parse};
 use ix_tree::{Span, Token, TokenKind};
 use std::test::Fail;
 

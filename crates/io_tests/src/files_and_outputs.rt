@@ -1,5 +1,7 @@
-use super::*;
 use ix_bits::{Bits, List, Memory, Name};
+use ix_io::{
+    HostShelf, HostSink, MemShelf, MemSink, Out, ReadErr, SureShelf, SureSink, read_all, write_all,
+};
 use std::alloc::Global;
 use std::test::Fail;
 use std::{fs, process};

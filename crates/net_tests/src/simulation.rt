@@ -1,8 +1,8 @@
 ghost use Rattle.std.specs.Prelude.{◌≡◌, ◌≤◌, length, IfOk};
 
-use crate::sim::{Sim, prepare};
 use ix_bits::{Bits, List, Memory, Name};
 use ix_net::{Bank, Cell, Form, Net, Port, is_valid};
+use ix_neteval::{Sim, prepare};
 use std::alloc::Global;
 use std::process::Abort;
 use std::test::Fail;

@@ -1,9 +1,7 @@
 ghost use Rattle.std.specs.Prelude.{◌≤◌, length};
 
-use crate::keywords::is_name;
-use crate::netlist::{Bank, Cell, Form, Net, Port};
-use crate::wires::is_valid;
 use ix_bits::{Bits, List, Name};
+use ix_net::{Bank, Cell, Form, Net, Port, is_valid};
 use std::alloc::Global;
 use std::test::Fail;
 
@@ -58,8 +56,22 @@ fn judge_copies(alloc: Global, first: &str, second: &str) -> Result<bool, Fail>
     judge(alloc, cells, Vec::new(alloc))
 }
 
+/// Whether the net of this name that declares nothing is valid.
+fn judge_name(alloc: Global, text: &str) -> Result<bool, Fail>
+    requires { length text.now ≤ 80 }
+{
+    let net = Net {
+        name: name(alloc, text)?,
+        inputs: List::new(alloc),
+        cells: List::new(alloc),
+        banks: List::new(alloc),
+        outputs: List::new(alloc),
+    };
+    Ok(is_valid(alloc, &net)?)
+}
+
 #[test]
-fn names_follow_the_rule(rt: HostRuntime) {
+fn names_follow_the_rule(rt: HostRuntime) -> Result<(), Fail> {
     for (text, right) in [
         ("n0", true),
         ("_", true),
@@ -73,8 +85,10 @@ fn names_follow_the_rule(rt: HostRuntime) {
         ("tri0", false),
         ("pulsestyle_onevent", false),
     ] {
-        assert_eq!(rt; is_name(text), right, "at {text:?}");
+        assert!(rt; text.len() <= 80);
+        assert_eq!(rt; judge_name(rt.alloc(), text)?, right, "at {text:?}");
     }
+    Ok(())
 }
 
 #[test]

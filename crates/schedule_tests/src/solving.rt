@@ -1,9 +1,9 @@
 ghost use Rattle.std.specs.Prelude.{IfOk};
 ghost use Rattle.ix_sheet.specs.Schedules.{IsValidProblem};
 
-use crate::{SolveErr, solve};
 use ix_bits::List;
 use ix_sheet::{Bound, Node, Problem};
+use ix_solve::{SolveErr, solve};
 use std::alloc::{AllocError, Global};
 use std::test::Fail;
 

@@ -1,4 +1,4 @@
-use crate::{LexErr, lex};
+use ix_lex::{LexErr, lex};
 use ix_tree::{Token, TokenKind};
 use std::alloc::Global;
 use std::process::Abort;

@@ -1,9 +1,9 @@
-use crate::{UnrollErr, unroll};
 use ix_bits::{BinOp, Bits, List, Memory, Name, Ty, UnOp};
 use ix_tree::{
     Assign, BlockText, Expr, ExprKind, Loop, Lvalue, LvalueKind, Section, SectionKind, Span, Stmt,
     StmtKind, Tree,
 };
+use ix_unroll::{UnrollErr, unroll};
 use std::alloc::{AllocError, Global};
 use std::test::Fail;
 

@@ -1,0 +1,5 @@
+//! Tests of `ix_solve`.
+#![tactic(auto)]
+
+#[cfg(test)]
+mod solving;
