@@ -1,7 +1,7 @@
 -- The least width that holds a value.
-use Rattle.std.proofs.Common.{◌≡◌, ℕ, ◌+◌, ◌-◌, ◌*◌, ◌^◌, ◌<◌, ◌≤◌, max, refl, ap, ⊎_elim, arith}
+use Rattle.std.proofs.Common.{◌≡◌, ℕ, ◌+◌, ◌-◌, ◌*◌, ◌^◌, ◌<◌, ◌≤◌, max, refl, ⊎_elim, arith}
 use Rattle.std.specs.Int.Count.{count_leading_zeros, leading_of_zero}
-use Rattle.std.proofs.lemmas.Nat.{leading_length, pow-add, pow_pos}
+use Rattle.std.proofs.lemmas.Nat.{leading_length, pow-add}
 use Rattle.std.proofs.lemmas.Bool.{cases_lt}
 use Rattle.ix_bits.specs.Widths.{least_width}
 use Rattle.ix_bits.proofs.Patterns.{pow_rises}

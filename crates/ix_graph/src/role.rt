@@ -19,12 +19,8 @@ pub fn kind_role(kind: &Kind) -> Role
     ensures { result ≡ role_of kind.now }
 {
     match kind {
-        Kind::RdInstr
-        | Kind::RdRS1
-        | Kind::RdRS2
-        | Kind::RdPC
-        | Kind::RdCustReg(_)
-        | Kind::RdMem => Role::Read,
+        Kind::RdInstr | Kind::RdRS1 | Kind::RdRS2 | Kind::RdPC | Kind::RdCustReg(_) | Kind::RdMem =>
+            Role::Read,
         Kind::WrRD | Kind::WrPC | Kind::WrCustReg(_) | Kind::WrMem => Role::Write,
         _ => Role::Compute,
     }

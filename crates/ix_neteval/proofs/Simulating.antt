@@ -1,10 +1,10 @@
 -- What a simulator settles to is a run of its net.
-use Rattle.std.proofs.Common.{◌≡◌, ℕ, List, [], ◌∷◌, refl, ap, sym, ◌∙◌, subst}
+use Rattle.std.proofs.Common.{◌≡◌, ℕ, List, [], ◌∷◌, refl, ap, ◌∙◌, subst}
 use Rattle.ix_net.specs.declared.netlist.Net.{Net}
-use Rattle.ix_net.specs.Run.{IsRun, IsRunFrom, next_banks, first_banks}
-use Rattle.ix_net.specs.Valuation.{Settles, IsValuation, banks_of}
+use Rattle.ix_net.specs.Run.{IsRunFrom, next_banks}
+use Rattle.ix_net.specs.Valuation.{Settles}
 use Rattle.ix_neteval.specs.State.{State, first_state}
-use Rattle.ix_neteval.specs.Simulated.{SettlesTo, ClocksTo, Simulates, no_cycle, one_cycle, SimulatorsRun}
+use Rattle.ix_neteval.specs.Simulated.{Simulates, no_cycle, one_cycle, SimulatorsRun}
 
 run_from : (net : Net) (s : State) (cycles : List (List ℕ)) → s.net ≡ net → Simulates s cycles → IsRunFrom net s.banks cycles
 run_from net s [] e no_cycle = tt

@@ -1,5 +1,5 @@
 -- The views of lists of statements.
-use Rattle.std.proofs.Common.{◌≡◌, ℕ, suc, ◌+◌, ◌<◌, List, [], ◌∷◌, ◌++◌, length, get_or, drop, refl, ap, arith, rules, drop-cons, add-one, ◌∙◌}
+use Rattle.std.proofs.Common.{◌≡◌, ℕ, ◌+◌, ◌<◌, List, [], ◌∷◌, ◌++◌, length, get_or, drop, refl, ap, rules, drop-cons, add-one, ◌∙◌}
 use Rattle.ix_tree.specs.declared.stmt.Stmt.{Stmt}
 use Rattle.ix_tree.specs.declared.token.Span.{Span}
 use Rattle.ix_tree.specs.declared.stmt.StmtKind as StmtKind

@@ -1,14 +1,12 @@
 -- Loops unrolled: a loop means its body once for each value of its variable (CoreDSL 2, for loops; that they are unrolled, the limits and the refusals are this project's choice).
-use Rattle.std.specs.Prelude.{◌≡◌, ℕ, ◌+◌, ◌%◌, ◌^◌, ◌<◌, zero, suc, ℤ, pos, int_lt, unsigned_abs, List, [], ◌∷◌, ◌++◌, map, Option, Some, None, Bool, true, false, ◌&&◌, ◌||◌, if◌then◌else◌, nat_lt}
+use Rattle.std.specs.Prelude.{◌≡◌, ℕ, ◌+◌, ◌%◌, ◌^◌, zero, suc, ℤ, pos, int_lt, unsigned_abs, List, [], ◌∷◌, ◌++◌, map, Option, Some, None, Bool, true, false, ◌&&◌, ◌||◌, if◌then◌else◌, nat_lt}
 use Rattle.std.specs.List.{list_all}
 use Rattle.std.proofs.Math.Nat.{mod-lt}
 use Rattle.std.proofs.lemmas.Nat.{pow_pos}
-use Rattle.ix_bits.specs.declared.number.Bits.{Bits}
 use Rattle.ix_bits.specs.declared.operator.BinOp.{BinOp}
 use Rattle.ix_bits.specs.declared.operator.UnOp.TheVariants.{Neg}
 use Rattle.ix_bits.specs.Operators.{is_true}
 use Rattle.ix_tree.specs.declared.token.Span.{Span}
-use Rattle.ix_tree.specs.declared.expr.TypeText.{TypeText}
 use Rattle.ix_tree.specs.Lexing.{same_bytes}
 use Rattle.ix_bits.specs.NearTypes.{type_near}
 use Rattle.ix_bits.specs.Widths.{least_width}
