@@ -1,12 +1,12 @@
 -- The marks of statements are as many as the statements of the result.
-use Rattle.std.proofs.Common.{◌≡◌, ℕ, ◌+◌, ◌<◌, ◌≤◌, List, [], ◌∷◌, ◌++◌, map, Bool, true, false, cond, None, Some, Option, ℤ, refl, ap, sym, ◌∙◌, arith, nat_lt}
+use Rattle.std.proofs.Common.{◌≡◌, ℕ, ◌+◌, ◌<◌, ◌≤◌, List, [], ◌∷◌, ◌++◌, map, Bool, true, false, None, ℤ, refl, arith, nat_lt}
 use Rattle.std.proofs.lemmas.Bool.{ltb-true}
 use Rattle.ix_tree.specs.declared.token.Span.{Span}
 use Rattle.ix_tree.specs.LoopHeads.{Binding}
-use Rattle.ix_tree.specs.Trees.{StmtTree, s_block, s_empty, s_locals, s_assign, s_if, s_if_else, s_for, s_spawn, StmtRow, row_end, row_more, InstrTree, BlockTree, SectionTree, SectionKindTree, k_states, k_instructions, k_always, TextTree}
-use Rattle.ix_tree.specs.Unrolling.{Turns, these, breaks, Mark, statement, fault, Refusal, size_at, first_refusal, most_statements, is_loop, held, opened, copies, copies_of, row_join, alone, inside, with_value, judged, unblocked, opened_marks, copy_marks, loop_marks, met, met_row, met_instrs, met_blocks, met_kind, met_sections, alone_instr, alone_block, alone_kind, alone_section, unrolled}
+use Rattle.ix_tree.specs.Trees.{StmtTree, s_block, s_empty, s_locals, s_assign, s_if, s_if_else, s_for, s_spawn, StmtRow, row_end, row_more, InstrTree, BlockTree, SectionTree, SectionKindTree, k_states, k_instructions, k_always}
+use Rattle.ix_tree.specs.Unrolling.{Turns, these, breaks, Mark, statement, fault, size_at, first_refusal, opened, copies, copies_of, row_join, alone, inside, with_value, judged, unblocked, opened_marks, copy_marks, loop_marks, met, met_row, met_instrs, met_blocks, met_kind, met_sections, alone_instr, alone_block, alone_kind, alone_section}
 use Rattle.ix_unroll.specs.Telling.{statements}
-use Rattle.ix_unroll.specs.Laws.{count, count_row, count_instrs, count_blocks, count_kind, count_sections, MarksAreStatements, MarksLaw}
+use Rattle.ix_unroll.specs.Laws.{count, count_row, count_instrs, count_blocks, count_kind, count_sections, MarksLaw}
 use Rattle.ix_unroll.proofs.Marks.{chosen_none, count_join}
 
 -- ---- marks without a fault

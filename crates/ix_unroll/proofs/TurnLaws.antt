@@ -1,9 +1,9 @@
 -- The values that are given are those of the turns, and a loop is refused where its head breaks a rule or it has too many turns.
-use Rattle.std.proofs.Common.{◌≡◌, ℕ, zero, suc, ◌+◌, ◌<◌, ◌≤◌, List, [], ◌∷◌, length, Option, Some, None, Bool, true, false, cond, ℤ, refl, ap, sym, ◌∙◌, subst, arith}
+use Rattle.std.proofs.Common.{◌≡◌, ℕ, zero, suc, ◌<◌, ◌≤◌, List, [], ◌∷◌, length, Option, Some, None, Bool, true, false, cond, ℤ, refl, ap, sym, ◌∙◌, subst, arith}
 use Rattle.ix_bits.specs.Operators.{is_true}
 use Rattle.ix_tree.specs.LoopHeads.{Binding, Valued, is_int}
 use Rattle.ix_tree.specs.Unrolling.{Head, Broken, Turns, these, breaks, bound, turns, after, on_value, on_test, test_value, next_value, turns_from}
-use Rattle.ix_unroll.specs.Laws.{TurnsOf, no_turn, one_turn, TurnsAre, BreaksAfter, no_value, no_int, no_test, one_later, GoesOn, goes, goes_one, TurnsBreak, TurnsLaw}
+use Rattle.ix_unroll.specs.Laws.{TurnsOf, no_turn, one_turn, BreaksAfter, no_value, no_int, no_test, one_later, GoesOn, goes, goes_one, TurnsLaw}
 
 -- one step where the tests are known
 stop : (bs : List Binding) (h : Head) (x t : Valued) (rest : ℤ → Turns) → is_int x.number ≡ true → test_value bs h x.number ≡ Some t → is_true t.number ≡ false

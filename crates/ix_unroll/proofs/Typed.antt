@@ -1,6 +1,6 @@
 -- Values of head expressions: types with their numbers.
-use Rattle.std.proofs.Common.{◌≡◌, ℕ, suc, ◌+◌, ◌-◌, ◌^◌, ◌<◌, ◌≤◌, min, max, cond, ⊎_elim, Bool, true, false, Some, None, refl, ap, sym, ◌∙◌, arith, ℤ, pos, negsuc, ◌-ℤ◌}
-use Rattle.std.specs.Prelude.{nat_le, nat_lt, int_lt, FitsSigned}
+use Rattle.std.proofs.Common.{◌≡◌, ℕ, suc, ◌+◌, ◌-◌, ◌^◌, ◌<◌, ◌≤◌, cond, ⊎_elim, Bool, true, false, Some, None, refl, ap, sym, ◌∙◌, arith, ℤ, pos, negsuc, ◌-ℤ◌}
+use Rattle.std.specs.Prelude.{nat_lt, int_lt, FitsSigned}
 use Rattle.std.proofs.lemmas.Int.{ints, to_z_pos, to_z-of_z}
 use Rattle.std.specs.Int.{cast_unsigned, cast_signed, w32}
 use Rattle.std.proofs.lemmas.Bool.{le-leb, lt-leb, lt-ltb, le-ltb, ltb-true, cases_lt}
@@ -14,9 +14,9 @@ use Rattle.ix_bits.specs.ResultTypes.{Embeds, binary_signed, binary_width, unary
 use Rattle.ix_bits.specs.Operators.{value_of, binary_number, unary_number, is_true, pattern_of, bits_between}
 use Rattle.ix_bits.proofs.Unique.{fit_is_the_one}
 use Rattle.ix_types.specs.Results.{IsBinaryType, IsUnaryType, IsCommon}
-use Rattle.ix_bits.specs.NearTypes.{type_near, type_with, int_type}
+use Rattle.ix_bits.specs.NearTypes.{int_type}
 use Rattle.ix_tree.specs.LoopHeads.{Valued, unary_value, binary_value, choice_value, bits_at, is_int}
-use Rattle.ix_bits.proofs.Same.{ty_is, type_with_is}
+use Rattle.ix_bits.proofs.Same.{type_with_is}
 
 pub unary_is : (op : UnOp) (a ty : Ty) (n : ℤ) (w raw : ℕ) → IsUnaryType op a ty → w ≡ unary_width op a → number_of (unary_signed op a) w raw ≡ unary_number op a n
     → Some (let v : Valued = record { ty = ty; number = value_of ty raw } in v) ≡ unary_value op (Some (record { ty = a; number = n }))

@@ -1,9 +1,9 @@
 -- Laws of the definition of loops.
-use Rattle.std.specs.Prelude.{◌≡◌, ℕ, suc, ℤ, ◌+◌, ◌<◌, ◌≤◌, List, [], ◌∷◌, length, Option, Some, None, Bool, true, false}
+use Rattle.std.specs.Prelude.{◌≡◌, ℕ, suc, ℤ, ◌+◌, ◌<◌, ◌≤◌, List, [], ◌∷◌, length, Option, Some, None, true, false}
 use Rattle.ix_bits.specs.Operators.{is_true}
 use Rattle.ix_tree.specs.LoopHeads.{Binding, Valued, is_int}
 use Rattle.ix_tree.specs.Trees.{StmtTree, s_block, s_empty, s_locals, s_assign, s_if, s_if_else, s_for, s_spawn, StmtRow, row_end, row_more, InstrTree, BlockTree, SectionTree, SectionKindTree, k_states, k_instructions, k_always, TextTree}
-use Rattle.ix_tree.specs.Unrolling.{Head, Turns, these, breaks, bound, turns, test_value, next_value, turns_from, most_statements, met_sections, first_refusal, unrolled}
+use Rattle.ix_tree.specs.Unrolling.{Head, these, breaks, bound, turns, test_value, next_value, turns_from, most_statements, met_sections, first_refusal, unrolled}
 use Rattle.ix_unroll.specs.Telling.{statements}
 
 -- The values of the turns from a value on: at each, which is one of the type `int`, the test holds; at the one behind them, which is one of the type `int` too, it fails.

@@ -1,5 +1,5 @@
 use Rattle.std.proofs.Common.{sym, refl}
-use Rattle.ix_unroll.proofs.Typed.{type_with_is}
+use Rattle.ix_bits.proofs.Same.{type_with_is}
 use Rattle.ix_unroll.proofs.value.type_with.Goals as goal
 
 pub returns-then-width-le128 : goal.returns-then-width-le128
