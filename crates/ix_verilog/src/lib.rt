@@ -1,0 +1,6 @@
+//! The subset of Verilog (IEEE 1364-2005) that netlists are written in: its words, its lines, and which text denotes which nets.
+#![tactic(auto)]
+
+mod source;
+
+pub use source::{Assign, Source, Stage, Update};
