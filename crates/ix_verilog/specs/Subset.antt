@@ -14,7 +14,8 @@ use Rattle.ix_verilog.specs.declared.source.Update.{Update}
 use Rattle.ix_verilog.specs.declared.source.Source.{Source}
 use Rattle.ix_verilog.specs.declared.source.Stage.{Stage}
 use Rattle.ix_verilog.specs.declared.source.Stage.TheVariants.{Ports, Lines, Clocked, Ended}
-use Rattle.ix_verilog.specs.Words.{Word, Token, Spells, words_of}
+use Rattle.ix_verilog.specs.declared.token.Token.{Token}
+use Rattle.ix_verilog.specs.Words.{Word, Spells, words_of}
 use Rattle.ix_verilog.specs.Lines.{Line, head, port, heading, input, output, wire, register, assign, always, update, done, finish, line_words, form_words, IsRight}
 
 -- ---- what a module has declared

@@ -2,13 +2,10 @@
 use Rattle.std.specs.Prelude.{◌≡◌, ℕ, ◌+◌, List, [], ◌∷◌, ◌++◌, length, map, Bool, true, false, not, ◌&&◌, ◌||◌, if◌then◌else◌, nat_eq, nat_le}
 use Rattle.std.specs.List.{list_all}
 
+use Rattle.ix_verilog.specs.declared.token.Token.{Token}
+
 abbrev pub Word : Type 0
 Word = List ℕ
-
--- a word and the place of its first byte
-pub record Token : Type 0 where
-  pub place : ℕ
-  pub word : Word
 
 -- ---- bytes
 abbrev pub is_in : ℕ → ℕ → ℕ → Bool
@@ -70,12 +67,11 @@ begins c [] = false
 begins c (b ∷ bs) = nat_eq b c
 
 -- the form of a part that begins with a sign: `//`, `/*`, `==`, `<=`, or the byte alone
+abbrev pub slash_form : List ℕ → Form
+slash_form bs = if begins 47 bs then line_comment else if begins 42 bs then comment else single
+
 abbrev pub sign_form : ℕ → List ℕ → Form
-sign_form b bs =
-    if nat_eq b 47 then (if begins 47 bs then line_comment else if begins 42 bs then comment else single)
-    else if nat_eq b 61 then (if begins 61 bs then pair else single)
-    else if nat_eq b 60 then (if begins 61 bs then pair else single)
-    else single
+sign_form b bs = if nat_eq b 47 then slash_form bs else if (nat_eq b 61 || nat_eq b 60) && begins 61 bs then pair else single
 
 -- the form of the part with which the bytes b ∷ bs begin
 abbrev pub form_of : ℕ → List ℕ → Form

@@ -2,5 +2,7 @@
 #![tactic(auto)]
 
 mod source;
+mod token;
 
 pub use source::{Assign, Source, Stage, Update};
+pub use token::Token;

@@ -25,7 +25,8 @@ use Rattle.ix_verilog.specs.declared.source.Assign.{Assign}
 use Rattle.ix_verilog.specs.declared.source.Update.{Update}
 use Rattle.ix_verilog.specs.declared.source.Stage.{Stage}
 use Rattle.ix_verilog.specs.declared.source.Stage.TheVariants.{Lines, Ended}
-use Rattle.ix_verilog.specs.Words.{Word, Token, Spells, spells_none, words_of}
+use Rattle.ix_verilog.specs.declared.token.Token.{Token}
+use Rattle.ix_verilog.specs.Words.{Word, Spells, spells_none, words_of}
 use Rattle.ix_verilog.specs.Lines.{Line, head, port, heading, input, output, wire, register, assign, always, update, done, finish, line_words, form_words, port_words}
 use Rattle.ix_verilog.specs.Subset.{State, start, Leads, IsShortName, MayDeclare, IsDriven, AreModules, IsNetOf, AreNamedApart, Denotes}
 use Rattle.ix_vprint.specs.Printed.{port_name, head_text, port_text, ports_text, wires_text, registers_text, cell_text, bank_text, always_text, lines_text, module_text, inner}

@@ -6,7 +6,8 @@ use Rattle.std.proofs.lemmas.Bool.{or_parts, or_from, or_left, or_right, or_case
 use Rattle.std.proofs.lemmas.Bool.{agree_below_at, cases_Bool, true≢false}
 use Rattle.std.proofs.lemmas.Bool.Decides.{nat_tests}
 use Rattle.std.proofs.lemmas.List.Elements.{All-head, All-tail}
-use Rattle.ix_verilog.specs.Words.{Word, Token, token, is_in, is_space, is_digit, is_opening, is_name_byte, is_number_byte, Stops, Form, space, name, number, pair, single, form_of, IsPart, is_space_part, is_name_part, is_number_part, is_pair_part, is_single_part, Spells, spells_none, spells_more, words_of}
+use Rattle.ix_verilog.specs.declared.token.Token.{Token}
+use Rattle.ix_verilog.specs.Words.{Word, token, is_in, is_space, is_digit, is_opening, is_name_byte, is_number_byte, Stops, Form, space, name, number, pair, single, form_of, IsPart, is_space_part, is_name_part, is_number_part, is_pair_part, is_single_part, Spells, spells_none, spells_more, words_of}
 use Rattle.std.proofs.lemmas.List.Folds.{list_all-append}
 use Rattle.ix_verilog.specs.Lines.{is_hex_digit, AreDigits, IsNumber}
 use Rattle.ix_net.specs.Name.{IsName, StartsWithLetter, is_letter, is_mark}

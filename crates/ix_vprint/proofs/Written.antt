@@ -19,7 +19,8 @@ use Rattle.ix_verilog.specs.declared.source.Assign.{Assign}
 use Rattle.ix_verilog.specs.declared.source.Update.{Update}
 use Rattle.ix_verilog.specs.declared.source.Stage.{Stage}
 use Rattle.ix_verilog.specs.declared.source.Stage.TheVariants.{Ports, Lines, Clocked, Ended}
-use Rattle.ix_verilog.specs.Words.{Word, Token, Spells, spells_none, words_of}
+use Rattle.ix_verilog.specs.declared.token.Token.{Token}
+use Rattle.ix_verilog.specs.Words.{Word, Spells, spells_none, words_of}
 use Rattle.ix_verilog.specs.Lines.{Line, head, port, heading, input, output, wire, register, assign, always, update, done, finish, line_words, form_words}
 use Rattle.ix_verilog.specs.Subset.{State, start, Leads, IsShortName, MayDeclare, IsDriven, AreModules, IsNetOf, AreNamedApart, Denotes}
 use Rattle.ix_vprint.specs.Printed.{module_text, inner}

@@ -1,0 +1,10 @@
+//! Bytes to the words of a Verilog text (IEEE 1364-2005).
+#![tactic(auto)]
+
+mod part;
+mod scan;
+#[cfg(test)]
+mod tests;
+mod words;
+
+pub use words::words_in;
