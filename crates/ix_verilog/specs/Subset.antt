@@ -1,6 +1,6 @@
 -- Which text denotes which nets (IEEE 1364-2005, 12, modules; the order of the lines, and that each name is declared before it is
 -- used, are this project's choice).
-use Rattle.std.specs.Prelude.{◌≡◌, ◌≢◌, ℕ, ◌+◌, ◌≤◌, List, [], ◌∷◌, ◌++◌, length, map, All, AllPairs, Contains, Option, Some, None, slice_get}
+use Rattle.std.specs.Prelude.{◌≡◌, ◌≢◌, ℕ, ◌+◌, ◌<◌, ◌≤◌, zero, suc, List, [], ◌∷◌, ◌++◌, length, map, take, All, AllPairs, Contains, Option, Some, None, slice_get}
 use Rattle.std.specs.List.{flat_map, AllZip}
 use Rattle.ix_net.specs.declared.netlist.Port.{Port}
 use Rattle.ix_net.specs.declared.netlist.Net.{Net}
@@ -43,12 +43,18 @@ IsNext s n = slice_get s.ports (length s.inputs + length s.outputs) ≡ Some n
 abbrev pub HasPorts : Source → Type 0
 HasPorts s = length s.ports ≡ length s.inputs + length s.outputs
 
+pub record IsOperand (s : Source) (n : Word) : Type 0 where
+  pub named : IsName n
+  pub declared_so : Names (declared s) n
+
 -- a name that is declared twice keeps its first role
 pub record IsTarget (s : Source) (n : Word) : Type 0 where
+  pub named : IsName n
   pub declared_so : Names (assigned s) n
   pub no_input : Names s.inputs n → ⊥
 
 pub record IsRegister (s : Source) (n : Word) : Type 0 where
+  pub named : IsName n
   pub declared_so : Names s.registers n
   pub no_other : Names (s.inputs ++ assigned s) n → ⊥
 
@@ -65,10 +71,10 @@ MayStandIn s Lines (input p) = IsNext s p.name × IsWidth p.width × (s.outputs 
 MayStandIn s Lines (output p) = IsNext s p.name × IsWidth p.width
 MayStandIn s Lines (wire p) = HasPorts s × MayDeclare p × (s.registers ≡ []) × (s.assigns ≡ [])
 MayStandIn s Lines (register p) = HasPorts s × MayDeclare p × (s.assigns ≡ [])
-MayStandIn s Lines (assign a) = HasPorts s × IsTarget s a.target × IsRight (Names (declared s)) a.right
+MayStandIn s Lines (assign a) = HasPorts s × IsTarget s a.target × IsRight (IsOperand s) a.right
 MayStandIn s Lines always = HasPorts s × (s.registers ≢ [])
 MayStandIn s Lines finish = HasPorts s × IsDriven s
-MayStandIn s Clocked (update u) = Names (declared s) u.enable × IsRegister s u.target × Names (declared s) u.source
+MayStandIn s Clocked (update u) = IsOperand s u.enable × IsRegister s u.target × IsOperand s u.source
 MayStandIn s Clocked done = Unit {0}
 MayStandIn s Ended finish = IsDriven s
 MayStandIn s stage line = ⊥
@@ -135,6 +141,38 @@ pub record AreModules (words : List Word) (modules : List Source) : Type 0 where
   pub leads : Leads start lines (record { modules = modules; open_module = None })
   pub are : words ≡ flat_map line_words lines
 
+-- ---- the first byte with which a text leaves the subset
+-- the words are the first of lines that may stand one behind the other
+pub record Begins (words : List Word) : Type 0 where
+  pub lines : List Line
+  pub end : State
+  pub leads : Leads start lines end
+  pub rest : List Word
+  pub are : words ++ rest ≡ flat_map line_words lines
+
+-- the place of a token by number, or the end of the text
+abbrev pub place_of_token : ℕ → ℕ → List Token → ℕ
+place_of_token end k [] = end
+place_of_token end zero (t ∷ ts) = t.place
+place_of_token end (suc k) (t ∷ ts) = place_of_token end k ts
+
+-- The words before one begin a text; with it they begin none, or, where there is none, they are no whole modules.
+pub record LeavesAt (text : List ℕ) (byte : ℕ) : Type 0 where
+  pub tokens : List Token
+  pub spelled : Spells 0 text tokens
+  pub before : ℕ
+  pub within : before ≤ length tokens
+  pub front : Begins (take before (words_of tokens))
+  pub next : before < length tokens → Begins (take (suc before) (words_of tokens)) → ⊥
+  pub end : before ≡ length tokens → (modules : List Source) → AreModules (words_of tokens) modules → ⊥
+  pub place : byte ≡ place_of_token (length text) before tokens
+
+-- the text is that of the modules
+pub record IsWritten (text : List ℕ) (modules : List Source) : Type 0 where
+  pub tokens : List Token
+  pub spelled : Spells 0 text tokens
+  pub are : AreModules (words_of tokens) modules
+
 -- ---- nets
 -- the net is what the module says: operations have the width with which their target is declared
 pub record IsNetOf (s : Source) (net : Net) : Type 0 where
@@ -156,10 +194,8 @@ AreNamedApart nets = AllPairs (λ x y. x ≢ y) (map (λ (net : Net). net.name) 
 
 -- the text denotes the nets
 pub record Denotes (text : List ℕ) (nets : List Net) : Type 0 where
-  pub tokens : List Token
-  pub spelled : Spells 0 text tokens
   pub modules : List Source
-  pub written : AreModules (words_of tokens) modules
+  pub written : IsWritten text modules
   -- one net for each module
   pub nets_of : AllZip IsNetOf modules nets
   pub apart : AreNamedApart nets

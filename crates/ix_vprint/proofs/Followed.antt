@@ -10,6 +10,7 @@ use Rattle.ix_net.specs.declared.netlist.Cell.{Cell}
 use Rattle.ix_net.specs.declared.netlist.Bank.{Bank}
 use Rattle.ix_net.specs.declared.netlist.Form.{Form}
 use Rattle.ix_net.specs.declared.netlist.Form.TheVariants.{Hex, Copy, Add, Sub, Mul, And, Or, Xor, Not, Eq, Lt, LtSigned, Join, Range, Choose}
+use Rattle.ix_net.specs.Name.{IsName}
 use Rattle.ix_net.specs.Forms.{operands}
 use Rattle.ix_net.specs.Valid.{IsValid, IsWidth, names}
 use Rattle.ix_net.specs.Signals.{cell_port, bank_port}
@@ -20,7 +21,7 @@ use Rattle.ix_verilog.specs.declared.source.Stage.{Stage}
 use Rattle.ix_verilog.specs.declared.source.Stage.TheVariants.{Ports, Lines, Clocked, Ended}
 use Rattle.ix_verilog.specs.Words.{Word}
 use Rattle.ix_verilog.specs.Lines.{Line, head, port, heading, input, output, wire, register, assign, always, update, done, finish, line_words, form_words, IsRight, IsLiteral, IsNumber, literal, copy, both, turned, signed, joined, range, choice, hex, operators}
-use Rattle.ix_verilog.specs.Subset.{State, MayStand, Leads, after, IsShortName, MayDeclare, IsTarget, IsRegister, IsDriven, HasPorts, assigned, declared}
+use Rattle.ix_verilog.specs.Subset.{State, MayStand, Leads, after, IsShortName, MayDeclare, IsOperand, IsTarget, IsRegister, IsDriven, HasPorts, assigned, declared}
 use Rattle.ix_verilog.proofs.Digits.{decimal_is_number, hex_are_digits}
 use Rattle.ix_vprint.proofs.Spelled.{AreRuns, IsSmall, assign_of, update_of, port_of, raw_small}
 use Rattle.ix_net.proofs.NetLemmas.{contains_from_slice_get}
@@ -99,11 +100,27 @@ registers_lead ms n ports ins outs wires before (p ∷ ps) e h =
     ((e, All-head MayDeclare p ps h, refl), subst P (append_assoc before (p ∷ []) ps) (registers_lead ms n ports ins outs wires (before ++ p ∷ []) ps e (All-tail MayDeclare p ps h)))
 
 -- ---- assignments
+-- a name that is declared
+abbrev pub IsOf : List Port → Word → Type 0
+IsOf ports n = IsName n × Names ports n
+
+-- a right side over other names
+right_map : (N M : Word → Type 0) → ((n : Word) → N n → M n) → (ws : List Word) → IsRight N ws → IsRight M ws
+right_map N M f ws (literal w l) = literal w l
+right_map N M f ws (copy a h) = copy a (f a h)
+right_map N M f ws (both a o b h k i) = both a o b (f a h) k (f b i)
+right_map N M f ws (turned a h) = turned a (f a h)
+right_map N M f ws (signed a b h i) = signed a b (f a h) (f b i)
+right_map N M f ws (joined a b h i) = joined a b (f a h) (f b i)
+right_map N M f ws (range a h l i j k) = range a h l (f a i) j k
+right_map N M f ws (choice c a b h i j) = choice c a b (f c h) (f a i) (f b j)
+
 -- the operands are declared, and the target is an output or a wire
 pub record MayAssign (ins outs wires regs : List Port) (c : Cell) : Type 0 where
+  pub named : IsName c.target
   pub target : Names (outs ++ wires) c.target
   pub no_input : Names ins c.target → ⊥
-  pub right : IsRight (Names (ins ++ (outs ++ wires) ++ regs)) (form_words c.form)
+  pub right : IsRight (IsOf (ins ++ (outs ++ wires) ++ regs)) (form_words c.form)
 
 abbrev pub to_assign : Cell → Assign
 to_assign c = record { target = c.target; right = form_words c.form }
@@ -115,14 +132,15 @@ assigns_lead ms n ports ins outs wires regs before [] e h = ap (λ z. opened ms 
 assigns_lead ms n ports ins outs wires regs before (c ∷ cs) e h =
     let P : List Assign → Type 0 = λ z. Leads (opened ms (source n ports ins outs wires regs (before ++ to_assign c ∷ []) [] Lines)) (map assign_of cs) (opened ms (source n ports ins outs wires regs z [] Lines)) in
     let m : MayAssign ins outs wires regs c = All-head (MayAssign ins outs wires regs) c cs h in
-    ((e, record { declared_so = m.target; no_input = m.no_input }, m.right),
+    ((e, record { named = m.named; declared_so = m.target; no_input = m.no_input }, right_map (IsOf (ins ++ (outs ++ wires) ++ regs)) (IsOperand (source n ports ins outs wires regs before [] Lines)) (λ n h. record { named = h.0; declared_so = h.1 }) (form_words c.form) m.right),
       subst P (append_assoc before (to_assign c ∷ []) (map to_assign cs)) (assigns_lead ms n ports ins outs wires regs (before ++ to_assign c ∷ []) cs e (All-tail (MayAssign ins outs wires regs) c cs h)))
 
 pub record MayUpdate (ins outs wires regs : List Port) (b : Bank) : Type 0 where
-  pub enable : Names (ins ++ (outs ++ wires) ++ regs) b.enable
+  pub enable : IsOf (ins ++ (outs ++ wires) ++ regs) b.enable
+  pub named : IsName b.target
   pub target : Names regs b.target
   pub no_other : Names (ins ++ (outs ++ wires)) b.target → ⊥
-  pub source_of : Names (ins ++ (outs ++ wires) ++ regs) b.source
+  pub source_of : IsOf (ins ++ (outs ++ wires) ++ regs) b.source
 
 abbrev pub to_update : Bank → Update
 to_update b = record { enable = b.enable; target = b.target; source = b.source }
@@ -134,7 +152,7 @@ updates_lead ms n ports ins outs wires regs assigns before [] h = ap (λ z. open
 updates_lead ms n ports ins outs wires regs assigns before (b ∷ bs) h =
     let P : List Update → Type 0 = λ z. Leads (opened ms (source n ports ins outs wires regs assigns (before ++ to_update b ∷ []) Clocked)) (map update_of bs) (opened ms (source n ports ins outs wires regs assigns z Clocked)) in
     let m : MayUpdate ins outs wires regs b = All-head (MayUpdate ins outs wires regs) b bs h in
-    ((m.enable, record { declared_so = m.target; no_other = m.no_other }, m.source_of),
+    ((record { named = m.enable.0; declared_so = m.enable.1 }, record { named = m.named; declared_so = m.target; no_other = m.no_other }, record { named = m.source_of.0; declared_so = m.source_of.1 }),
       subst P (append_assoc before (to_update b ∷ []) (map to_update bs)) (updates_lead ms n ports ins outs wires regs assigns (before ++ to_update b ∷ []) bs (All-tail (MayUpdate ins outs wires regs) b bs h)))
 
 -- ---- right sides

@@ -28,8 +28,8 @@ use Rattle.ix_vprint.specs.Short.{IsShort, AreShort, HasShortNames}
 use Rattle.ix_vprint.proofs.Nets.{all_of, contains_mapped, input_widths, output_widths, input_in, cell_in, bank_in}
 use Rattle.ix_vprint.proofs.Laid.{Reading, Says, says_none, says_then, says_all}
 use Rattle.ix_vprint.proofs.Spelled.{assign_of, update_of, port_of}
-use Rattle.ix_vprint.proofs.Sources.{wires, registers, driven, all_declared, Names, cell_driven, driven_cell, wide_declared, declared_once, target_driven, target_no_input, register_named, register_alone, driven_by, register_by}
-use Rattle.ix_vprint.proofs.Followed.{leads_then, source, opened, ports_lead, inputs_lead, outputs_lead, wires_lead, registers_lead, MayAssign, to_assign, assigns_lead, MayUpdate, to_update, updates_lead, named_all, right_side}
+use Rattle.ix_vprint.proofs.Sources.{wires, registers, driven, all_declared, Names, cell_driven, driven_cell, wide_declared, declared_named, declared_once, target_driven, target_no_input, register_named, register_alone, driven_by, register_by}
+use Rattle.ix_vprint.proofs.Followed.{leads_then, source, opened, ports_lead, inputs_lead, outputs_lead, wires_lead, registers_lead, IsOf, MayAssign, to_assign, assigns_lead, MayUpdate, to_update, updates_lead, named_all, right_side}
 use Rattle.ix_vprint.proofs.Denoted.{always_lines, body_lines, head_lines, lines_of, module_says, operand_names, cell_small}
 
 -- ---- the module that a net is
@@ -75,23 +75,31 @@ registers_may net v s =
     (λ p c. port_may net v p (bank_in net p c) (All-contains (λ (q : Port). IsShort q.name) (registers net) p (All-map (λ (q : Port). IsShort q.name) bank_port net.banks s.banks) c))
 
 -- ---- operands and targets
+is_of : (net : Net) → IsValid net → (n : Word) → Names (all_declared net) n → IsOf (all_declared net) n
+is_of net v n c = (declared_named net v n c, c)
+
 may_assign : (net : Net) → IsValid net → All (MayAssign net.inputs net.outputs (wires net) (registers net)) net.cells
 may_assign net v =
     all_of (MayAssign net.inputs net.outputs (wires net) (registers net)) net.cells
     (λ c h. record {
+      named = All-contains (λ (q : Port). IsName q.name) (signals net) (cell_port c) v.named (cell_in net (cell_port c) (contains_mapped cell_port net.cells c h));
       target = target_driven net v c h;
       no_input = target_no_input net v c h;
-      right = right_side (Names (all_declared net)) c.form (named_all (Names (all_declared net)) (operands c.form) (operand_names net v c h)) (cell_small net v c h);
+      right =
+          right_side (IsOf (all_declared net)) c.form
+          (named_all (IsOf (all_declared net)) (operands c.form) (all_of (IsOf (all_declared net)) (operands c.form) (λ n k. is_of net v n (All-contains (Names (all_declared net)) (operands c.form) n (operand_names net v c h) k))))
+          (cell_small net v c h);
     })
 
 may_update : (net : Net) → IsValid net → All (MayUpdate net.inputs net.outputs (wires net) (registers net)) net.banks
 may_update net v =
     all_of (MayUpdate net.inputs net.outputs (wires net) (registers net)) net.banks
     (λ b h. record {
-      enable = wide_declared net v b.enable 1 (All-contains (λ (c : Bank). width_of (signals net) c.enable ≡ Some 1) net.banks b v.enables h);
+      enable = is_of net v b.enable (wide_declared net v b.enable 1 (All-contains (λ (c : Bank). width_of (signals net) c.enable ≡ Some 1) net.banks b v.enables h));
+      named = All-contains (λ (q : Port). IsName q.name) (signals net) (bank_port b) v.named (bank_in net (bank_port b) (contains_mapped bank_port net.banks b h));
       target = register_named net b h;
       no_other = register_alone net v b h;
-      source_of = wide_declared net v b.source b.width (All-contains (λ (c : Bank). width_of (signals net) c.source ≡ Some c.width) net.banks b v.sources h);
+      source_of = is_of net v b.source (wide_declared net v b.source b.width (All-contains (λ (c : Bank). width_of (signals net) c.source ≡ Some c.width) net.banks b v.sources h));
     })
 
 is_driven : (net : Net) → IsValid net → (stage : Stage) → IsDriven (staged net stage)
@@ -196,13 +204,15 @@ text_denotes nets v s a =
     let all = says [] [] none 0 in
     let P : List ℕ → Type 0 = λ z. Spells 0 z all.tokens in
     record {
-      tokens = all.tokens;
-      spelled = subst P (append-nil (flat_map module_text nets)) all.spelled;
       modules = map written nets;
       written = record {
-        lines = flat_map lines_of nets;
-        leads = modules_lead [] nets v s;
-        are = all.are ∙ append-nil (flat_map (λ net. flat_map line_words (lines_of net)) nets) ∙ sym (words_all nets);
+        tokens = all.tokens;
+        spelled = subst P (append-nil (flat_map module_text nets)) all.spelled;
+        are = record {
+          lines = flat_map lines_of nets;
+          leads = modules_lead [] nets v s;
+          are = all.are ∙ append-nil (flat_map (λ net. flat_map line_words (lines_of net)) nets) ∙ sym (words_all nets);
+        };
       };
       nets_of = all_written nets v;
       apart = a;

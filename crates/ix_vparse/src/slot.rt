@@ -1,0 +1,282 @@
+ghost use Rattle.std.specs.Prelude.{◌≡◌};
+ghost use Rattle.ix_vparse.specs.Slots.{sign_text as specified_sign_text, pattern};
+
+/// A word that is always the same.
+#[derive(Clone, Copy, Debug)]
+pub enum Sign {
+    Module,
+    Input,
+    Output,
+    Wire,
+    Reg,
+    Assign,
+    Always,
+    Posedge,
+    Clk,
+    Begin,
+    If,
+    End,
+    Signed,
+    OpenRound,
+    CloseRound,
+    OpenSquare,
+    CloseSquare,
+    OpenBrace,
+    CloseBrace,
+    Comma,
+    Semicolon,
+    Colon,
+    Question,
+    At,
+    Equals,
+    Arrow,
+    Less,
+    Tilde,
+    Zero,
+}
+
+/// What a word of a line has to be.
+#[derive(Clone, Copy, Debug)]
+pub enum Slot {
+    Sign(Sign),
+    /// A name by the rule for names, of at most 80 bytes.
+    Name,
+    /// The port that is declared next.
+    Next,
+    /// A declared name.
+    Operand,
+    /// An output or a wire.
+    Target,
+    Register,
+    /// The highest bit of a range that is declared, 0 to 127.
+    High,
+    Number,
+    Literal,
+    Operator,
+    /// `endmodule`, where all is driven.
+    Last,
+}
+
+/// A form of line; those from `Literal` to `Choice` are assignments by the form of their right side.
+#[derive(Clone, Copy, Debug)]
+pub enum Kind {
+    Head,
+    Port,
+    Heading,
+    Input,
+    Output,
+    Wire,
+    Register,
+    Literal,
+    Copy,
+    Both,
+    Turned,
+    Signed,
+    Join,
+    Range,
+    Choice,
+    Always,
+    Update,
+    Done,
+    Finish,
+}
+
+/// The bytes of a word.
+pub fn sign_text(sign: Sign) -> &'static [u8]
+    ensures { result.now ≡ specified_sign_text sign }
+{
+    match sign {
+        Sign::Module => b"module",
+        Sign::Input => b"input",
+        Sign::Output => b"output",
+        Sign::Wire => b"wire",
+        Sign::Reg => b"reg",
+        Sign::Assign => b"assign",
+        Sign::Always => b"always",
+        Sign::Posedge => b"posedge",
+        Sign::Clk => b"clk",
+        Sign::Begin => b"begin",
+        Sign::If => b"if",
+        Sign::End => b"end",
+        Sign::Signed => b"$signed",
+        Sign::OpenRound => b"(",
+        Sign::CloseRound => b")",
+        Sign::OpenSquare => b"[",
+        Sign::CloseSquare => b"]",
+        Sign::OpenBrace => b"{",
+        Sign::CloseBrace => b"}",
+        Sign::Comma => b",",
+        Sign::Semicolon => b";",
+        Sign::Colon => b":",
+        Sign::Question => b"?",
+        Sign::At => b"@",
+        Sign::Equals => b"=",
+        Sign::Arrow => b"<=",
+        Sign::Less => b"<",
+        Sign::Tilde => b"~",
+        Sign::Zero => b"0",
+    }
+}
+
+/// What the words of a line are, in order.
+pub fn slots_of(kind: Kind) -> &'static [Slot]
+    ensures { result.now ≡ pattern kind }
+{
+    match kind {
+        Kind::Head => &[
+            Slot::Sign(Sign::Module),
+            Slot::Name,
+            Slot::Sign(Sign::OpenRound),
+            Slot::Sign(Sign::Clk),
+        ],
+        Kind::Port => &[Slot::Sign(Sign::Comma), Slot::Name],
+        Kind::Heading => &[
+            Slot::Sign(Sign::CloseRound),
+            Slot::Sign(Sign::Semicolon),
+            Slot::Sign(Sign::Input),
+            Slot::Sign(Sign::Clk),
+            Slot::Sign(Sign::Semicolon),
+        ],
+        Kind::Input => &[
+            Slot::Sign(Sign::Input),
+            Slot::Sign(Sign::OpenSquare),
+            Slot::High,
+            Slot::Sign(Sign::Colon),
+            Slot::Sign(Sign::Zero),
+            Slot::Sign(Sign::CloseSquare),
+            Slot::Next,
+            Slot::Sign(Sign::Semicolon),
+        ],
+        Kind::Output => &[
+            Slot::Sign(Sign::Output),
+            Slot::Sign(Sign::OpenSquare),
+            Slot::High,
+            Slot::Sign(Sign::Colon),
+            Slot::Sign(Sign::Zero),
+            Slot::Sign(Sign::CloseSquare),
+            Slot::Next,
+            Slot::Sign(Sign::Semicolon),
+        ],
+        Kind::Wire => &[
+            Slot::Sign(Sign::Wire),
+            Slot::Sign(Sign::OpenSquare),
+            Slot::High,
+            Slot::Sign(Sign::Colon),
+            Slot::Sign(Sign::Zero),
+            Slot::Sign(Sign::CloseSquare),
+            Slot::Name,
+            Slot::Sign(Sign::Semicolon),
+        ],
+        Kind::Register => &[
+            Slot::Sign(Sign::Reg),
+            Slot::Sign(Sign::OpenSquare),
+            Slot::High,
+            Slot::Sign(Sign::Colon),
+            Slot::Sign(Sign::Zero),
+            Slot::Sign(Sign::CloseSquare),
+            Slot::Name,
+            Slot::Sign(Sign::Semicolon),
+        ],
+        Kind::Literal => &[
+            Slot::Sign(Sign::Assign),
+            Slot::Target,
+            Slot::Sign(Sign::Equals),
+            Slot::Literal,
+            Slot::Sign(Sign::Semicolon),
+        ],
+        Kind::Copy => &[
+            Slot::Sign(Sign::Assign),
+            Slot::Target,
+            Slot::Sign(Sign::Equals),
+            Slot::Operand,
+            Slot::Sign(Sign::Semicolon),
+        ],
+        Kind::Both => &[
+            Slot::Sign(Sign::Assign),
+            Slot::Target,
+            Slot::Sign(Sign::Equals),
+            Slot::Operand,
+            Slot::Operator,
+            Slot::Operand,
+            Slot::Sign(Sign::Semicolon),
+        ],
+        Kind::Turned => &[
+            Slot::Sign(Sign::Assign),
+            Slot::Target,
+            Slot::Sign(Sign::Equals),
+            Slot::Sign(Sign::Tilde),
+            Slot::Operand,
+            Slot::Sign(Sign::Semicolon),
+        ],
+        Kind::Signed => &[
+            Slot::Sign(Sign::Assign),
+            Slot::Target,
+            Slot::Sign(Sign::Equals),
+            Slot::Sign(Sign::Signed),
+            Slot::Sign(Sign::OpenRound),
+            Slot::Operand,
+            Slot::Sign(Sign::CloseRound),
+            Slot::Sign(Sign::Less),
+            Slot::Sign(Sign::Signed),
+            Slot::Sign(Sign::OpenRound),
+            Slot::Operand,
+            Slot::Sign(Sign::CloseRound),
+            Slot::Sign(Sign::Semicolon),
+        ],
+        Kind::Join => &[
+            Slot::Sign(Sign::Assign),
+            Slot::Target,
+            Slot::Sign(Sign::Equals),
+            Slot::Sign(Sign::OpenBrace),
+            Slot::Operand,
+            Slot::Sign(Sign::Comma),
+            Slot::Operand,
+            Slot::Sign(Sign::CloseBrace),
+            Slot::Sign(Sign::Semicolon),
+        ],
+        Kind::Range => &[
+            Slot::Sign(Sign::Assign),
+            Slot::Target,
+            Slot::Sign(Sign::Equals),
+            Slot::Operand,
+            Slot::Sign(Sign::OpenSquare),
+            Slot::Number,
+            Slot::Sign(Sign::Colon),
+            Slot::Number,
+            Slot::Sign(Sign::CloseSquare),
+            Slot::Sign(Sign::Semicolon),
+        ],
+        Kind::Choice => &[
+            Slot::Sign(Sign::Assign),
+            Slot::Target,
+            Slot::Sign(Sign::Equals),
+            Slot::Operand,
+            Slot::Sign(Sign::Question),
+            Slot::Operand,
+            Slot::Sign(Sign::Colon),
+            Slot::Operand,
+            Slot::Sign(Sign::Semicolon),
+        ],
+        Kind::Always => &[
+            Slot::Sign(Sign::Always),
+            Slot::Sign(Sign::At),
+            Slot::Sign(Sign::OpenRound),
+            Slot::Sign(Sign::Posedge),
+            Slot::Sign(Sign::Clk),
+            Slot::Sign(Sign::CloseRound),
+            Slot::Sign(Sign::Begin),
+        ],
+        Kind::Update => &[
+            Slot::Sign(Sign::If),
+            Slot::Sign(Sign::OpenRound),
+            Slot::Operand,
+            Slot::Sign(Sign::CloseRound),
+            Slot::Register,
+            Slot::Sign(Sign::Arrow),
+            Slot::Operand,
+            Slot::Sign(Sign::Semicolon),
+        ],
+        Kind::Done => &[Slot::Sign(Sign::End)],
+        Kind::Finish => &[Slot::Last],
+    }
+}
