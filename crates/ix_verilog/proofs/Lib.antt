@@ -1,2 +1,5 @@
 pub mod Digits
+pub mod Fronts
 pub mod HexLemmas
+pub mod OneLine
+pub mod OneSpelling
