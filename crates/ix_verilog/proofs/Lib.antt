@@ -2,4 +2,5 @@ pub mod Digits
 pub mod Fronts
 pub mod HexLemmas
 pub mod OneLine
+pub mod OneReading
 pub mod OneSpelling

@@ -168,7 +168,7 @@ well None done h = absurd h
 well None finish h = absurd h
 
 -- ---- the first word tells which line it is
-abbrev order : Line → ℕ
+abbrev pub order : Line → ℕ
 order (head n) = 0
 order (port n) = 1
 order heading = 2
@@ -182,11 +182,11 @@ order (update u) = 9
 order done = 10
 order finish = 11
 
-abbrev order_of : List Word → ℕ
+abbrev pub order_of : List Word → ℕ
 order_of [] = 12
 order_of (w ∷ ws) = if bytes_eq w (codes "module") then 0 else if bytes_eq w (codes ",") then 1 else if bytes_eq w (codes ")") then 2 else if bytes_eq w (codes "input") then 3 else if bytes_eq w (codes "output") then 4 else if bytes_eq w (codes "wire") then 5 else if bytes_eq w (codes "reg") then 6 else if bytes_eq w (codes "assign") then 7 else if bytes_eq w (codes "always") then 8 else if bytes_eq w (codes "if") then 9 else if bytes_eq w (codes "end") then 10 else 11
 
-order_is : (l : Line) (r : List Word) → order_of (line_words l ++ r) ≡ order l
+pub order_is : (l : Line) (r : List Word) → order_of (line_words l ++ r) ≡ order l
 order_is (head n) r = refl
 order_is (port n) r = refl
 order_is heading r = refl
@@ -201,7 +201,7 @@ order_is done r = refl
 order_is finish r = refl
 
 -- ---- one line
-apart : (m n : ℕ) → nat_eq m n ≡ false → m ≡ n → ⊥
+pub apart : (m n : ℕ) → nat_eq m n ≡ false → m ≡ n → ⊥
 apart m n e f = true≢false (sym (eq-eqb m n f) ∙ e)
 
 port_same : (p q : Port) → p.name ≡ q.name → p.width ≡ q.width → p ≡ q
