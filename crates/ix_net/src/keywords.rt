@@ -67,7 +67,7 @@ fn is_marked(text: &[u8]) -> bool
 }
 
 /// Whether a text is a name: a letter or `_`, then letters, digits and `_`, with a digit or `_` among them, and no keyword.
-pub(crate) fn is_name(text: &str) -> bool
+pub fn is_name(text: &str) -> bool
     ensures { IsTrue result ↔ IsName text.now }
 {
     let bytes = text.as_bytes();

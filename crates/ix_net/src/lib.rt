@@ -10,6 +10,7 @@ mod tables;
 mod wires;
 
 pub use gates::Gate;
+pub use keywords::is_name;
 pub use laws::has_one_valuation;
 pub use netlist::{Bank, Cell, Form, Net, Port};
 pub use wires::{Latch, Wiring, is_valid, wire};
