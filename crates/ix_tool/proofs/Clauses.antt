@@ -1,10 +1,9 @@
 -- The clauses of the tool, from the one relation.
-use Rattle.std.proofs.Common.{◌≡◌, ◌≢◌, ℕ, ◌<◌, ◌^◌, List, [], ◌∷◌, length, Option, Some, None, Bool, true, false, refl, ap, sym, ◌∙◌, subst, arith, ◌⊎◌, inl, inr}
-use Rattle.std.specs.Prelude.{IfSome, codes, unwrap_or}
-use Rattle.ix_io.specs.Faults.{Rose}
+use Rattle.std.proofs.Common.{◌≡◌, ◌≢◌, ℕ, ◌<◌, List, length, Option, None, refl, sym, ◌∙◌, subst, arith, ◌⊎◌, inl, inr}
+use Rattle.std.specs.Prelude.{IfSome, codes}
 use Rattle.ix_io.specs.Limits.{most_bytes}
 use Rattle.ix_io.specs.Shelf.{NamedFiles, told_file}
-use Rattle.ix_io.specs.Sink.{Appends, AppendsFront}
+use Rattle.ix_io.specs.Sink.{Appends}
 use Rattle.ix_tool.specs.declared.status.Status.{Status}
 use Rattle.ix_tool.specs.declared.status.Status.TheVariants.{Ok as ok_status, Usage, ReadFault, WriteFault, TooLong, Image as image_status, Certificate, Memory}
 use Rattle.ix_tool.specs.declared.command.Command.{Command}
@@ -12,9 +11,9 @@ use Rattle.ix_tool.specs.declared.command.FileKind.{FileKind}
 use Rattle.ix_tool.specs.declared.command.FileKind.TheVariants.{Image, Report}
 use Rattle.ix_tool.specs.declared.value.Value.{Value}
 use Rattle.ix_tool.specs.CommandLine.{command_of, slots_of, behind}
-use Rattle.ix_tool.specs.CommandOutput.{Writes, Outcome, RoseIn, NoneRises, file_line, refusal_status, IsRefusedText, IsFile, IsRefusedFile, not_read, too_long, bad_text, IsFirstRefused, AreRead, IsOutput, IsDue, due_usage, due_file, due_refusal, due_output, UsageAnswer, ReadFaultAnswer, WriteFaultAnswer, TooLongAnswer, IsRefusedWith, TextAnswer, OutputAnswer, IsBuiltAnswer, IsStatusOr, Premises, Completes}
+use Rattle.ix_tool.specs.CommandOutput.{Outcome, RoseIn, NoneRises, file_line, refusal_status, IsRefusedText, IsRefusedFile, not_read, too_long, bad_text, IsFirstRefused, IsAnswer, IsDue, due_usage, due_file, due_answer, UsageAnswer, ReadFaultAnswer, WriteFaultAnswer, TooLongAnswer, IsRefusedWith, TextAnswer, OutputAnswer, IsBuiltAnswer, IsStatusOr, Premises, Completes}
 use Rattle.ix_tool.proofs.Reading.{at_map, at_some}
-use Rattle.ix_tool.proofs.Due.{both, one, all_one, not_refused, commanded, usage_alone, due_one}
+use Rattle.ix_tool.proofs.Due.{all_one, not_refused, own_status, commanded, usage_alone, due_one}
 
 -- ---- statuses are apart
 text_status : (P : Status → Type 0) → P image_status → P Certificate → (kind : FileKind) → P (refusal_status kind)
@@ -43,12 +42,16 @@ of_first P f l i r files R command words status line h =
     let found = at_some files (λ kind name. IsRefusedFile files R kind name status line) (slots_of command) (behind words) h in
     of_refusal P f l i r files R found.0 found.1 status line found.2
 
+-- the status of a command's answer, by what is so of each
+of_answer : (P : Status → Type 0) → P ok_status → (command : Command) (vs : List Value) (status : Status) (bytes : List ℕ) → IsAnswer command vs status bytes → P status
+of_answer P o command vs status bytes (inl own) = own_status P command vs status bytes own
+of_answer P o command vs status bytes (inr out) = subst P (sym out.0) o
+
 -- a status that is due, by what is so of each
 of_due : (P : Status → Type 0) → P ok_status → P Usage → P ReadFault → P TooLong → P image_status → P Certificate → (files : Option NamedFiles) (R : List ℕ → Type 0) (words : List (List ℕ)) (status : Status) (bytes : List ℕ) → IsDue files R words status bytes → P status
 of_due P o u f l i r files R words _ _ (due_usage none) = u
 of_due P o u f l i r files R words _ _ (due_file command status line is first) = of_first P f l i r files R command words status line first
-of_due P o u f l i r files R words _ _ (due_refusal command vs status line is read own) = absurd own
-of_due P o u f l i r files R words _ _ (due_output command vs text is read out) = o
+of_due P o u f l i r files R words _ _ (due_answer command vs status bytes is read answer) = of_answer P o command vs status bytes answer
 
 due_no_fault : (files : Option NamedFiles) (R : List ℕ → Type 0) (words : List (List ℕ)) (status : Status) (bytes : List ℕ) → IsDue files R words status bytes → status ≡ WriteFault → ⊥
 due_no_fault = of_due (λ s. s ≡ WriteFault → ⊥) (λ e. cc) (λ e. cc) (λ e. cc) (λ e. cc) (λ e. cc) (λ e. cc)
@@ -61,8 +64,7 @@ usage_of : (files : Option NamedFiles) (R : List ℕ → Type 0) (words : List (
 usage_of files R words before now _ _ (due_usage none) e a = (none, a)
 usage_of files R words before now _ _ (due_file command status line is first) e a =
     absurd (of_first (λ s. s ≡ Usage → ⊥) (λ q. cc) (λ q. cc) (λ q. cc) (λ q. cc) files R command words status line first e)
-usage_of files R words before now _ _ (due_refusal command vs status line is read own) e a = absurd own
-usage_of files R words before now _ _ (due_output command vs text is read out) e a = absurd cc
+usage_of files R words before now _ _ (due_answer command vs status bytes is read answer) e a = absurd (of_answer (λ s. s ≡ Usage → ⊥) (λ q. cc) command vs status bytes answer e)
 
 fault_of : (files : Option NamedFiles) (counts counts_now : List ℕ → ℕ) (before now : Option (List ℕ)) (kind : FileKind) (name : List ℕ) (status : Status) (line : List ℕ) → IsRefusedFile files (RoseIn counts counts_now) kind name status line → status ≡ ReadFault → Appends before now line
     → RoseIn counts counts_now name × Appends before now (file_line (codes "ReadFault") name)
@@ -78,8 +80,7 @@ read_fault_of files counts counts_now words before now _ _ (due_file command sta
   file = at_map files (λ kind name. IsRefusedFile files (RoseIn counts counts_now) kind name status line) (λ kind name. RoseIn counts counts_now name × Appends before now (file_line (codes "ReadFault") name)) (slots_of command) (behind words)
       (λ kind name h. fault_of files counts counts_now before now kind name status line h e a) first;
 }
-read_fault_of files counts counts_now words before now _ _ (due_refusal command vs status line is read own) e a = absurd own
-read_fault_of files counts counts_now words before now _ _ (due_output command vs text is read out) e a = absurd cc
+read_fault_of files counts counts_now words before now _ _ (due_answer command vs status bytes is read answer) e a = absurd (of_answer (λ s. s ≡ ReadFault → ⊥) (λ q. cc) command vs status bytes answer e)
 
 long_of : (files : Option NamedFiles) (R : List ℕ → Type 0) (before now : Option (List ℕ)) (kind : FileKind) (name : List ℕ) (status : Status) (line : List ℕ) → IsRefusedFile files R kind name status line → status ≡ TooLong → Appends before now line
     → IfSome (told_file files name) (λ file. most_bytes < length file) × Appends before now (file_line (codes "TooLong") name)
@@ -95,8 +96,7 @@ too_long_of files R words before now _ _ (due_file command status line is first)
   file = at_map files (λ kind name. IsRefusedFile files R kind name status line) (λ kind name. IfSome (told_file files name) (λ file. most_bytes < length file) × Appends before now (file_line (codes "TooLong") name)) (slots_of command) (behind words)
       (λ kind name h. long_of files R before now kind name status line h e a) first;
 }
-too_long_of files R words before now _ _ (due_refusal command vs status line is read own) e a = absurd own
-too_long_of files R words before now _ _ (due_output command vs text is read out) e a = absurd cc
+too_long_of files R words before now _ _ (due_answer command vs status bytes is read answer) e a = absurd (of_answer (λ s. s ≡ TooLong → ⊥) (λ q. cc) command vs status bytes answer e)
 
 bad_of : (files : Option NamedFiles) (R : List ℕ → Type 0) (before now : Option (List ℕ)) (kind found : FileKind) (name : List ℕ) (status : Status) (line : List ℕ) → IsRefusedFile files R found name status line → status ≡ refusal_status kind → Appends before now line → IsRefusedWith files kind before now found name
 bad_of files R before now kind found name _ _ (not_read rose) e a = absurd (no_text ReadFault (λ q. cc) (λ q. cc) kind (sym e))
@@ -113,19 +113,19 @@ text_of_kind files R words kind before now _ _ (due_file command status line is 
   file = at_map files (λ found name. IsRefusedFile files R found name status line) (IsRefusedWith files kind before now) (slots_of command) (behind words)
       (λ found name h. bad_of files R before now kind found name status line h e a) first;
 }
-text_of_kind files R words kind before now _ _ (due_refusal command vs status line is read own) e a = absurd own
-text_of_kind files R words kind before now _ _ (due_output command vs text is read out) e a = absurd (no_text ok_status (λ q. cc) (λ q. cc) kind (sym e))
+text_of_kind files R words kind before now _ _ (due_answer command vs status bytes is read answer) e a =
+    absurd (of_answer (λ s. s ≡ refusal_status kind → ⊥) (λ q. no_text ok_status (λ p. cc) (λ p. cc) kind (sym q)) command vs status bytes answer e)
 
 output_of : (files : Option NamedFiles) (R : List ℕ → Type 0) (words : List (List ℕ)) (before now : Option (List ℕ)) (status : Status) (bytes : List ℕ) → IsDue files R words status bytes → status ≡ ok_status → Appends before now bytes → OutputAnswer files words before now
 output_of files R words before now _ _ (due_usage none) e a = absurd cc
 output_of files R words before now _ _ (due_file command status line is first) e a =
     absurd (of_first (λ s. s ≡ ok_status → ⊥) (λ q. cc) (λ q. cc) (λ q. cc) (λ q. cc) files R command words status line first e)
-output_of files R words before now _ _ (due_refusal command vs status line is read own) e a = absurd own
-output_of files R words before now _ _ (due_output command vs text is read out) e a = record { command = command; vs = vs; text = text; command_is = is; read = read; output = out; written = a }
+output_of files R words before now _ _ (due_answer command vs status bytes is read (inl own)) e a = absurd (own_status (λ s. s ≡ ok_status → ⊥) command vs status bytes own e)
+output_of files R words before now _ _ (due_answer command vs status bytes is read (inr out)) e a = record { command = command; vs = vs; text = bytes; command_is = is; read = read; output = out.1; written = a }
 
 -- ---- from the outcome
 module _ (files : Option NamedFiles) (counts counts_now : List ℕ → ℕ) (words : List (List ℕ)) (before now : Option (List ℕ)) (faults faults_now : ℕ) (result : Status)
-         (outcome : Outcome files (RoseIn counts counts_now) words before now faults faults_now result) where
+    (outcome : Outcome files (RoseIn counts counts_now) words before now faults faults_now result) where
   -- the status was answered and its bytes written, where it is none of the two that others yield to
   written : (result ≡ Memory → ⊥) → (result ≡ WriteFault → ⊥) → (bytes : List ℕ) × IsDue files (RoseIn counts counts_now) words result bytes × Appends before now bytes
   written no_memory no_fault = elim outcome [
@@ -190,8 +190,8 @@ module _ (files : Option NamedFiles) (counts counts_now : List ℕ → ℕ) (wor
     ]
   ]
 
-  pub due_answer : (status : Status) (bytes : List ℕ) → files ≢ None → IsDue files NoneRises words status bytes → IsStatusOr status result
-  due_answer status bytes told other = elim outcome [
+  pub due_status : (status : Status) (bytes : List ℕ) → files ≢ None → IsDue files NoneRises words status bytes → IsStatusOr status result
+  due_status status bytes told other = elim outcome [
     | inl memory ↦ inr (inr (inr memory.1))
     | inr due ↦ elim due.3 [
       | inl whole ↦ elim (due_one files (RoseIn counts counts_now) words due.0 status due.1 bytes told due.2 other) [
@@ -208,7 +208,10 @@ module _ (files : Option NamedFiles) (counts counts_now : List ℕ → ℕ) (wor
     | inr due ↦ elim due.3 [
       | inl whole ↦ elim (commanded files (RoseIn counts counts_now) words command due.0 due.1 p.command_is due.2) [
         | inl first ↦ absurd (not_refused files (RoseIn counts counts_now) (slots_of command) (behind words) vs due.0 due.1 p.told p.no_read_fault first p.read)
-        | inr out ↦ inl (whole.0 ∙ out.2, (due.1, subst (λ us. IsOutput command us due.1) (all_one files (slots_of command) (behind words) out.0 vs p.told out.1 p.read) out.3, whole.1))
+        | inr found ↦ elim (subst (λ us. IsAnswer command us due.0 due.1) (all_one files (slots_of command) (behind words) found.0 vs p.told found.1 p.read) found.2) [
+          | inl own ↦ absurd (p.no_refusal due.0 due.1 own)
+          | inr out ↦ inl (whole.0 ∙ out.0, (due.1, out.1, whole.1))
+        ]
       ]
       | inr front ↦ absurd (p.no_write_fault front.1)
     ]

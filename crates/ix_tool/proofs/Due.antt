@@ -1,12 +1,11 @@
 -- What is due is one thing: at most one status for told files, but for faults of reading.
-use Rattle.std.proofs.Common.{◌≡◌, ◌≢◌, ℕ, ◌<◌, ◌≤◌, List, [], ◌∷◌, length, Option, Some, None, refl, ap, sym, ◌∙◌, subst, arith, ◌⊎◌, inl, inr}
+use Rattle.std.proofs.Common.{◌≡◌, ◌≢◌, ℕ, ◌<◌, List, [], ◌∷◌, length, Option, Some, None, refl, ap, sym, ◌∙◌, subst, arith, ◌⊎◌, inl, inr}
 use Rattle.std.specs.Prelude.{IfSome, unwrap_or}
 use Rattle.ix_io.specs.Limits.{most_bytes}
 use Rattle.ix_io.specs.Shelf.{NamedFiles, told_file, file_named}
-use Rattle.ix_cert.specs.Certificates.{IsFaultless}
 use Rattle.ix_cert.proofs.Verdicts.{faultless_not_refused}
 use Rattle.ix_tool.specs.declared.status.Status.{Status}
-use Rattle.ix_tool.specs.declared.status.Status.TheVariants.{Ok as ok_status, Usage, ReadFault, WriteFault, TooLong, Image as image_status, Certificate, Memory}
+use Rattle.ix_tool.specs.declared.status.Status.TheVariants.{Usage, ReadFault}
 use Rattle.ix_tool.specs.declared.command.Command.{Command}
 use Rattle.ix_tool.specs.declared.command.FileKind.{FileKind}
 use Rattle.ix_tool.specs.declared.command.FileKind.TheVariants.{Image, Report}
@@ -16,7 +15,7 @@ use Rattle.ix_tool.specs.declared.value.Value.{Value}
 use Rattle.ix_tool.specs.declared.value.Value.TheVariants as value
 use Rattle.ix_tool.specs.ImageText.{IsImageText, AllBuilt}
 use Rattle.ix_tool.specs.CommandLine.{command_of, slots_of, behind, number_within}
-use Rattle.ix_tool.specs.CommandOutput.{IsRefusedImage, bad_line, unbuilt_line, IsRefusedText, refusal_status, IsReadAs, IsFile, IsRead, AreRead, AtFile, IsRefusedFile, not_read, too_long, bad_text, IsFirstRefused, IsOutput, IsDue, due_usage, due_file, due_refusal, due_output, NoneRises, NoFileRises}
+use Rattle.ix_tool.specs.CommandOutput.{IsRefusedImage, bad_line, unbuilt_line, IsRefusedText, IsReadAs, IsFile, IsRead, AreRead, IsRefusedFile, not_read, too_long, bad_text, IsFirstRefused, IsOwnRefusal, IsAnswer, IsDue, due_usage, due_file, due_answer, NoneRises, NoFileRises}
 use Rattle.ix_tool.proofs.ImageLemmas.{image_not_refused, built_not_refused}
 
 -- no value is some and none; one value is some of one thing
@@ -137,19 +136,29 @@ none_rises (File kind ∷ slots) [] = tt
 none_rises (Number most ∷ slots) (word ∷ words) = none_rises slots words
 none_rises (File kind ∷ slots) (word ∷ words) = (λ rose. rose, none_rises slots words)
 
--- ---- what is due to a command: a refusal of a file, or its output
+-- ---- a command's own refusals, of which there are none yet
+-- their statuses, by what is so of each
+pub own_status : (P : Status → Type 0) (command : Command) (vs : List Value) (status : Status) (line : List ℕ) → IsOwnRefusal command vs status line → P status
+own_status P command vs status line own = absurd own
+
+-- a command answers its values with one status
+answer_one : (command : Command) (vs : List Value) (s t : Status) (a b : List ℕ) → IsAnswer command vs s a → IsAnswer command vs t b → s ≡ t
+answer_one command vs s t a b (inl own) other = absurd own
+answer_one command vs s t a b (inr out) (inl own) = absurd own
+answer_one command vs s t a b (inr out) (inr other) = out.0 ∙ sym other.0
+
+-- ---- what is due to a command: a refusal of a file, or its answer
 abbrev pub IsCommanded : Option NamedFiles → (List ℕ → Type 0) → List (List ℕ) → Command → Status → List ℕ → Type 0
 IsCommanded files R words command status bytes =
     IsFirstRefused files R (slots_of command) (behind words) status bytes
-    ⊎ ((vs : List Value) × AreRead files (slots_of command) (behind words) vs × (status ≡ ok_status) × IsOutput command vs bytes)
+    ⊎ ((vs : List Value) × AreRead files (slots_of command) (behind words) vs × IsAnswer command vs status bytes)
 
 pub commanded : (files : Option NamedFiles) (R : List ℕ → Type 0) (words : List (List ℕ)) (command : Command) (status : Status) (bytes : List ℕ) → command_of words ≡ Some command → IsDue files R words status bytes → IsCommanded files R words command status bytes
 commanded files R words command _ _ e (due_usage none) = absurd (both (command_of words) command e none)
 commanded files R words command _ _ e (due_file other status line is first) =
     inl (subst (λ c. IsFirstRefused files R (slots_of c) (behind words) status line) (one (command_of words) other command is e) first)
-commanded files R words command _ _ e (due_refusal other vs status line is read own) = absurd own
-commanded files R words command _ _ e (due_output other vs text is read out) =
-    subst (λ c. IsCommanded files R words c ok_status text) (one (command_of words) other command is e) (inr (vs, read, refl, out))
+commanded files R words command _ _ e (due_answer other vs status bytes is read answer) =
+    subst (λ c. IsCommanded files R words c status bytes) (one (command_of words) other command is e) (inr (vs, read, answer))
 
 -- ---- one status is due
 due_commanded : (files : Option NamedFiles) (R : List ℕ → Type 0) (words : List (List ℕ)) (command : Command) (s t : Status) (a b : List ℕ) → files ≢ None → IsCommanded files R words command s a → IsCommanded files NoneRises words command t b → (s ≡ t) ⊎ (s ≡ ReadFault)
@@ -157,7 +166,8 @@ due_commanded files R words command s t a b told (inl f) (inl g) = first_two fil
 due_commanded files R words command s t a b told (inl f) (inr g) = inr (first_fault files R (slots_of command) (behind words) g.0 s a told f g.1)
 due_commanded files R words command s t a b told (inr f) (inl g) =
     absurd (not_refused files NoneRises (slots_of command) (behind words) f.0 t b told (none_rises (slots_of command) (behind words)) g f.1)
-due_commanded files R words command s t a b told (inr f) (inr g) = inl (f.2 ∙ sym g.2)
+due_commanded files R words command s t a b told (inr f) (inr g) =
+    inl (answer_one command g.0 s t a b (subst (λ vs. IsAnswer command vs s a) (all_one files (slots_of command) (behind words) f.0 g.0 told f.1 g.1) f.2) g.2)
 
 command_or_none : (o : Option Command) → (o ≡ None) ⊎ ((command : Command) × (o ≡ Some command))
 command_or_none None = inl refl
@@ -166,8 +176,7 @@ command_or_none (Some command) = inr (command, refl)
 pub usage_alone : (files : Option NamedFiles) (R : List ℕ → Type 0) (words : List (List ℕ)) (s : Status) (a : List ℕ) → command_of words ≡ None → IsDue files R words s a → s ≡ Usage
 usage_alone files R words _ _ none (due_usage e) = refl
 usage_alone files R words _ _ none (due_file command status line is first) = absurd (both (command_of words) command is none)
-usage_alone files R words _ _ none (due_refusal command vs status line is read own) = absurd own
-usage_alone files R words _ _ none (due_output command vs text is read out) = absurd (both (command_of words) command is none)
+usage_alone files R words _ _ none (due_answer command vs status bytes is read answer) = absurd (both (command_of words) command is none)
 
 pub due_one : (files : Option NamedFiles) (R : List ℕ → Type 0) (words : List (List ℕ)) (s t : Status) (a b : List ℕ) → files ≢ None → IsDue files R words s a → IsDue files NoneRises words t b → (s ≡ t) ⊎ (s ≡ ReadFault)
 due_one files R words s t a b told d e = elim (command_or_none (command_of words)) [

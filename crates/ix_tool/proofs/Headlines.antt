@@ -1,10 +1,9 @@
 -- What an output shows: of a run the headline, of a yes that the report is certified.
 use Rattle.std.proofs.Common.{◌≡◌, ◌≢◌, ℕ, ◌<◌, ◌≤◌, ◌^◌, List, [], ◌∷◌, length, Option, Some, None, Bool, true, false, refl, ap, sym, ◌∙◌, subst, arith}
-use Rattle.std.specs.Prelude.{IfSome, codes, unwrap_or, if◌then◌else◌, ◌&&◌}
+use Rattle.std.specs.Prelude.{codes, if◌then◌else◌}
 use Rattle.std.specs.Str.{bytes_eq}
 use Rattle.std.proofs.lemmas.Bool.{and_parts, true≢false}
-use Rattle.ix_io.specs.Limits.{most_bytes}
-use Rattle.ix_io.specs.Shelf.{NamedFiles, told_file, file_named}
+use Rattle.ix_io.specs.Shelf.{NamedFiles, told_file}
 use Rattle.ix_io.specs.Sink.{Appends}
 use Rattle.ix_cert.specs.Certificates.{IsFaultless}
 use Rattle.ix_cert.proofs.Verdicts.{faultless_certified}
@@ -14,8 +13,8 @@ use Rattle.ix_tool.specs.declared.command.FileKind.TheVariants.{Image, Report}
 use Rattle.ix_tool.specs.declared.value.Value.{Value}
 use Rattle.ix_tool.specs.declared.value.Value.TheVariants as value
 use Rattle.ix_tool.specs.ImageText.{IsImageText, AllBuilt}
-use Rattle.ix_tool.specs.CommandLine.{command_of, commands, first_command, is_command, word_of, slots_of, fits_slots, behind, number_within, run_of, run_command, report_of}
-use Rattle.ix_tool.specs.CommandOutput.{IsRunOutput, IsReadAs, IsFile, AreRead, IsOutput, Takes, OutputAnswer, RunAnswer, CertifiedAnswer, image_of_run, told_of}
+use Rattle.ix_tool.specs.CommandLine.{command_of, commands, first_command, is_command, slots_of, fits_slots, behind, number_within, run_of, run_command, report_of}
+use Rattle.ix_tool.specs.CommandOutput.{IsReadAs, IsFile, AreRead, IsOutput, Takes, OutputAnswer, RunAnswer, CertifiedAnswer, image_of_run, told_of}
 use Rattle.ix_tool.proofs.Due.{both, one}
 
 -- ---- the words of a command

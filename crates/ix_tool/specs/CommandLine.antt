@@ -5,7 +5,6 @@ use Rattle.std.specs.Str.{bytes_eq}
 use Rattle.std.specs.declared.alloc.Global.{Global}
 use Rattle.ix_tool.specs.declared.command.Command.{Command}
 use Rattle.ix_tool.specs.declared.command.Command.TheVariants.{RunImage, Certify}
-use Rattle.ix_tool.specs.declared.command.FileKind.{FileKind}
 use Rattle.ix_tool.specs.declared.command.FileKind.TheVariants.{Image, Report}
 use Rattle.ix_tool.specs.declared.command.Slot.{Slot}
 use Rattle.ix_tool.specs.declared.command.Slot.TheVariants.{Number, File}

@@ -1,6 +1,5 @@
 -- What a command answers and writes, from its words and the bytes of its files (this project's choice).
-use Rattle.std.specs.Prelude.{◌≡◌, ◌≢◌, IfSome, ℕ, ◌<◌, ◌≤◌, List, [], ◌∷◌, ◌++◌, length, reverse, Option, Some, None, codes, decimal, ◌⊎◌, String, string_bytes, Result, Ok, Err}
-use Rattle.std.specs.declared.alloc.Global.{Global}
+use Rattle.std.specs.Prelude.{◌≡◌, ◌≢◌, IfSome, ℕ, ◌<◌, ◌≤◌, List, [], ◌∷◌, ◌++◌, length, reverse, Option, Some, None, codes, decimal, ◌⊎◌, string_bytes, Result, Ok, Err}
 use Rattle.ix_tool.specs.declared.trace.Row.{Row}
 use Rattle.ix_tool.specs.declared.status.Status.{Status}
 use Rattle.ix_tool.specs.declared.status.Status.TheVariants.{Ok as ok_status, Usage, ReadFault, WriteFault, TooLong, Extension, Sheet, Image as image_status, NoSchedule, Certificate, Memory, Source, Waits}
@@ -119,12 +118,15 @@ IsOutput command vs text = ⊥
 abbrev pub IsOwnRefusal : Command → List Value → Status → List ℕ → Type 0
 IsOwnRefusal command vs status line = ⊥
 
+-- what the command answers: its own refusal, or its output
+abbrev pub IsAnswer : Command → List Value → Status → List ℕ → Type 0
+IsAnswer command vs status bytes = IsOwnRefusal command vs status bytes ⊎ ((status ≡ ok_status) × IsOutput command vs bytes)
+
 -- ---- the one relation: the status and the bytes that are due, by the words, then the files, then the command itself
 pub data IsDue (files : Option NamedFiles) (Rises : List ℕ → Type 0) (words : List (List ℕ)) : Status → List ℕ → Type 0 where
   due_usage : command_of words ≡ None → IsDue files Rises words Usage (codes "refused Usage\n")
   due_file : (command : Command) (status : Status) (line : List ℕ) → command_of words ≡ Some command → IsFirstRefused files Rises (slots_of command) (behind words) status line → IsDue files Rises words status line
-  due_refusal : (command : Command) (vs : List Value) (status : Status) (line : List ℕ) → command_of words ≡ Some command → AreRead files (slots_of command) (behind words) vs → IsOwnRefusal command vs status line → IsDue files Rises words status line
-  due_output : (command : Command) (vs : List Value) (text : List ℕ) → command_of words ≡ Some command → AreRead files (slots_of command) (behind words) vs → IsOutput command vs text → IsDue files Rises words ok_status text
+  due_answer : (command : Command) (vs : List Value) (status : Status) (bytes : List ℕ) → command_of words ≡ Some command → AreRead files (slots_of command) (behind words) vs → IsAnswer command vs status bytes → IsDue files Rises words status bytes
 
 -- ---- what was written
 -- a front of the bytes was written, and the rest is what is left
@@ -138,11 +140,6 @@ abbrev pub Writes : Status → List ℕ → Option (List ℕ) → Option (List �
 Writes status bytes before now faults faults_now result =
     ((result ≡ status) × Appends before now bytes)
     ⊎ ((result ≡ WriteFault) × Rose faults faults_now × AppendsFront before now bytes)
-
--- memory was not found and nothing was written, or the bytes were written with this status
-abbrev pub WritesOrNot : Status → List ℕ → Option (List ℕ) → Option (List ℕ) → ℕ → ℕ → Status → Type 0
-WritesOrNot status bytes before now faults faults_now result =
-    ((result ≡ Memory) × (now ≡ before)) ⊎ Writes status bytes before now faults faults_now result
 
 -- what the tool did: memory was not found and nothing was written, where the words are a command; or what is due was written, or a front of it
 abbrev pub Outcome : Option NamedFiles → (List ℕ → Type 0) → List (List ℕ) → Option (List ℕ) → Option (List ℕ) → ℕ → ℕ → Status → Type 0
@@ -192,7 +189,7 @@ Takes command vs = ⊥
 abbrev pub Answered : Command → List Value → Option (List ℕ) → Option (List ℕ) → ℕ → ℕ → Status → Type 0
 Answered command vs before now faults faults_now result =
     ((result ≡ Memory) × (now ≡ before))
-    ⊎ ((text : List ℕ) × IsOutput command vs text × Writes ok_status text before now faults faults_now result)
+    ⊎ ((status : Status) × (bytes : List ℕ) × IsAnswer command vs status bytes × Writes status bytes before now faults faults_now result)
 
 -- ---- clauses on an answer
 

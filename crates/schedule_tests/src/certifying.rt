@@ -1,4 +1,4 @@
-use crate::{CertErr, certify};
+use ix_cert::{CertErr, certify};
 use std::alloc::Global;
 
 const HEAD: &[u8] = b"longnail report 1\nperiod 1000\n";

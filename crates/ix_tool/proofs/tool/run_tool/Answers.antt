@@ -1,5 +1,5 @@
 use Rattle.ix_tool.specs.CommandLine.{bytes_of}
-use Rattle.ix_tool.proofs.Clauses.{usage, read_fault, too_long_answer, image, certificate, output, write_fault, memory_alone, built, no_command, due_answer, complete}
+use Rattle.ix_tool.proofs.Clauses.{usage, read_fault, too_long_answer, image, certificate, output, write_fault, memory_alone, built, no_command, due_status, complete}
 use Rattle.ix_tool.proofs.Headlines.{headline, certified}
 use Rattle.ix_tool.proofs.tool.run_tool.Goals as goal
 
@@ -37,7 +37,7 @@ pub returns-clause-built : goal.returns-clause-built
 returns-clause-built g c = built (g.F.Shelf.files c.args.shelf.now) (g.F.Shelf.faults c.args.shelf.now) (g.F.Shelf.faults c.run_words.new.shelf) (bytes_of c.args.words.now) (g.S.Sink.written c.args.sink.now) (g.S.Sink.written c.run_words.new.sink) (g.S.Sink.faults c.args.sink.now) (g.S.Sink.faults c.run_words.new.sink) c.run_words.result c.run_words.ensures
 
 pub returns-clause-due : goal.returns-clause-due
-returns-clause-due g c = due_answer (g.F.Shelf.files c.args.shelf.now) (g.F.Shelf.faults c.args.shelf.now) (g.F.Shelf.faults c.run_words.new.shelf) (bytes_of c.args.words.now) (g.S.Sink.written c.args.sink.now) (g.S.Sink.written c.run_words.new.sink) (g.S.Sink.faults c.args.sink.now) (g.S.Sink.faults c.run_words.new.sink) c.run_words.result c.run_words.ensures
+returns-clause-due g c = due_status (g.F.Shelf.files c.args.shelf.now) (g.F.Shelf.faults c.args.shelf.now) (g.F.Shelf.faults c.run_words.new.shelf) (bytes_of c.args.words.now) (g.S.Sink.written c.args.sink.now) (g.S.Sink.written c.run_words.new.sink) (g.S.Sink.faults c.args.sink.now) (g.S.Sink.faults c.run_words.new.sink) c.run_words.result c.run_words.ensures
 
 pub returns-clause-no_command : goal.returns-clause-no_command
 returns-clause-no_command g c = no_command (g.F.Shelf.files c.args.shelf.now) (g.F.Shelf.faults c.args.shelf.now) (g.F.Shelf.faults c.run_words.new.shelf) (bytes_of c.args.words.now) (g.S.Sink.written c.args.sink.now) (g.S.Sink.written c.run_words.new.sink) (g.S.Sink.faults c.args.sink.now) (g.S.Sink.faults c.run_words.new.sink) c.run_words.result c.run_words.ensures

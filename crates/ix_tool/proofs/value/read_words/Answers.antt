@@ -17,7 +17,7 @@ prove-unreachable-requires g c =
 pub read_word-requires : goal.read_word-requires
 read_word-requires g c =
     (fit_next c.args.slots.now c.args.words.now c.loop-at.at (Number 0) c.index-words-at.result c.as_str.result.now c.loop-at-test.true c.loop-at.invariant.fits
-      (word_at c.args.words.now c.loop-at.at c.index-words-at.result c.as_str.result.now c.as_str.ensures.value c.index-words-at.is)).0
+    (word_at c.args.words.now c.loop-at.at c.index-words-at.result c.as_str.result.now c.as_str.ensures.value c.index-words-at.is)).0
 
 pub returns-in-Err-clause-refused : goal.returns-in-Err-clause-refused
 returns-in-Err-clause-refused g c =
@@ -25,7 +25,7 @@ returns-in-Err-clause-refused g c =
     c.args.slots.now c.args.words.now c.loop-at.at (Number 0) c.index-words-at.result c.in-Err.refusal c.loop-at-test.true (fit_within c.args.slots.now c.args.words.now c.loop-at.at c.loop-at-test.true c.loop-at.invariant.fits)
     (rose_since (g.F.Shelf.faults c.args.shelf.now) (g.F.Shelf.faults c.loop-at.shelf) (g.F.Shelf.faults c.read_word.new.shelf) c.loop-at.invariant.none_fell)
     (word_of_files (g.F.Shelf.files c.loop-at.shelf) (g.F.Shelf.files c.args.shelf.now) (RoseIn (g.F.Shelf.faults c.loop-at.shelf) (g.F.Shelf.faults c.read_word.new.shelf)) (get_or c.args.slots.now c.loop-at.at (Number 0)) c.as_str.result.now (string_bytes (get_or c.args.words.now c.loop-at.at c.index-words-at.result)) (Err c.in-Err.refusal) c.loop-at.invariant.kept
-      (word_at c.args.words.now c.loop-at.at c.index-words-at.result c.as_str.result.now c.as_str.ensures.value c.index-words-at.is) c.in-Err.ensures.read)
+    (word_at c.args.words.now c.loop-at.at c.index-words-at.result c.as_str.result.now c.as_str.ensures.value c.index-words-at.is) c.in-Err.ensures.read)
     (c.loop-at.invariant.refused (g.F.Shelf.faults c.read_word.new.shelf))
 
 pub loop-at-preserved : goal.loop-at-preserved

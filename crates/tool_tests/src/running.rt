@@ -1,9 +1,9 @@
 ghost use Rattle.std.specs.Prelude.{◌≢◌, ◌≤◌, length};
 
-use crate::status::Status;
-use crate::tool::run_tool;
 use ix_bits::{List, Memory, Name};
 use ix_io::{MemShelf, MemSink, SureShelf, SureSink};
+use ix_tool::status::Status;
+use ix_tool::tool::run_tool;
 use std::alloc::Global;
 use std::test::Fail;
 
@@ -143,13 +143,19 @@ fn a_refusal_that_cannot_be_written(rt: HostRuntime) -> Result<(), Fail> {
 fn words_that_are_no_command(rt: HostRuntime) -> Result<(), Fail> {
     let alloc = rt.alloc();
     let usage = b"refused Usage\n".as_slice();
-    let rows: [&[&str]; 6] = [
+    let rows: [&[&str]; 12] = [
         &[],
         &["run"],
         &["run", "IMAGE"],
         &["walk", "IMAGE", "5"],
         &["run", "IMAGE", "5", "5"],
         &["run", "run", "IMAGE", "5"],
+        &["certify"],
+        &["certify", "IMAGE", "IMAGE"],
+        &["Certify", "IMAGE"],
+        &["certify", "IMAGE", "5", "5"],
+        &["certif", "IMAGE"],
+        &["5", "IMAGE", "run"],
     ];
     for texts in rows {
         let (status, sink) = answer(alloc, texts, b"")?;
