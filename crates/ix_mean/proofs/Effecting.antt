@@ -37,7 +37,7 @@ number_holds f i s (x_choose ty c a b) g n h =
     (λ e. h.3.first (number i s a) (number_holds f i s a g n h.1)) (λ e. h.3.second (number i s b) (number_holds f i s b g n h.2))
 
 -- ---- the start
-zero_is : (ty : Ty) → value_of ty 0 ≡ pos 0
+pub zero_is : (ty : Ty) → value_of ty 0 ≡ pos 0
 zero_is ty = by ty.signed ty.width
   where
     by : (s : Bool) (w : ℕ) → number_of s w 0 ≡ pos 0

@@ -8,3 +8,5 @@ pub mod Evaluating
 pub mod Entries
 pub mod Executing
 pub mod Effecting
+pub mod Fields
+pub mod Resolvings

@@ -5,3 +5,5 @@ pub mod Typing
 pub mod View
 pub mod Given
 pub mod Effects
+pub mod ByName
+pub mod Resolving
