@@ -1,10 +1,9 @@
 -- The concatenation that a field is resolved to has the field's number.
-use Rattle.std.proofs.Common.{◌≡◌, ◌≢◌, ℕ, zero, suc, ◌+◌, ◌-◌, ◌*◌, ◌/◌, ◌%◌, ◌^◌, ◌<◌, ◌≤◌, min, max, refl, sym, ap, subst, ◌∙◌, arith, Bool, true, false, cond, Option, Some, None, ℤ, pos, List, [], ◌∷◌}
+use Rattle.std.proofs.Common.{◌≡◌, ◌≢◌, ℕ, zero, suc, ◌+◌, ◌-◌, ◌*◌, ◌/◌, ◌^◌, ◌<◌, ◌≤◌, refl, sym, ap, subst, ◌∙◌, arith, Bool, true, false, cond, Option, Some, None, ℤ, pos, List, [], ◌∷◌}
 use Rattle.std.specs.Prelude.{nat_lt}
 use Rattle.std.proofs.lemmas.Bool.{cond_both}
 use Rattle.std.proofs.lemmas.Nat.{pow_pos, pow-add, mod_below}
 use Rattle.std.proofs.Math.Nat.{mod-eq_of_lt}
-use Rattle.ix_bits.specs.declared.number.Ty.{Ty}
 use Rattle.ix_bits.specs.NearTypes.{type_near}
 use Rattle.ix_bits.specs.Operators.{pattern_of, bits_between}
 use Rattle.ix_bits.proofs.Same.{ty_is}
@@ -46,8 +45,7 @@ behind_shows i s None e n m w v h g l =
 behind_shows i s (Some d) e n m w v h g l =
     let a = type_of_expression d in
     let b = type_of_expression e in
-    let wide : a.width + b.width ≡ w + v = omega (arith, h.2, g.2) in
-    (
+    let wide : a.width + b.width ≡ w + v = omega (arith, h.2, g.2) in (
       rw (h.0, g.0) (ap pos (joined a.width b.width w v n m h.2 g.2 h.3 g.3)),
       refl,
       near_width false (a.width + b.width) (omega (arith, a.some_width)) (omega arith) ∙ wide,
@@ -72,8 +70,7 @@ part_shows i s p h l =
     let whole : pattern_of 32 (pos i.word) ≡ i.word = pattern_is 32 i.word h in
     let length : p.at + (p.hi - p.lo) - p.at + 1 ≡ p.hi - p.lo + 1 = omega arith in
     let below : part i.word p < 2 ^ (p.at + (p.hi - p.lo) - p.at + 1) = mod_below (i.word / 2 ^ p.at) (2 ^ (p.at + (p.hi - p.lo) - p.at + 1)) (pow_pos (p.at + (p.hi - p.lo) - p.at + 1)) in
-    let B : ℕ → Type 0 = λ k. part i.word p < 2 ^ k in
-    (
+    let B : ℕ → Type 0 = λ k. part i.word p < 2 ^ k in (
       ap (λ (n : ℕ). pos (bits_between n (p.at + (p.hi - p.lo)) p.at)) whole,
       refl,
       near_width false (p.hi - p.lo + 1) (omega arith) (omega arith),

@@ -10,3 +10,4 @@ pub mod Executing
 pub mod Effecting
 pub mod Fields
 pub mod Resolvings
+pub mod Steps

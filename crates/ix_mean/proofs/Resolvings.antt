@@ -1,12 +1,11 @@
 -- Resolving the names of an expression keeps its type and its number.
-use Rattle.std.proofs.Common.{◌≡◌, ℕ, suc, ◌+◌, ◌^◌, ◌<◌, refl, sym, ap, subst, ◌∙◌, Bool, true, false, cond, Option, Some, None, ℤ, pos, List, [], ◌∷◌, map, get_or}
+use Rattle.std.proofs.Common.{◌≡◌, ℕ, ◌^◌, ◌<◌, refl, sym, ap, ◌∙◌, Bool, true, false, cond, Option, Some, None, ℤ, pos, List, [], ◌∷◌, map}
 use Rattle.std.specs.Prelude.{unsigned_abs, ◌&&◌}
 use Rattle.std.proofs.lemmas.Bool.{cond_both, and_parts}
 use Rattle.ix_bits.specs.declared.number.Ty.{Ty}
-use Rattle.ix_bits.specs.declared.operator.BinOp.{BinOp}
 use Rattle.ix_bits.specs.declared.operator.UnOp.{UnOp}
 use Rattle.ix_bits.specs.declared.operator.UnOp.TheVariants as U
-use Rattle.ix_bits.specs.Operators.{pattern_of, value_of, fit, is_true, binary_number, unary_number, bits_between}
+use Rattle.ix_bits.specs.Operators.{pattern_of, fit, is_true, binary_number, unary_number, bits_between}
 use Rattle.ix_graph.specs.declared.kind.Kind.TheVariants as k
 use Rattle.ix_tree.specs.declared.extension.Piece.{Piece}
 use Rattle.ix_tree.specs.Lexing.{same_bytes}

@@ -7,3 +7,5 @@ pub mod Given
 pub mod Effects
 pub mod ByName
 pub mod Resolving
+pub mod EffectByName
+pub mod ResolvingStatements

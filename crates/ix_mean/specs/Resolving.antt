@@ -1,5 +1,5 @@
 -- Expressions with their names resolved: a local is its slot, a register its number, a field the concatenation of its pieces (this project's choice of the order of pieces).
-use Rattle.std.specs.Prelude.{◌≡◌, ◌≢◌, ℕ, zero, suc, ◌+◌, ◌-◌, ◌^◌, ◌≤◌, ◌<◌, ℤ, pos, get_or, unsigned_abs, List, [], ◌∷◌, map, Option, Some, None, Bool, true, false, ◌&&◌, if◌then◌else◌, nat_eq, nat_lt}
+use Rattle.std.specs.Prelude.{◌≡◌, ◌≢◌, ℕ, zero, suc, ◌+◌, ◌-◌, ◌^◌, ◌≤◌, ◌<◌, ℤ, pos, get_or, unsigned_abs, List, [], ◌∷◌, map, Option, Some, None, true, false, if◌then◌else◌, nat_lt}
 use Rattle.ix_bits.specs.declared.number.Ty.{Ty}
 use Rattle.ix_bits.specs.declared.operator.BinOp.TheVariants.{Concat}
 use Rattle.ix_bits.specs.declared.operator.UnOp.{UnOp}
@@ -10,7 +10,7 @@ use Rattle.ix_graph.specs.declared.kind.Kind.{Kind}
 use Rattle.ix_graph.specs.declared.kind.Kind.TheVariants as k
 use Rattle.ix_tree.specs.declared.extension.Piece.{Piece}
 use Rattle.ix_tree.specs.Lexing.{same_bytes}
-use Rattle.ix_tree.specs.TypedTrees.{TypedExprTree, t_literal, t_name, t_pc, t_x, t_mem, t_index, t_range, t_unary, t_cast, t_binary, t_choose, type_of}
+use Rattle.ix_tree.specs.TypedTrees.{TypedExprTree, t_literal, t_name, t_pc, t_x, t_mem, t_index, t_range, t_unary, t_cast, t_binary, t_choose}
 use Rattle.ix_mean.specs.Core.{u1, u32, Expression, x_const, x_slot, x_read, x_load, x_one, x_cast, x_entry, x_two, x_choose, type_of_expression}
 use Rattle.ix_mean.specs.Meaning.{Inputs, number}
 use Rattle.ix_mean.specs.Typing.{is_constant}
