@@ -19,3 +19,4 @@ pub mod Shown
 pub mod Viable
 pub mod Walked
 pub mod Wordings
+pub mod Verdicts

@@ -1,8 +1,10 @@
 pub mod Items
 pub mod Layout
+pub mod Words
 pub mod Faults
 pub mod Checks
 pub mod Certificates
 pub mod Printing
 pub mod Refusals
 pub mod Steps
+pub mod Laws

@@ -6,6 +6,7 @@ mod check;
 mod cycle;
 mod fields;
 mod item;
+pub mod laws;
 mod lines;
 mod print;
 mod read;
@@ -14,8 +15,6 @@ mod state;
 mod steps;
 mod sum;
 mod verdict;
-#[cfg(test)]
-mod verdict_tests;
 mod word;
 
 pub use print::print_report;

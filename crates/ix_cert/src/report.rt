@@ -54,6 +54,45 @@ pub enum CertErr {
     Memory,
 }
 
+impl CertErr {
+    ghost use Rattle.std.specs.Prelude.{◌≡◌};
+    ghost use Rattle.ix_cert.specs.Words.{line_number, kind_word};
+
+    /// The number of the line that fails, from 1; 0 where memory was not found.
+    pub fn line(self) -> u32
+        ensures { result ≡ line_number self }
+    {
+        match self {
+            CertErr::Line { line }
+            | CertErr::Dep { line }
+            | CertErr::Window { line }
+            | CertErr::Chain { line }
+            | CertErr::Balance { line }
+            | CertErr::Value { line }
+            | CertErr::NotPositive { line }
+            | CertErr::NotClosed { line } => line,
+            CertErr::Memory => 0,
+        }
+    }
+
+    /// The word for what fails.
+    pub fn kind(self) -> &'static str
+        ensures { result.now ≡ kind_word self }
+    {
+        match self {
+            CertErr::Line { .. } => "Line",
+            CertErr::Dep { .. } => "Dep",
+            CertErr::Window { .. } => "Window",
+            CertErr::Chain { .. } => "Chain",
+            CertErr::Balance { .. } => "Balance",
+            CertErr::Value { .. } => "Value",
+            CertErr::NotPositive { .. } => "NotPositive",
+            CertErr::NotClosed { .. } => "NotClosed",
+            CertErr::Memory => "Memory",
+        }
+    }
+}
+
 impl From<ix_bits::Memory> for CertErr {
     ghost use Rattle.std.specs.Prelude.{◌≡◌};
     ghost use Rattle.ix_cert.specs.declared.report.CertErr.TheVariants.{Memory as memory};

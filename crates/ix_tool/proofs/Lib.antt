@@ -8,10 +8,15 @@ pub mod Bound
 pub mod Rows
 pub mod Sound
 pub mod Results
+pub mod Words
+pub mod Judging
+pub mod Reading
+pub mod Due
+pub mod Outcomes
+pub mod Clauses
+pub mod Headlines
 pub mod ImageLemmas
 pub mod Texts
 pub mod Writing
 pub mod RunOutputs
-pub mod Outcomes
-pub mod Clauses
 pub mod WorkedRun

@@ -1,37 +1,44 @@
 -- What the tool does, from what its parts do.
-use Rattle.std.proofs.Common.{◌≡◌, ℕ, ◌<◌, ◌≤◌, List, length, Option, Some, None, refl, sym, ap, subst, ◌⊎◌, inl, inr}
-use Rattle.std.specs.Prelude.{IfSome, codes}
-use Rattle.ix_io.specs.Faults.{Rose}
+use Rattle.std.proofs.Common.{◌≡◌, ℕ, ◌-◌, List, [], ◌∷◌, length, drop, take, Option, Some, None, refl, ap, ◌∙◌, subst, arith, inl, inr}
+use Rattle.std.specs.Prelude.{codes, String}
+use Rattle.std.specs.declared.alloc.Global.{Global}
+use Rattle.std.proofs.lemmas.List.{take_all}
+use Rattle.ix_io.specs.Shelf.{NamedFiles}
 use Rattle.ix_tool.specs.declared.status.Status.{Status}
-use Rattle.ix_tool.specs.declared.status.Status.TheVariants.{Ok as ok_status, ReadFault, TooLong, Memory}
-use Rattle.ix_tool.specs.ImageText.{lines_of, words_in, IsImageText, AllBuilt}
-use Rattle.ix_tool.specs.CommandOutput.{Writes, WritesOrNot, IsRunOutput, IsDueOfFile, file_bad, file_unbuilt, file_run, FileOutcome, IsOfFile, CommandOutcome, run_memory, run_due, run_too_long, run_read_fault, run_untold, file_line}
+use Rattle.ix_tool.specs.declared.status.Status.TheVariants.{Usage}
+use Rattle.ix_tool.specs.declared.command.Command.{Command}
+use Rattle.ix_tool.specs.declared.command.Slot.{Slot}
+use Rattle.ix_tool.specs.declared.value.Value.{Value}
+use Rattle.ix_tool.specs.CommandLine.{command_of, slots_of, behind, bytes_of}
+use Rattle.ix_tool.specs.CommandOutput.{Writes, Outcome, AreRead, IsFirstRefused, Answered, due_usage, due_file, due_answer}
+use Rattle.ix_tool.proofs.Due.{both}
 
-pub from_refusal : (file : List ℕ) (cycles : ℕ) (status : Status) (bytes : List ℕ) (before now : Option (List ℕ)) (faults faults_now : ℕ) (result : Status) → IsDueOfFile file cycles status bytes → WritesOrNot status bytes before now faults faults_now result → FileOutcome file cycles before now faults faults_now result
-from_refusal file cycles status bytes before now faults faults_now result due (inl m) = inl m
-from_refusal file cycles status bytes before now faults faults_now result due (inr w) = inr (status, bytes, due, w)
+pub none_of : {A : Type 0} (o : Option A) → ((a : A) → o ≡ Some a → ⊥) → o ≡ None
+none_of None unlike = refl
+none_of (Some a) unlike = absurd (unlike a refl)
 
-pub from_run : (file image : List ℕ) (cycles : ℕ) (before now : Option (List ℕ)) (faults faults_now : ℕ) (result : Status) → IsImageText file image → AllBuilt (words_in (lines_of file)) → ((result ≡ Memory) × (now ≡ before)) ⊎ ((text : List ℕ) × IsRunOutput image cycles text × Writes ok_status text before now faults faults_now result) → FileOutcome file cycles before now faults faults_now result
-from_run file image cycles before now faults faults_now result t b (inl m) = inl m
-from_run file image cycles before now faults faults_now result t b (inr r) = inr (ok_status, r.0, file_run image r.0 t (subst AllBuilt (sym t.words_are) b) r.1, r.2)
+-- the words behind the first, as the program passes them
+pub rest_of : (words : List (String Global)) → bytes_of (take (length words - 1) (drop 1 words)) ≡ behind (bytes_of words)
+rest_of [] = refl
+rest_of (word ∷ words) =
+    let e : length (word ∷ words) - 1 ≡ length words = omega arith in
+    ap (λ n. bytes_of (take n words)) e ∙ ap bytes_of (take_all (length words) words (omega arith))
 
--- the status of a file's refusal or run
-of_file : (file : List ℕ) (cycles : ℕ) (status : Status) (bytes : List ℕ) → IsDueOfFile file cycles status bytes → IsOfFile status
-of_file file cycles status bytes (file_bad number bad) = inr (inr refl)
-of_file file cycles status bytes (file_unbuilt image number t u) = inr (inr refl)
-of_file file cycles status bytes (file_run image text t b r) = inl refl
+pub usage_outcome : (files : Option NamedFiles) (R : List ℕ → Type 0) (words : List (List ℕ)) (before now : Option (List ℕ)) (faults faults_now : ℕ) (result : Status) → command_of words ≡ None → Writes Usage (codes "refused Usage\n") before now faults faults_now result → Outcome files R words before now faults faults_now result
+usage_outcome files R words before now faults faults_now result none w = inr (Usage, codes "refused Usage\n", due_usage none, w)
 
-pub from_file : (image bytes : List ℕ) (cycles : ℕ) (told : Option (List ℕ)) (counts counts_now : List ℕ → ℕ) (before now : Option (List ℕ)) (faults faults_now : ℕ) (result : Status) → IfSome told (λ file. bytes ≡ file) → length bytes ≤ 1048576 → FileOutcome bytes cycles before now faults faults_now result → CommandOutcome image cycles told counts counts_now before now faults faults_now result
-from_file image bytes cycles told counts counts_now before now faults faults_now result whole short (inl m) = run_memory m.0 m.1
-from_file image bytes cycles None counts counts_now before now faults faults_now result whole short (inr d) = run_untold d.0 d.1 refl (of_file bytes cycles d.0 d.1 d.2) d.3
-from_file image bytes cycles (Some file) counts counts_now before now faults faults_now result whole short (inr d) =
-    run_due bytes d.0 d.1 (ap Some (sym whole)) short d.2 d.3
+pub answered_outcome : (files : Option NamedFiles) (R : List ℕ → Type 0) (words rest : List (List ℕ)) (slots : List Slot) (command : Command) (vs : List Value) (before now : Option (List ℕ)) (faults faults_now : ℕ) (result : Status) → command_of words ≡ Some command → slots ≡ slots_of command → rest ≡ behind words
+    → AreRead files slots rest vs → Answered command vs before now faults faults_now result → Outcome files R words before now faults faults_now result
+answered_outcome files R words rest slots command vs before now faults faults_now result is s r read (inl memory) = inl (λ none. both (command_of words) command is none, memory.0, memory.1)
+answered_outcome files R words rest slots command vs before now faults faults_now result is s r read (inr out) =
+    inr (out.0, out.1, due_answer command vs out.0 out.1 is (subst (λ l. AreRead files l (behind words) vs) s (subst (λ l. AreRead files slots l vs) r read)) out.2, out.3)
 
-pub from_fault : (image : List ℕ) (cycles : ℕ) (told : Option (List ℕ)) (counts counts_now : List ℕ → ℕ) (before now : Option (List ℕ)) (faults faults_now : ℕ) (result : Status) → Rose (counts image) (counts_now image) → WritesOrNot ReadFault (file_line (codes "ReadFault") image) before now faults faults_now result → CommandOutcome image cycles told counts counts_now before now faults faults_now result
-from_fault image cycles told counts counts_now before now faults faults_now result rose (inl m) = run_memory m.0 m.1
-from_fault image cycles told counts counts_now before now faults faults_now result rose (inr w) = run_read_fault rose w
-
-pub from_too_long : (image : List ℕ) (cycles : ℕ) (told : Option (List ℕ)) (counts counts_now : List ℕ → ℕ) (before now : Option (List ℕ)) (faults faults_now : ℕ) (result : Status) → IfSome told (λ file. 1048576 < length file) → WritesOrNot TooLong (file_line (codes "TooLong") image) before now faults faults_now result → CommandOutcome image cycles told counts counts_now before now faults faults_now result
-from_too_long image cycles told counts counts_now before now faults faults_now result long (inl m) = run_memory m.0 m.1
-from_too_long image cycles None counts counts_now before now faults faults_now result long (inr w) = run_untold TooLong (file_line (codes "TooLong") image) refl (inr (inl refl)) w
-from_too_long image cycles (Some file) counts counts_now before now faults faults_now result long (inr w) = run_too_long file refl long w
+pub refused_outcome : (files : Option NamedFiles) (R : List ℕ → Type 0) (words rest : List (List ℕ)) (slots : List Slot) (command : Command) (status : Status) (line shown : List ℕ) (before now : Option (List ℕ)) (faults faults_now : ℕ) (result : Status) → command_of words ≡ Some command → slots ≡ slots_of command → rest ≡ behind words
+    → IsFirstRefused files R slots rest status line → shown ≡ line → Writes status shown before now faults faults_now result → Outcome files R words before now faults faults_now result
+refused_outcome files R words rest slots command status line shown before now faults faults_now result is s r first e w =
+    inr (
+      status,
+      line,
+      due_file command status line is (subst (λ l. IsFirstRefused files R l (behind words) status line) s (subst (λ l. IsFirstRefused files R slots l status line) r first)),
+      subst (λ b. Writes status b before now faults faults_now result) e w,
+    )

@@ -1,8 +1,13 @@
--- The words of a command (this project's choice).
-use Rattle.std.specs.Prelude.{ℕ, ◌+◌, ◌-◌, ◌*◌, List, [], ◌∷◌, length, map, Option, Some, None, Bool, ◌&&◌, if◌then◌else◌, nat_le, codes, String, string_bytes}
+-- The words of a command, and the table of commands (this project's choice).
+use Rattle.std.specs.Prelude.{ℕ, ◌+◌, ◌-◌, ◌*◌, List, [], ◌∷◌, length, drop, map, is_some, Option, Some, None, Bool, true, false, ◌&&◌, if◌then◌else◌, nat_le, codes, String, string_bytes}
 use Rattle.std.specs.Option.{option_and_then}
 use Rattle.std.specs.Str.{bytes_eq}
 use Rattle.std.specs.declared.alloc.Global.{Global}
+use Rattle.ix_tool.specs.declared.command.Command.{Command}
+use Rattle.ix_tool.specs.declared.command.Command.TheVariants.{RunImage, Certify}
+use Rattle.ix_tool.specs.declared.command.FileKind.TheVariants.{Image, Report}
+use Rattle.ix_tool.specs.declared.command.Slot.{Slot}
+use Rattle.ix_tool.specs.declared.command.Slot.TheVariants.{Number, File}
 
 abbrev pub digit_value : ℕ → Option ℕ
 digit_value b = if nat_le 48 b && nat_le b 57 then Some (b - 48) else None
@@ -22,7 +27,49 @@ at_most most n = if nat_le n most then Some n else None
 abbrev pub number_within : ℕ → List ℕ → Option ℕ
 number_within most word = option_and_then (at_most most) (number_of word)
 
--- run IMAGE CYCLES, with 0 to 200,000 cycles
+-- ---- the table of commands: the first word, and what stands behind it
+abbrev pub word_of : Command → List ℕ
+word_of RunImage = codes "run"
+word_of Certify = codes "certify"
+
+abbrev pub slots_of : Command → List Slot
+slots_of RunImage = File Image ∷ Number 200000 ∷ []
+slots_of Certify = File Report ∷ []
+
+-- the commands, in the order in which words are tried
+abbrev pub commands : List Command
+commands = RunImage ∷ Certify ∷ []
+
+-- ---- which command words are
+-- any word names a file; a number is at most the given one
+abbrev pub fits_slot : Slot → List ℕ → Bool
+fits_slot (File kind) word = true
+fits_slot (Number most) word = is_some (number_within most word)
+
+-- a word for each place, and no more
+abbrev pub fits_slots : List Slot → List (List ℕ) → Bool
+fits_slots [] [] = true
+fits_slots [] (word ∷ words) = false
+fits_slots (slot ∷ slots) [] = false
+fits_slots (slot ∷ slots) (word ∷ words) = fits_slot slot word && fits_slots slots words
+
+abbrev pub is_command : Command → List (List ℕ) → Bool
+is_command command [] = false
+is_command command (word ∷ rest) = bytes_eq word (word_of command) && fits_slots (slots_of command) rest
+
+abbrev pub first_command : List Command → List (List ℕ) → Option Command
+first_command [] words = None
+first_command (command ∷ rest) words = if is_command command words then Some command else first_command rest words
+
+-- the command of these words, if they are one
+abbrev pub command_of : List (List ℕ) → Option Command
+command_of words = first_command commands words
+
+-- the words behind the first
+abbrev pub behind : List (List ℕ) → List (List ℕ)
+behind words = drop 1 words
+
+-- ---- run IMAGE CYCLES, with 0 to 200,000 cycles
 pub record RunCommand : Type 0 where
   pub image : List ℕ
   pub cycles : ℕ
@@ -31,13 +78,21 @@ abbrev pub run_command : Bool → List ℕ → Option ℕ → Option RunCommand
 run_command is_run image None = None
 run_command is_run image (Some n) = if is_run then Some (record { image = image; cycles = n }) else None
 
--- the command of these words, if they are one
-abbrev pub command_of : List (List ℕ) → Option RunCommand
-command_of [] = None
-command_of (command ∷ []) = None
-command_of (command ∷ image ∷ []) = None
-command_of (command ∷ image ∷ cycles ∷ []) = run_command (bytes_eq command (codes "run")) image (number_within 200000 cycles)
-command_of (command ∷ image ∷ cycles ∷ more ∷ rest) = None
+-- the run that these words ask for, if they do
+abbrev pub run_of : List (List ℕ) → Option RunCommand
+run_of [] = None
+run_of (command ∷ []) = None
+run_of (command ∷ image ∷ []) = None
+run_of (command ∷ image ∷ cycles ∷ []) = run_command (bytes_eq command (codes "run")) image (number_within 200000 cycles)
+run_of (command ∷ image ∷ cycles ∷ more ∷ rest) = None
+
+-- ---- certify REPORT
+-- the report that these words ask to be checked, if they do
+abbrev pub report_of : List (List ℕ) → Option (List ℕ)
+report_of [] = None
+report_of (command ∷ []) = None
+report_of (command ∷ report ∷ []) = if bytes_eq command (codes "certify") then Some report else None
+report_of (command ∷ report ∷ more ∷ rest) = None
 
 -- the bytes of the words
 abbrev pub bytes_of : List (String Global) → List (List ℕ)

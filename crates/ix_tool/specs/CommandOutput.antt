@@ -1,17 +1,32 @@
--- What a command answers and writes, from its words and the bytes of its file (this project's choice).
-use Rattle.std.specs.Prelude.{◌≡◌, ◌≢◌, IfSome, ℕ, ◌<◌, ◌≤◌, List, ◌++◌, length, reverse, Option, Some, None, codes, decimal, ◌⊎◌}
+-- What a command answers and writes, from its words and the bytes of its files (this project's choice).
+use Rattle.std.specs.Prelude.{◌≡◌, ◌≢◌, IfSome, ℕ, ◌<◌, ◌≤◌, List, [], ◌∷◌, ◌++◌, length, reverse, Option, Some, None, codes, decimal, ◌⊎◌, string_bytes, Result, Ok, Err}
 use Rattle.ix_tool.specs.declared.trace.Row.{Row}
 use Rattle.ix_tool.specs.declared.status.Status.{Status}
-use Rattle.ix_tool.specs.declared.status.Status.TheVariants.{Ok as ok_status, Usage, ReadFault, WriteFault, TooLong, Extension, Sheet, Image, NoSchedule, Certificate, Memory, Source, Waits}
+use Rattle.ix_tool.specs.declared.status.Status.TheVariants.{Ok as ok_status, Usage, ReadFault, WriteFault, TooLong, Extension, Sheet, Image as image_status, NoSchedule, Certificate, Memory, Source, Waits}
+use Rattle.ix_tool.specs.declared.command.Command.{Command}
+use Rattle.ix_tool.specs.declared.command.Command.TheVariants.{RunImage, Certify}
+use Rattle.ix_tool.specs.declared.command.FileKind.{FileKind}
+use Rattle.ix_tool.specs.declared.command.FileKind.TheVariants.{Image, Report}
+use Rattle.ix_tool.specs.declared.command.Slot.{Slot}
+use Rattle.ix_tool.specs.declared.command.Slot.TheVariants.{Number, File}
+use Rattle.ix_tool.specs.declared.value.Value.{Value}
+use Rattle.ix_tool.specs.declared.value.Value.TheVariants as value
+use Rattle.ix_tool.specs.declared.value.Refusal.{Refusal}
+use Rattle.ix_tool.specs.declared.value.Refusal.TheVariants as refusal
 use Rattle.ix_tool.specs.Trace.{Setting, newest, architecture}
 use Rattle.ix_tool.specs.Headline.{Headline}
 use Rattle.ix_tool.specs.TraceText.{trace_text, state_text}
 use Rattle.ix_tool.specs.ImageText.{IsImageText, IsBadLine, AllBuilt, IsUnbuiltLine}
-use Rattle.ix_tool.specs.CommandLine.{RunCommand, command_of}
+use Rattle.ix_tool.specs.CommandLine.{RunCommand, run_of, report_of, command_of, slots_of, behind, number_within}
+use Rattle.ix_cert.specs.declared.report.CertErr.{CertErr}
+use Rattle.ix_cert.specs.Certificates.{IsCertifiedText, IsFaultless, IsRefused as IsRefusedReport}
+use Rattle.ix_cert.specs.Words.{line_number, kind_word}
 use Rattle.ix_io.specs.Faults.{Rose}
+use Rattle.ix_io.specs.Limits.{most_bytes}
 use Rattle.ix_io.specs.Shelf.{NamedFiles, told_file}
 use Rattle.ix_io.specs.Sink.{Appends, AppendsFront}
 
+-- ---- the texts of outputs and of refusals
 -- the image on the core of three stages
 abbrev pub three : List ℕ → Setting
 three image = record { image = image; stages = 3; rd = 1; ex = 1 }
@@ -32,28 +47,88 @@ file_line kind name = codes "refused " ++ kind ++ codes " " ++ name ++ codes "\n
 abbrev pub image_line : ℕ → List ℕ
 image_line number = codes "refused Image " ++ decimal number ++ codes "\n"
 
--- the command is a run of this file with these bytes, which are within length
-pub record IsRunOf (words : List (List ℕ)) (told : Option (List ℕ)) (command : RunCommand) (file : List ℕ) : Type 0 where
-  pub command_is : command_of words ≡ Some command
-  pub file_is : told ≡ Some file
-  pub within : length file ≤ 1048576
+-- a refusal of a report, which names its line and what fails there
+abbrev pub certificate_line : CertErr → List ℕ
+certificate_line e = codes "refused Certificate " ++ decimal (line_number e) ++ codes " " ++ kind_word e ++ codes "\n"
 
--- the status and the bytes that are due: the first of these that applies, in the order of the words, the file and the run
-pub data IsDue (words : List (List ℕ)) (told : Option (List ℕ)) : Status → List ℕ → Type 0 where
-  due_usage : command_of words ≡ None → IsDue words told Usage (codes "refused Usage\n")
-  due_too_long : (command : RunCommand) (file : List ℕ) → command_of words ≡ Some command → told ≡ Some file → 1048576 < length file → IsDue words told TooLong (file_line (codes "TooLong") command.image)
-  due_bad : (command : RunCommand) (file : List ℕ) (number : ℕ) → IsRunOf words told command file → IsBadLine file number → IsDue words told Image (image_line number)
-  due_unbuilt : (command : RunCommand) (file image : List ℕ) (number : ℕ) → IsRunOf words told command file → IsImageText file image → IsUnbuiltLine file number → IsDue words told Image (image_line number)
-  due_run : (command : RunCommand) (file image text : List ℕ) → IsRunOf words told command file → IsImageText file image → AllBuilt image → IsRunOutput image command.cycles text → IsDue words told ok_status text
+-- ---- what judges a file
+-- a line of the image is refused: the first that is none, or else the first whose word is not built
+pub data IsRefusedImage (bytes : List ℕ) : ℕ → Type 0 where
+  bad_line : (number : ℕ) → IsBadLine bytes number → IsRefusedImage bytes number
+  unbuilt_line : (image : List ℕ) (number : ℕ) → IsImageText bytes image → IsUnbuiltLine bytes number → IsRefusedImage bytes number
 
--- the file of a command, where the shelf tells its files
-abbrev pub file_of_command : Option NamedFiles → Option RunCommand → Option (List ℕ)
-file_of_command files None = None
-file_of_command files (Some command) = told_file files command.image
+-- the text of a file of this kind is refused with this line
+abbrev pub IsRefusedText : FileKind → List ℕ → List ℕ → Type 0
+IsRefusedText Image bytes line = (number : ℕ) × IsRefusedImage bytes number × (line ≡ image_line number)
+IsRefusedText Report bytes line = (e : CertErr) × IsRefusedReport bytes e × (line ≡ certificate_line e)
 
-abbrev pub told_of : Option NamedFiles → List (List ℕ) → Option (List ℕ)
-told_of files words = file_of_command files (command_of words)
+-- the status of that refusal
+abbrev pub refusal_status : FileKind → Status
+refusal_status Image = image_status
+refusal_status Report = Certificate
 
+-- the text of a file of this kind is read as this value
+abbrev pub IsReadAs : FileKind → List ℕ → Value → Type 0
+IsReadAs Image bytes (value.Image image) = IsImageText bytes image × AllBuilt image
+IsReadAs Image bytes v = ⊥
+IsReadAs Report bytes value.Report = IsFaultless bytes
+IsReadAs Report bytes v = ⊥
+
+-- ---- the words behind the first, in order: each file is read whole and judged before the next is read
+-- the bytes of a file that was read whole: those that are told, or some where nothing is told
+pub record IsFile (files : Option NamedFiles) (name bytes : List ℕ) : Type 0 where
+  pub told : IfSome (told_file files name) (λ file. bytes ≡ file)
+  pub within : length bytes ≤ most_bytes
+
+-- the word in this place stands for this value
+abbrev pub IsRead : Option NamedFiles → Slot → List ℕ → Value → Type 0
+IsRead files (Number most) word v = (n : ℕ) × (number_within most word ≡ Some n) × (v ≡ value.Number n)
+IsRead files (File kind) word v = (bytes : List ℕ) × IsFile files word bytes × IsReadAs kind bytes v
+
+-- each of the words does
+abbrev pub AreRead : Option NamedFiles → List Slot → List (List ℕ) → List Value → Type 0
+AreRead files [] [] [] = Unit {0}
+AreRead files (slot ∷ slots) (word ∷ words) (v ∷ vs) = IsRead files slot word v × AreRead files slots words vs
+AreRead files slots words vs = ⊥
+
+-- the file is refused with this status and line: its count of faults rose, it is too long, or its text is refused
+pub data IsRefusedFile (files : Option NamedFiles) (Rises : List ℕ → Type 0) (kind : FileKind) (name : List ℕ) : Status → List ℕ → Type 0 where
+  not_read : Rises name → IsRefusedFile files Rises kind name ReadFault (file_line (codes "ReadFault") name)
+  too_long : IfSome (told_file files name) (λ file. most_bytes < length file) → IsRefusedFile files Rises kind name TooLong (file_line (codes "TooLong") name)
+  bad_text : (bytes line : List ℕ) → IsFile files name bytes → IsRefusedText kind bytes line → IsRefusedFile files Rises kind name (refusal_status kind) line
+
+-- a word behind the first names a file of which this is so, and the words before it are read
+abbrev pub AtFile : Option NamedFiles → (FileKind → List ℕ → Type 0) → List Slot → List (List ℕ) → Type 0
+AtFile files P (Number most ∷ slots) (word ∷ words) = AtFile files P slots words
+AtFile files P (File kind ∷ slots) (word ∷ words) = P kind word ⊎ ((v : Value) × IsRead files (File kind) word v × AtFile files P slots words)
+AtFile files P slots words = ⊥
+
+-- the first file that is refused is refused with this status and line
+abbrev pub IsFirstRefused : Option NamedFiles → (List ℕ → Type 0) → List Slot → List (List ℕ) → Status → List ℕ → Type 0
+IsFirstRefused files Rises slots words status line = AtFile files (λ kind name. IsRefusedFile files Rises kind name status line) slots words
+
+-- ---- what a command answers where all its words are read
+-- the bytes due
+abbrev pub IsOutput : Command → List Value → List ℕ → Type 0
+IsOutput RunImage (value.Image image ∷ value.Number cycles ∷ []) text = IsRunOutput image cycles text
+IsOutput Certify (value.Report ∷ []) text = text ≡ codes "yes\n"
+IsOutput command vs text = ⊥
+
+-- a refusal of the command's own, behind those of its files; no command has one yet
+abbrev pub IsOwnRefusal : Command → List Value → Status → List ℕ → Type 0
+IsOwnRefusal command vs status line = ⊥
+
+-- what the command answers: its own refusal, or its output
+abbrev pub IsAnswer : Command → List Value → Status → List ℕ → Type 0
+IsAnswer command vs status bytes = IsOwnRefusal command vs status bytes ⊎ ((status ≡ ok_status) × IsOutput command vs bytes)
+
+-- ---- the one relation: the status and the bytes that are due, by the words, then the files, then the command itself
+pub data IsDue (files : Option NamedFiles) (Rises : List ℕ → Type 0) (words : List (List ℕ)) : Status → List ℕ → Type 0 where
+  due_usage : command_of words ≡ None → IsDue files Rises words Usage (codes "refused Usage\n")
+  due_file : (command : Command) (status : Status) (line : List ℕ) → command_of words ≡ Some command → IsFirstRefused files Rises (slots_of command) (behind words) status line → IsDue files Rises words status line
+  due_answer : (command : Command) (vs : List Value) (status : Status) (bytes : List ℕ) → command_of words ≡ Some command → AreRead files (slots_of command) (behind words) vs → IsAnswer command vs status bytes → IsDue files Rises words status bytes
+
+-- ---- what was written
 -- a front of the bytes was written, and the rest is what is left
 pub record Sends (before now : Option (List ℕ)) (bytes left : List ℕ) : Type 0 where
   pub sent : List ℕ
@@ -66,84 +141,128 @@ Writes status bytes before now faults faults_now result =
     ((result ≡ status) × Appends before now bytes)
     ⊎ ((result ≡ WriteFault) × Rose faults faults_now × AppendsFront before now bytes)
 
--- memory was not found and nothing was written, or the bytes were written with this status
-abbrev pub WritesOrNot : Status → List ℕ → Option (List ℕ) → Option (List ℕ) → ℕ → ℕ → Status → Type 0
-WritesOrNot status bytes before now faults faults_now result =
-    ((result ≡ Memory) × (now ≡ before)) ⊎ Writes status bytes before now faults faults_now result
+-- what the tool did: memory was not found and nothing was written, where the words are a command; or what is due was written, or a front of it
+abbrev pub Outcome : Option NamedFiles → (List ℕ → Type 0) → List (List ℕ) → Option (List ℕ) → Option (List ℕ) → ℕ → ℕ → Status → Type 0
+Outcome files Rises words before now faults faults_now result =
+    ((command_of words ≢ None) × (result ≡ Memory) × (now ≡ before))
+    ⊎ ((status : Status) × (bytes : List ℕ) × IsDue files Rises words status bytes × Writes status bytes before now faults faults_now result)
 
--- what a file within length is: a refusal of one of its lines, or a run
-pub data IsDueOfFile (file : List ℕ) (cycles : ℕ) : Status → List ℕ → Type 0 where
-  file_bad : (number : ℕ) → IsBadLine file number → IsDueOfFile file cycles Image (image_line number)
-  file_unbuilt : (image : List ℕ) (number : ℕ) → IsImageText file image → IsUnbuiltLine file number → IsDueOfFile file cycles Image (image_line number)
-  file_run : (image text : List ℕ) → IsImageText file image → AllBuilt image → IsRunOutput image cycles text → IsDueOfFile file cycles ok_status text
+-- the count of faults of a name rose in the call
+abbrev pub RoseIn : (List ℕ → ℕ) → (List ℕ → ℕ) → List ℕ → Type 0
+RoseIn counts counts_now name = Rose (counts name) (counts_now name)
 
--- what a command with this file did
-abbrev pub FileOutcome : List ℕ → ℕ → Option (List ℕ) → Option (List ℕ) → ℕ → ℕ → Status → Type 0
-FileOutcome file cycles before now faults faults_now result =
+-- no count of faults does
+abbrev pub NoneRises : List ℕ → Type 0
+NoneRises name = ⊥
+
+-- ---- what the parts of the tool answer
+-- a refusal is this line with this status, or want of memory
+abbrev pub Refuses : Status → List ℕ → Refusal → Type 0
+Refuses status line refusal.Memory = Unit {0}
+Refuses status line (refusal.Line told text) = (told ≡ status) × (string_bytes text ≡ line)
+
+-- a file's text is read as the value, or refused
+abbrev pub Judged : FileKind → List ℕ → Result Value Refusal → Type 0
+Judged kind bytes (Ok v) = IsReadAs kind bytes v
+Judged kind bytes (Err refusal.Memory) = Unit {0}
+Judged kind bytes (Err (refusal.Line status text)) = (status ≡ refusal_status kind) × IsRefusedText kind bytes (string_bytes text)
+
+-- a word is read as a value, or the file that it names is refused
+abbrev pub WordRead : Option NamedFiles → (List ℕ → Type 0) → Slot → List ℕ → Result Value Refusal → Type 0
+WordRead files Rises slot word (Ok v) = IsRead files slot word v
+WordRead files Rises slot word (Err refusal.Memory) = Unit {0}
+WordRead files Rises (Number most) word (Err (refusal.Line status text)) = ⊥
+WordRead files Rises (File kind) word (Err (refusal.Line status text)) = IsRefusedFile files Rises kind word status (string_bytes text)
+
+-- the first of the words that is refused, or that all are read
+abbrev pub WordsRefused : Option NamedFiles → (List ℕ → Type 0) → List Slot → List (List ℕ) → Refusal → Type 0
+WordsRefused files Rises slots words refusal.Memory = Unit {0}
+WordsRefused files Rises slots words (refusal.Line status text) = IsFirstRefused files Rises slots words status (string_bytes text)
+
+-- the values are those that the command takes
+abbrev pub Takes : Command → List Value → Type 0
+Takes RunImage (value.Image image ∷ value.Number cycles ∷ []) = Unit {0}
+Takes Certify (value.Report ∷ []) = Unit {0}
+Takes command vs = ⊥
+
+-- what a command with these values did
+abbrev pub Answered : Command → List Value → Option (List ℕ) → Option (List ℕ) → ℕ → ℕ → Status → Type 0
+Answered command vs before now faults faults_now result =
     ((result ≡ Memory) × (now ≡ before))
-    ⊎ ((status : Status) × (bytes : List ℕ) × IsDueOfFile file cycles status bytes × Writes status bytes before now faults faults_now result)
+    ⊎ ((status : Status) × (bytes : List ℕ) × IsAnswer command vs status bytes × Writes status bytes before now faults faults_now result)
 
--- a status of a command that read its file
-abbrev pub IsOfFile : Status → Type 0
-IsOfFile status = (status ≡ ok_status) ⊎ ((status ≡ TooLong) ⊎ (status ≡ Image))
+-- ---- clauses on an answer
 
--- what a run of a named file did, with what is told of it, and the counts of faults before and after
-pub data CommandOutcome (image : List ℕ) (cycles : ℕ) (told : Option (List ℕ)) (counts counts_now : List ℕ → ℕ) (before now : Option (List ℕ)) (faults faults_now : ℕ) (result : Status) : Type 0 where
-  -- memory was not found, and nothing was written
-  run_memory : result ≡ Memory → now ≡ before → CommandOutcome image cycles told counts counts_now before now faults faults_now result
-  -- the file's refusal or run was written
-  run_due : (file : List ℕ) (status : Status) (bytes : List ℕ) → told ≡ Some file → length file ≤ 1048576 → IsDueOfFile file cycles status bytes → Writes status bytes before now faults faults_now result → CommandOutcome image cycles told counts counts_now before now faults faults_now result
-  -- the file is too long
-  run_too_long : (file : List ℕ) → told ≡ Some file → 1048576 < length file → Writes TooLong (file_line (codes "TooLong") image) before now faults faults_now result → CommandOutcome image cycles told counts counts_now before now faults faults_now result
-  -- the count of the file rose
-  run_read_fault : Rose (counts image) (counts_now image) → Writes ReadFault (file_line (codes "ReadFault") image) before now faults faults_now result → CommandOutcome image cycles told counts counts_now before now faults faults_now result
-  -- the shelf tells nothing of the file
-  run_untold : (status : Status) (bytes : List ℕ) → told ≡ None → IsOfFile status → Writes status bytes before now faults faults_now result → CommandOutcome image cycles told counts counts_now before now faults faults_now result
+-- the command is a run of this file with these bytes, which are within length
+pub record IsRunOf (words : List (List ℕ)) (told : Option (List ℕ)) (command : RunCommand) (file : List ℕ) : Type 0 where
+  pub command_is : run_of words ≡ Some command
+  pub file_is : told ≡ Some file
+  pub within : length file ≤ most_bytes
 
--- what the tool did on these words
-abbrev pub OutcomeOf : Option RunCommand → Option NamedFiles → (List ℕ → ℕ) → (List ℕ → ℕ) → Option (List ℕ) → Option (List ℕ) → ℕ → ℕ → Status → Type 0
-OutcomeOf None files counts counts_now before now faults faults_now result = Writes Usage (codes "refused Usage\n") before now faults faults_now result
-OutcomeOf (Some command) files counts counts_now before now faults faults_now result =
-    CommandOutcome command.image command.cycles (told_file files command.image) counts counts_now before now faults faults_now result
+-- the image of a run, where the shelf tells its files
+abbrev pub image_of_run : Option NamedFiles → Option RunCommand → Option (List ℕ)
+image_of_run files None = None
+image_of_run files (Some command) = told_file files command.image
 
--- Clauses on an answer
+abbrev pub told_of : Option NamedFiles → List (List ℕ) → Option (List ℕ)
+told_of files words = image_of_run files (run_of words)
+
+-- the report that is to be checked, where the shelf tells its files
+abbrev pub report_named : Option NamedFiles → Option (List ℕ) → Option (List ℕ)
+report_named files None = None
+report_named files (Some report) = told_file files report
+
+abbrev pub told_report : Option NamedFiles → List (List ℕ) → Option (List ℕ)
+told_report files words = report_named files (report_of words)
 
 -- the words are no command, and the refusal was written
 abbrev pub UsageAnswer : List (List ℕ) → Option (List ℕ) → Option (List ℕ) → Type 0
 UsageAnswer words before now = (command_of words ≡ None) × Appends before now (codes "refused Usage\n")
 
--- the count of the command's file rose in this call, and the refusal that names it was written
-pub record ReadFaultAnswer (words : List (List ℕ)) (counts counts_now : List ℕ → ℕ) (before now : Option (List ℕ)) : Type 0 where
-  pub command : RunCommand
+-- the count of one of the command's files rose in this call, and the refusal that names it was written
+pub record ReadFaultAnswer (files : Option NamedFiles) (words : List (List ℕ)) (counts counts_now : List ℕ → ℕ) (before now : Option (List ℕ)) : Type 0 where
+  pub command : Command
   pub command_is : command_of words ≡ Some command
-  pub rose : Rose (counts command.image) (counts_now command.image)
-  pub line : Appends before now (file_line (codes "ReadFault") command.image)
+  pub file : AtFile files (λ kind name. RoseIn counts counts_now name × Appends before now (file_line (codes "ReadFault") name)) (slots_of command) (behind words)
 
--- the bytes are due, or are the refusal of a file whose count rose
-abbrev pub IsDueOrFault : List (List ℕ) → Option (List ℕ) → (List ℕ → ℕ) → (List ℕ → ℕ) → List ℕ → Type 0
-IsDueOrFault words told counts counts_now bytes =
-    ((status : Status) × IsDue words told status bytes)
-    ⊎ ((command : RunCommand) × (command_of words ≡ Some command) × Rose (counts command.image) (counts_now command.image) × (bytes ≡ file_line (codes "ReadFault") command.image))
-
--- the sink's count rose in this call, and a front of the bytes due was written; where the file is not told, of some bytes
-pub record WriteFaultAnswer (words : List (List ℕ)) (told : Option (List ℕ)) (counts counts_now : List ℕ → ℕ) (before now : Option (List ℕ)) (faults faults_now : ℕ) : Type 0 where
+-- the sink's count rose in this call, and a front of the bytes due was written
+pub record WriteFaultAnswer (files : Option NamedFiles) (words : List (List ℕ)) (counts counts_now : List ℕ → ℕ) (before now : Option (List ℕ)) (faults faults_now : ℕ) : Type 0 where
   pub rose : Rose faults faults_now
+  pub status : Status
   pub bytes : List ℕ
+  pub due : IsDue files (RoseIn counts counts_now) words status bytes
   pub front : AppendsFront before now bytes
-  pub due : IsDueOrFault words told counts counts_now bytes ⊎ ((told ≡ None) × (command_of words ≢ None))
 
--- the file has more than 1,048,576 bytes, and the refusal that names it was written
-pub record TooLongAnswer (words : List (List ℕ)) (told : Option (List ℕ)) (before now : Option (List ℕ)) : Type 0 where
-  pub command : RunCommand
+-- one of the command's files has more than 1,048,576 bytes, and the refusal that names it was written
+pub record TooLongAnswer (files : Option NamedFiles) (words : List (List ℕ)) (before now : Option (List ℕ)) : Type 0 where
+  pub command : Command
   pub command_is : command_of words ≡ Some command
-  pub long : IfSome told (λ file. 1048576 < length file)
-  pub line : told ≢ None → Appends before now (file_line (codes "TooLong") command.image)
+  pub file : AtFile files (λ kind name. IfSome (told_file files name) (λ file. most_bytes < length file) × Appends before now (file_line (codes "TooLong") name)) (slots_of command) (behind words)
 
--- a line of the told image is refused, and the refusal that names it was written
-pub record ImageAnswer (words : List (List ℕ)) (told before now : Option (List ℕ)) : Type 0 where
-  pub number : ℕ
-  pub due : IsDue words told Image (image_line number)
-  pub line : Appends before now (image_line number)
+-- this text of a file of the command is refused with this line, which was written
+pub record IsRefusedWith (files : Option NamedFiles) (kind : FileKind) (before now : Option (List ℕ)) (found : FileKind) (name : List ℕ) : Type 0 where
+  pub kind_is : found ≡ kind
+  pub bytes : List ℕ
+  pub line : List ℕ
+  pub file : IsFile files name bytes
+  pub refused : IsRefusedText kind bytes line
+  pub written : Appends before now line
+
+-- one of the command's files of this kind is refused, and its refusal was written
+pub record TextAnswer (files : Option NamedFiles) (words : List (List ℕ)) (kind : FileKind) (before now : Option (List ℕ)) : Type 0 where
+  pub command : Command
+  pub command_is : command_of words ≡ Some command
+  pub file : AtFile files (IsRefusedWith files kind before now) (slots_of command) (behind words)
+
+-- the output of the command was written whole
+pub record OutputAnswer (files : Option NamedFiles) (words : List (List ℕ)) (before now : Option (List ℕ)) : Type 0 where
+  pub command : Command
+  pub vs : List Value
+  pub text : List ℕ
+  pub command_is : command_of words ≡ Some command
+  pub read : AreRead files (slots_of command) (behind words) vs
+  pub output : IsOutput command vs text
+  pub written : Appends before now text
 
 -- the run was written whole: its text is that of one list of rows of which the headline holds
 pub record RunAnswer (words : List (List ℕ)) (told before now : Option (List ℕ)) : Type 0 where
@@ -157,6 +276,14 @@ pub record RunAnswer (words : List (List ℕ)) (told before now : Option (List �
   pub output : IsRunOutput image command.cycles text
   pub written : Appends before now text
 
+-- the report is certified: it is read, no step of the check finds a fault, and of each behaviour its times are cheapest or there are none; and the yes was written
+pub record CertifiedAnswer (files : Option NamedFiles) (report : List ℕ) (before now : Option (List ℕ)) : Type 0 where
+  pub bytes : List ℕ
+  pub file : IsFile files report bytes
+  pub faultless : IsFaultless bytes
+  pub certified : IsCertifiedText bytes
+  pub written : Appends before now (codes "yes\n")
+
 -- one of the answers that are built
 abbrev pub IsBuiltAnswer : Status → Type 0
 IsBuiltAnswer ok_status = Unit {0}
@@ -164,12 +291,12 @@ IsBuiltAnswer Usage = Unit {0}
 IsBuiltAnswer ReadFault = Unit {0}
 IsBuiltAnswer WriteFault = Unit {0}
 IsBuiltAnswer TooLong = Unit {0}
-IsBuiltAnswer Image = Unit {0}
+IsBuiltAnswer image_status = Unit {0}
+IsBuiltAnswer Certificate = Unit {0}
 IsBuiltAnswer Memory = Unit {0}
 IsBuiltAnswer Extension = ⊥
 IsBuiltAnswer Sheet = ⊥
 IsBuiltAnswer NoSchedule = ⊥
-IsBuiltAnswer Certificate = ⊥
 IsBuiltAnswer Source = ⊥
 IsBuiltAnswer Waits = ⊥
 
@@ -177,18 +304,22 @@ IsBuiltAnswer Waits = ⊥
 abbrev pub IsStatusOr : Status → Status → Type 0
 IsStatusOr status result = (result ≡ status) ⊎ ((result ≡ ReadFault) ⊎ ((result ≡ WriteFault) ⊎ (result ≡ Memory)))
 
--- what a complete run asks: a command, a told file within length that is an image of built words, and no count that rises
-pub record RunPremises (words : List (List ℕ)) (told : Option (List ℕ)) (counts counts_now : List ℕ → ℕ) (faults faults_now : ℕ) : Type 0 where
-  pub command : RunCommand
-  pub file : List ℕ
-  pub image : List ℕ
-  pub run : IsRunOf words told command file
-  pub read : IsImageText file image
-  pub built : AllBuilt image
-  pub no_read_fault : Rose (counts command.image) (counts_now command.image) → ⊥
+-- no count of the files that the words name rises
+abbrev pub NoFileRises : (List ℕ → Type 0) → List Slot → List (List ℕ) → Type 0
+NoFileRises Rises (Number most ∷ slots) (word ∷ words) = NoFileRises Rises slots words
+NoFileRises Rises (File kind ∷ slots) (word ∷ words) = (Rises word → ⊥) × NoFileRises Rises slots words
+NoFileRises Rises slots words = Unit {0}
+
+-- what a complete answer asks: the words of a command, told files that are all read, no refusal of the command's own, and no count that rises
+pub record Premises (files : Option NamedFiles) (words : List (List ℕ)) (counts counts_now : List ℕ → ℕ) (faults faults_now : ℕ) (command : Command) (vs : List Value) : Type 0 where
+  pub command_is : command_of words ≡ Some command
+  pub told : files ≢ None
+  pub read : AreRead files (slots_of command) (behind words) vs
+  pub no_refusal : (status : Status) (line : List ℕ) → IsOwnRefusal command vs status line → ⊥
+  pub no_read_fault : NoFileRises (RoseIn counts counts_now) (slots_of command) (behind words)
   pub no_write_fault : Rose faults faults_now → ⊥
 
--- a run is written whole, or memory was not found and nothing was written
-abbrev pub RunsOrNot : List (List ℕ) → Option (List ℕ) → Option (List ℕ) → Option (List ℕ) → Status → Type 0
-RunsOrNot words told before now result =
-    ((result ≡ ok_status) × RunAnswer words told before now) ⊎ ((result ≡ Memory) × (now ≡ before))
+-- the output is written whole, or memory was not found and nothing was written
+abbrev pub Completes : Command → List Value → Option (List ℕ) → Option (List ℕ) → Status → Type 0
+Completes command vs before now result =
+    ((result ≡ ok_status) × ((text : List ℕ) × IsOutput command vs text × Appends before now text)) ⊎ ((result ≡ Memory) × (now ≡ before))

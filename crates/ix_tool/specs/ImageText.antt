@@ -2,6 +2,7 @@
 use Rattle.std.specs.Prelude.{◌≡◌, ◌≢◌, ℕ, ◌+◌, ◌-◌, ◌*◌, ◌≤◌, List, [], ◌∷◌, ◌++◌, length, reverse, Option, Some, None, Bool, true, ◌&&◌, ◌||◌, if◌then◌else◌, ◌==◌, nat_le, ◌⊎◌}
 use Rattle.std.specs.List.{slice_split}
 use Rattle.std.specs.Option.{option_and_then}
+use Rattle.rv_isa.specs.Images.{most_words}
 use Rattle.ix_tool.specs.declared.image_text.Line.{Line}
 use Rattle.ix_tool.specs.declared.image_text.Line.TheVariants.{Skipped, Word, Bad}
 use Rattle.ix_tool.specs.declared.image_text.TextErr.{TextErr}
@@ -76,13 +77,13 @@ abbrev pub AllGood : List (List ℕ) → Type 0
 AllGood [] = Unit {0}
 AllGood (line ∷ rest) = (line_of line ≢ Bad) × AllGood rest
 
--- the text has these words, and at most 65,536
+-- the text has these words, and no more than an image may have
 pub record IsImageText (bytes words : List ℕ) : Type 0 where
   pub good : AllGood (lines_of bytes)
   pub words_are : words ≡ words_in (lines_of bytes)
-  pub few : length words ≤ 65536
+  pub few : length words ≤ most_words
 
--- the line of this number, from 1, is the first bad one, or has word 65,537
+-- the line of this number, from 1, is the first bad one, or has the word after the last one that fits
 pub record IsBadLine (bytes : List ℕ) (number : ℕ) : Type 0 where
   pub before : List (List ℕ)
   pub line : List ℕ
@@ -90,8 +91,8 @@ pub record IsBadLine (bytes : List ℕ) (number : ℕ) : Type 0 where
   pub parts : lines_of bytes ≡ before ++ line ∷ behind
   pub number_is : number ≡ length before + 1
   pub good : AllGood before
-  pub few : length (words_in before) ≤ 65536
-  pub refused : (line_of line ≡ Bad) ⊎ ((word : ℕ) × (line_of line ≡ Word word) × (length (words_in before) ≡ 65536))
+  pub few : length (words_in before) ≤ most_words
+  pub refused : (line_of line ≡ Bad) ⊎ ((word : ℕ) × (line_of line ≡ Word word) × (length (words_in before) ≡ most_words))
 
 -- what a refusal says: nothing of memory, and else the bad line
 abbrev pub IsRefusal : List ℕ → TextErr → Type 0

@@ -1,5 +1,63 @@
 ghost use Rattle.std.specs.Prelude.{◌≡◌, ◌+◌, ◌*◌, ◌^◌, ◌<◌, length, IfSome, MatchOption, Some, None, ◌≤◌};
-ghost use Rattle.ix_tool.specs.CommandLine.{digit_value as specified_digit_value, digits_number as specified_digits_number, number_within as specified_number_within, command_of, bytes_of};
+ghost use Rattle.ix_tool.specs.CommandLine.{digit_value as specified_digit_value, digits_number as specified_digits_number, number_within as specified_number_within, word_of, slots_of, fits_slot, fits_slots, is_command as specified_is_command, command_of as specified_command_of, bytes_of};
+
+/// A command of the table.
+#[derive(Clone, Copy, Debug, PartialEq, Eq)]
+pub enum Command {
+    /// `run IMAGE CYCLES`, with 0 to 200,000 cycles.
+    RunImage,
+    /// `certify REPORT`.
+    Certify,
+}
+
+/// What a file is read as.
+#[derive(Clone, Copy, Debug, PartialEq, Eq)]
+pub enum FileKind {
+    /// The words of a program.
+    Image,
+    /// A report of schedules.
+    Report,
+}
+
+/// What may stand in a place behind the first word.
+#[derive(Clone, Copy, Debug, PartialEq, Eq)]
+pub enum Slot {
+    /// A number from 0 to this one.
+    Number(u32),
+    /// The name of a file.
+    File(FileKind),
+}
+
+/// The commands, in the order in which words are tried.
+const COMMANDS: [Command; 2] = [Command::RunImage, Command::Certify];
+
+/// What stands behind `run` for an image alone.
+const RUN_IMAGE: [Slot; 2] = [Slot::File(FileKind::Image), Slot::Number(200_000)];
+
+/// What stands behind `certify`.
+const CERTIFY: [Slot; 1] = [Slot::File(FileKind::Report)];
+
+impl Command {
+    /// The first word.
+    fn word(self) -> &'static str
+        ensures { result.now ≡ word_of self }
+    {
+        match self {
+            Command::RunImage => "run",
+            Command::Certify => "certify",
+        }
+    }
+
+    /// What stands behind it.
+    pub fn slots(self) -> &'static [Slot]
+        ensures { result.now ≡ slots_of self }
+    {
+        match self {
+            Command::RunImage => &RUN_IMAGE,
+            Command::Certify => &CERTIFY,
+        }
+    }
+}
 
 fn digit_value(b: u8) -> Option<u8>
     ensures { result ≡ specified_digit_value b }
@@ -26,42 +84,60 @@ fn digits_number(word: &[u8]) -> Option<u64>
 }
 
 /// The number that one to ten decimal digits write, where it is at most `most`.
-fn number_within(most: u64, word: &str) -> Option<u64>
+pub fn number_within(most: u32, word: &str) -> Option<u32>
     ensures { result ≡ specified_number_within most word.now }
 {
     if word.len() < 1 || word.len() > 10 {
         return None;
     }
     match digits_number(word.as_bytes()) {
-        Some(number) if number <= most => Some(number),
+        Some(number) if number <= u64::from(most) => Some(number as u32),
         _ => None,
     }
 }
 
-/// A command: the file of the image, and the cycles, 0 to 200,000.
-#[derive(Clone, Copy, Debug)]
-pub struct Run<'a> {
-    pub image: &'a str,
-    pub cycles: u32,
+/// Whether a word may stand in a place.
+fn fits(slot: Slot, word: &str) -> bool
+    ensures { result ≡ fits_slot slot word.now }
+{
+    match slot {
+        Slot::File(_) => true,
+        Slot::Number(most) => number_within(most, word).is_some(),
+    }
+}
+
+/// Whether there is a word for each place, and no more.
+fn fit(slots: &[Slot], words: &[String]) -> bool
+    ensures { result ≡ fits_slots slots.now (bytes_of words.now) }
+{
+    for (at, slot) in slots.iter().enumerate() {
+        if at >= words.len() {
+            return false;
+        }
+        if !fits(*slot, words[at].as_str()) {
+            return false;
+        }
+    }
+    slots.len() == words.len()
+}
+
+fn is_command(command: Command, words: &[String]) -> bool
+    ensures { result ≡ specified_is_command command (bytes_of words.now) }
+{
+    match words {
+        [word, rest @ ..] => word.as_str() == command.word() && fit(command.slots(), rest),
+        [] => false,
+    }
 }
 
 /// The command of these words, if they are one.
-pub fn parse(words: &[String]) -> Option<Run<'_>>
-    ensures { MatchOption result (command_of (bytes_of words.now) ≡ None) (λ run. command_of (bytes_of words.now) ≡ Some (record { image = run.image.now; cycles = run.cycles })) }
+pub fn command_of(words: &[String]) -> Option<Command>
+    ensures { result ≡ specified_command_of (bytes_of words.now) }
 {
-    match words {
-        [command, image, cycles] => {
-            if command.as_str() != "run" {
-                return None;
-            }
-            match number_within(200_000, cycles.as_str()) {
-                None => None,
-                Some(cycles) => Some(Run {
-                    image: image.as_str(),
-                    cycles: cycles as u32,
-                }),
-            }
+    for command in COMMANDS {
+        if is_command(command, words) {
+            return Some(command);
         }
-        _ => None,
     }
+    None
 }

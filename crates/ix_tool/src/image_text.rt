@@ -130,7 +130,7 @@ pub fn read_image(alloc: Global, bytes: &[u8]) -> Result<Image, TextErr>
         match line_of(line) {
             Line::Skipped => {}
             Line::Word(word) => {
-                if image.len() == 65_536 {
+                if image.len() as usize == Image::MOST {
                     return Err(TextErr::At((i + 1) as u32));
                 }
                 if image.push(word).is_err() {

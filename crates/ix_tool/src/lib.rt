@@ -14,7 +14,6 @@ pub mod sequential;
 pub mod stages;
 pub mod status;
 pub mod step;
-#[cfg(test)]
-mod tests;
 pub mod tool;
 pub mod trace;
+pub mod value;

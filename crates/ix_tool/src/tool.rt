@@ -1,16 +1,16 @@
+ghost use Rattle.std.specs.Prelude.{◌≡◌, ◌≢◌, ℕ, List, Some, None, ◌⊎◌};
 ghost use Rattle.ix_tool.specs.declared.status.Status.{Status};
-ghost use Rattle.std.specs.Prelude.{◌≡◌, ◌≢◌, ℕ, ◌≤◌, ◌<◌, ◌^◌, ◌++◌, length, List, codes, decimal, Some, None, ◌⊎◌, IfSome};
-ghost use Rattle.ix_io.specs.Faults.{Rose};
-ghost use Rattle.ix_io.specs.Shelf.{told_file};
-ghost use Rattle.ix_io.specs.Sink.{Appends, AppendsFront};
-ghost use Rattle.ix_tool.specs.CommandLine.{command_of, bytes_of};
-ghost use Rattle.ix_tool.specs.CommandOutput.{Writes, WritesOrNot, FileOutcome, CommandOutcome, OutcomeOf, IsDue, UsageAnswer, ReadFaultAnswer, WriteFaultAnswer, TooLongAnswer, ImageAnswer, RunAnswer, IsBuiltAnswer, IsStatusOr, RunPremises, RunsOrNot, told_of, file_line, image_line};
+ghost use Rattle.ix_tool.specs.declared.value.Value.{Value as ReadValue};
+ghost use Rattle.ix_tool.specs.declared.command.Command.{Command as TheCommand};
+ghost use Rattle.ix_tool.specs.declared.command.FileKind.TheVariants.{Image as image_kind, Report as report_kind};
+ghost use Rattle.ix_tool.specs.CommandLine.{command_of as specified_command_of, report_of, bytes_of};
+ghost use Rattle.ix_tool.specs.CommandOutput.{Writes, Takes, Answered, Outcome, RoseIn, NoneRises, IsDue, UsageAnswer, ReadFaultAnswer, WriteFaultAnswer, TooLongAnswer, TextAnswer, OutputAnswer, RunAnswer, CertifiedAnswer, IsBuiltAnswer, IsStatusOr, Premises, Completes, told_of};
 
-use crate::command::parse;
-use crate::image_text::{TextErr, first_unbuilt, read_image};
+use crate::command::{Command, command_of};
 use crate::running::run_image;
 use crate::status::Status;
-use ix_io::{ReadErr, Shelf, Sink, read_all, write_all};
+use crate::value::{Refusal, Value, read_words};
+use ix_io::{Shelf, Sink, write_all};
 use std::alloc::Global;
 
 /// Writes these bytes and answers the status, or that they could not be written.
@@ -23,65 +23,17 @@ fn finish<S: Sink>(sink: &mut S, status: Status, bytes: &[u8]) -> Status
     }
 }
 
-/// Refuses a file.
-fn refuse_file<S: Sink>(
-    alloc: Global,
-    sink: &mut S,
-    status: Status,
-    kind: &str,
-    name: &str,
-) -> Status
-    ensures { WritesOrNot status (file_line kind.now name.now) (S.written sink.old) (S.written sink.new) (S.faults sink.old) (S.faults sink.new) result }
+/// Writes what is due of the values of a command.
+fn answer<S: Sink>(alloc: Global, command: Command, values: &[Value], sink: &mut S) -> Status
+    requires { Takes command values.now }
+    ensures { Answered command values.now (S.written sink.old) (S.written sink.new) (S.faults sink.old) (S.faults sink.new) result }
 {
-    match format!(in alloc; "refused {kind} {name}\n") {
-        Ok(line) => finish(sink, status, line.as_bytes()),
-        Err(_) => Status::Memory,
-    }
-}
-
-/// Refuses a line of an image.
-fn refuse_line<S: Sink>(alloc: Global, sink: &mut S, number: u32) -> Status
-    ensures { WritesOrNot Status.Image (image_line number) (S.written sink.old) (S.written sink.new) (S.faults sink.old) (S.faults sink.new) result }
-{
-    match format!(in alloc; "refused Image {number}\n") {
-        Ok(line) => finish(sink, Status::Image, line.as_bytes()),
-        Err(_) => Status::Memory,
-    }
-}
-
-/// Runs the image whose text a file has.
-fn run_file<S: Sink>(alloc: Global, file: &[u8], cycles: u32, sink: &mut S) -> Status
-    requires { length file.now ≤ 1048576 }
-    ensures { FileOutcome file.now cycles (S.written sink.old) (S.written sink.new) (S.faults sink.old) (S.faults sink.new) result }
-{
-    match read_image(alloc, file) {
-        Err(TextErr::At(number)) => refuse_line(alloc, sink, number),
-        Err(TextErr::Memory) => Status::Memory,
-        Ok(image) => {
-            match first_unbuilt(alloc, file) {
-                Err(_) => Status::Memory,
-                Ok(Some(number)) => refuse_line(alloc, sink, number),
-                Ok(None) => run_image(alloc, &image, cycles, sink),
-            }
+    match (command, values) {
+        (Command::RunImage, [Value::Image(image), Value::Number(cycles)]) => {
+            run_image(alloc, image, *cycles, sink)
         }
-    }
-}
-
-/// Runs the image of this name.
-fn run_command<F: Shelf, S: Sink>(
-    alloc: Global,
-    image: &str,
-    cycles: u32,
-    shelf: &mut F,
-    sink: &mut S,
-) -> Status
-    ensures { CommandOutcome image.now cycles (told_file (F.files shelf.old) image.now) (F.faults shelf.old) (F.faults shelf.new) (S.written sink.old) (S.written sink.new) (S.faults sink.old) (S.faults sink.new) result }
-{
-    match read_all(alloc, shelf, image) {
-        Ok(file) => run_file(alloc, file.as_slice(), cycles, sink),
-        Err(ReadErr::Fault) => refuse_file(alloc, sink, Status::ReadFault, "ReadFault", image),
-        Err(ReadErr::TooLong) => refuse_file(alloc, sink, Status::TooLong, "TooLong", image),
-        Err(ReadErr::Memory) => Status::Memory,
+        (Command::Certify, [Value::Report]) => finish(sink, Status::Ok, b"yes\n"),
+        _ => unreachable!(),
     }
 }
 
@@ -92,19 +44,24 @@ fn run_words<F: Shelf, S: Sink>(
     shelf: &mut F,
     sink: &mut S,
 ) -> Status
-    ensures { OutcomeOf (command_of (bytes_of words.now)) (F.files shelf.old) (F.faults shelf.old) (F.faults shelf.new) (S.written sink.old) (S.written sink.new) (S.faults sink.old) (S.faults sink.new) result }
+    ensures { Outcome (F.files shelf.old) (RoseIn (F.faults shelf.old) (F.faults shelf.new)) (bytes_of words.now) (S.written sink.old) (S.written sink.new) (S.faults sink.old) (S.faults sink.new) result }
 {
-    match parse(words) {
-        None => finish(sink, Status::Usage, b"refused Usage\n"),
-        Some(run) => run_command(alloc, run.image, run.cycles, shelf, sink),
+    let Some(command) = command_of(words) else {
+        return finish(sink, Status::Usage, b"refused Usage\n");
+    };
+    match read_words(alloc, command.slots(), &words[1..], shelf) {
+        Ok(values) => answer(alloc, command, values.as_slice(), sink),
+        Err(Refusal::Line(status, line)) => finish(sink, status, line.as_bytes()),
+        Err(Refusal::Memory) => Status::Memory,
     }
 }
 
 /// Runs the command of these words over a shelf of files and writes its output to the sink.
 ///
 /// `run IMAGE CYCLES` writes the trace and the state of a run on the core of three stages: at most 200,000 cycles over an
-/// image of at most 1,048,576 bytes and 65,536 words. A refusal writes its one line alone; want of memory writes nothing,
-/// and comes before the first cycle.
+/// image of at most 1,048,576 bytes and 65,536 words. `certify REPORT` writes `yes` where the check of a report finds no
+/// fault. The files are read whole and judged one after another, in the order of the words. A refusal writes its one line
+/// alone; want of memory writes nothing, and comes before the first cycle.
 pub fn run_tool<F: Shelf, S: Sink>(
     alloc: Global,
     words: &[String],
@@ -116,29 +73,43 @@ pub fn run_tool<F: Shelf, S: Sink>(
     ensures headline { result ≡ Status.Ok → told_of (F.files shelf.old) (bytes_of words.now) ≢ None
         → RunAnswer (bytes_of words.now) (told_of (F.files shelf.old) (bytes_of words.now)) (S.written sink.old) (S.written sink.new) }
 
+    // A yes shows of each behaviour of the report that its times are legal and cheapest, or that there are none.
+    ensures certified { result ≡ Status.Ok → (report : List ℕ) → report_of (bytes_of words.now) ≡ Some report
+        → CertifiedAnswer (F.files shelf.old) report (S.written sink.old) (S.written sink.new) }
+
+    // For every command: the status and the bytes that were written are due, by the words and the bytes of the files. Of a
+    // file of which nothing is told, they are some bytes of at most the greatest length.
+    ensures outcome { Outcome (F.files shelf.old) (RoseIn (F.faults shelf.old) (F.faults shelf.new)) (bytes_of words.now)
+        (S.written sink.old) (S.written sink.new) (S.faults sink.old) (S.faults sink.new) result }
+    ensures ok { result ≡ Status.Ok
+        → OutputAnswer (F.files shelf.old) (bytes_of words.now) (S.written sink.old) (S.written sink.new) }
+
     // Each answer other than Ok has its cause.
     ensures usage { result ≡ Status.Usage → UsageAnswer (bytes_of words.now) (S.written sink.old) (S.written sink.new) }
     ensures read_fault { result ≡ Status.ReadFault
-        → ReadFaultAnswer (bytes_of words.now) (F.faults shelf.old) (F.faults shelf.new) (S.written sink.old) (S.written sink.new) }
+        → ReadFaultAnswer (F.files shelf.old) (bytes_of words.now) (F.faults shelf.old) (F.faults shelf.new) (S.written sink.old) (S.written sink.new) }
     ensures write_fault { result ≡ Status.WriteFault
-        → WriteFaultAnswer (bytes_of words.now) (told_of (F.files shelf.old) (bytes_of words.now)) (F.faults shelf.old) (F.faults shelf.new)
+        → WriteFaultAnswer (F.files shelf.old) (bytes_of words.now) (F.faults shelf.old) (F.faults shelf.new)
         (S.written sink.old) (S.written sink.new) (S.faults sink.old) (S.faults sink.new) }
     ensures too_long { result ≡ Status.TooLong
-        → TooLongAnswer (bytes_of words.now) (told_of (F.files shelf.old) (bytes_of words.now)) (S.written sink.old) (S.written sink.new) }
-    ensures image { result ≡ Status.Image → told_of (F.files shelf.old) (bytes_of words.now) ≢ None
-        → ImageAnswer (bytes_of words.now) (told_of (F.files shelf.old) (bytes_of words.now)) (S.written sink.old) (S.written sink.new) }
+        → TooLongAnswer (F.files shelf.old) (bytes_of words.now) (S.written sink.old) (S.written sink.new) }
+    ensures image { result ≡ Status.Image
+        → TextAnswer (F.files shelf.old) (bytes_of words.now) image_kind (S.written sink.old) (S.written sink.new) }
+    ensures certificate { result ≡ Status.Certificate
+        → TextAnswer (F.files shelf.old) (bytes_of words.now) report_kind (S.written sink.old) (S.written sink.new) }
     ensures memory { result ≡ Status.Memory → S.written sink.new ≡ S.written sink.old }
     ensures built { IsBuiltAnswer result }
 
-    // What is due is answered, but for faults and want of memory; a refusal of the words yields to neither memory nor files.
-    ensures due { (status : Status) (bytes : List ℕ) → IsDue (bytes_of words.now) (told_of (F.files shelf.old) (bytes_of words.now)) status bytes
-        → IsStatusOr status result }
-    ensures no_command { command_of (bytes_of words.now) ≡ None → (result ≡ Status.Usage) ⊎ (result ≡ Status.WriteFault) }
+    // What is due of told files is answered, but for faults and want of memory; a refusal of the words yields to neither
+    // memory nor files.
+    ensures due { (status : Status) (bytes : List ℕ) → F.files shelf.old ≢ None
+        → IsDue (F.files shelf.old) NoneRises (bytes_of words.now) status bytes → IsStatusOr status result }
+    ensures no_command { specified_command_of (bytes_of words.now) ≡ None → (result ≡ Status.Usage) ⊎ (result ≡ Status.WriteFault) }
 
-    // The command is complete.
-    ensures complete { RunPremises (bytes_of words.now) (told_of (F.files shelf.old) (bytes_of words.now)) (F.faults shelf.old) (F.faults shelf.new)
-        (S.faults sink.old) (S.faults sink.new)
-        → RunsOrNot (bytes_of words.now) (told_of (F.files shelf.old) (bytes_of words.now)) (S.written sink.old) (S.written sink.new) result }
+    // Each command is complete.
+    ensures complete { (command : TheCommand) (values : List ReadValue)
+        → Premises (F.files shelf.old) (bytes_of words.now) (F.faults shelf.old) (F.faults shelf.new) (S.faults sink.old) (S.faults sink.new) command values
+        → Completes command values (S.written sink.old) (S.written sink.new) result }
 {
     run_words(alloc, words, shelf, sink)
 }

@@ -1,5 +1,7 @@
-//! Tests of `ix_solve`.
+//! Tests of `ix_solve` and `ix_cert`.
 #![tactic(auto)]
 
+#[cfg(test)]
+mod certifying;
 #[cfg(test)]
 mod solving;

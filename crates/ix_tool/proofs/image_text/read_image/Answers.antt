@@ -5,7 +5,7 @@ use Rattle.ix_tool.specs.ImageText.{lines_of, line_of, words_in, with_word}
 use Rattle.ix_tool.proofs.Results.{on_ok}
 use Rattle.ix_tool.proofs.ImageLemmas.{line_at, number_fits, bad_line, good_next, words_next}
 use Rattle.ix_tool.proofs.image_text.read_image.Goals as goal
-use Rattle.ix_tool.proofs.image_text.read_image.Goals.{in-Skipped, in-Word+else-len-eq65536+else-is_err}
+use Rattle.ix_tool.proofs.image_text.read_image.Goals.{in-Skipped, in-Word+else-len-eq-MOST+else-is_err}
 
 abbrev none_line : Bor (List ℕ)
 none_line = record { ref_ptr = (0, 0); now = [] }
@@ -22,11 +22,11 @@ overflow_cast-result-in-Bad c =
     let few = number_fits c.args.bytes.now c.loop-i.i (get_or c.deref-line-items.result.now c.loop-i.i none_line).now c.requires at (λ e. cc (c.in-Bad.ensures, e)) in
     omega (arith, few)
 
-pub returns-then-len-eq65536-clause-refused : goal.returns-then-len-eq65536-clause-refused
-returns-then-len-eq65536-clause-refused c =
+pub returns-then-len-eq-MOST-clause-refused : goal.returns-then-len-eq-MOST-clause-refused
+returns-then-len-eq-MOST-clause-refused c =
     let at = line_at c.deref-line-items.result.now (lines_of c.args.bytes.now) c.loop-i.i none_line c.loop-i.invariant.lines_are (omega (arith, c.loop-i-test.true, c.loop-i.auto.i-end)) in
     bad_line c.args.bytes.now c.loop-i.image c.loop-i.i (c.loop-i.i + 1) (get_or c.deref-line-items.result.now c.loop-i.i none_line).now at refl c.loop-i.invariant.good c.loop-i.invariant.words c.loop-i.invariant.few
-    (inr (c.in-Word.word, sym c.in-Word.ensures, omega (arith, c.len.ensures.value, c.if-len-eq65536.true)))
+    (inr (c.in-Word.word, sym c.in-Word.ensures, omega (arith, c.len.ensures.value, c.if-len-eq-MOST.true)))
 
 pub returns-in-Bad-clause-refused : goal.returns-in-Bad-clause-refused
 returns-in-Bad-clause-refused c =
@@ -50,7 +50,7 @@ loop-i-preserved c =
             ∙ sym (words_next (lines_of c.args.bytes.now) c.loop-i.i (get_or c.deref-line-items.result.now c.loop-i.i none_line).now at);
         few = omega (arith, ap length w.image-is, c.loop-i.invariant.few);
       }
-      | in-Word+else-len-eq65536+else-is_err w ↦
+      | in-Word+else-len-eq-MOST+else-is_err w ↦
           let pushed = w.image-is ∙ on_ok w.push.result w.push.ensures.ok w.if-is_err.ensures.negation in
           record {
             lines_are = c.loop-i.invariant.lines_are;
@@ -59,6 +59,6 @@ loop-i-preserved c =
                 ∙ ap (λ l. l ++ w.in-Word.word ∷ []) c.loop-i.invariant.words
                 ∙ ap (λ k. words_in (take c.loop-i.i (lines_of c.args.bytes.now)) ++ with_word k []) w.in-Word.ensures
                 ∙ sym (words_next (lines_of c.args.bytes.now) c.loop-i.i (get_or c.deref-line-items.result.now c.loop-i.i none_line).now at);
-            few = let l = ap length pushed ∙ length-append c.loop-i.image (w.in-Word.word ∷ []) in omega (arith, l, c.loop-i.invariant.few, w.len.ensures.value, w.if-len-eq65536.false);
+            few = let l = ap length pushed ∙ length-append c.loop-i.image (w.in-Word.word ∷ []) in omega (arith, l, c.loop-i.invariant.few, w.len.ensures.value, w.if-len-eq-MOST.false);
           }
     ]

@@ -1,7 +1,22 @@
-use Rattle.std.proofs.Common.{subst, sym}
-use Rattle.ix_tool.specs.CommandOutput.{OutcomeOf}
+use Rattle.std.proofs.Common.{◌∙◌, ◌-◌, sym, subst, length, take, drop}
+use Rattle.std.specs.Prelude.{string_bytes}
+use Rattle.ix_tool.specs.CommandLine.{bytes_of}
+use Rattle.ix_tool.specs.CommandOutput.{Answered, RoseIn}
+use Rattle.ix_tool.proofs.Outcomes.{none_of, rest_of, usage_outcome, answered_outcome, refused_outcome}
 use Rattle.ix_tool.proofs.tool.run_words.Goals as goal
 
-pub returns-in-Some : goal.returns-in-Some
-returns-in-Some g c =
-    subst (λ o. OutcomeOf o (g.F.Shelf.files c.args.shelf.now) (g.F.Shelf.faults c.args.shelf.now) (g.F.Shelf.faults c.run_command.new.shelf) (g.S.Sink.written c.args.sink.now) (g.S.Sink.written c.run_command.new.sink) (g.S.Sink.faults c.args.sink.now) (g.S.Sink.faults c.run_command.new.sink) c.run_command.result) (sym c.in-Some.ensures) c.run_command.ensures
+pub returns-in_default : goal.returns-in_default
+returns-in_default g c =
+    usage_outcome (g.F.Shelf.files c.args.shelf.now) (RoseIn (g.F.Shelf.faults c.args.shelf.now) (g.F.Shelf.faults c.args.shelf.now)) (bytes_of c.args.words.now) (g.S.Sink.written c.args.sink.now) (g.S.Sink.written c.finish.new.sink) (g.S.Sink.faults c.args.sink.now) (g.S.Sink.faults c.finish.new.sink) c.finish.result
+    (sym c.command_of.ensures ∙ none_of c.command_of.result c.in_default.not-Some) c.finish.ensures
+
+pub returns-in-Ok : goal.returns-in-Ok
+returns-in-Ok g c =
+    answered_outcome (g.F.Shelf.files c.args.shelf.now) (RoseIn (g.F.Shelf.faults c.args.shelf.now) (g.F.Shelf.faults c.read_words.new.shelf)) (bytes_of c.args.words.now) (bytes_of (take (length c.args.words.now - 1) (drop 1 c.args.words.now))) c.slots.result.now c.in-Some.command c.in-Ok.values.items (g.S.Sink.written c.args.sink.now) (g.S.Sink.written c.answer.new.sink) (g.S.Sink.faults c.args.sink.now) (g.S.Sink.faults c.answer.new.sink) c.answer.result
+    (sym c.command_of.ensures ∙ c.in-Some.is) c.slots.ensures (rest_of c.args.words.now) c.in-Ok.ensures.read
+    (subst (λ vs. Answered c.in-Some.command vs (g.S.Sink.written c.args.sink.now) (g.S.Sink.written c.answer.new.sink) (g.S.Sink.faults c.args.sink.now) (g.S.Sink.faults c.answer.new.sink) c.answer.result) c.as_slice.ensures.value c.answer.ensures)
+
+pub returns-in-Err-Line : goal.returns-in-Err-Line
+returns-in-Err-Line g c =
+    refused_outcome (g.F.Shelf.files c.args.shelf.now) (RoseIn (g.F.Shelf.faults c.args.shelf.now) (g.F.Shelf.faults c.read_words.new.shelf)) (bytes_of c.args.words.now) (bytes_of (take (length c.args.words.now - 1) (drop 1 c.args.words.now))) c.slots.result.now c.in-Some.command c.in-Err-Line.status (string_bytes c.in-Err-Line.line) c.as_bytes.result.now (g.S.Sink.written c.args.sink.now) (g.S.Sink.written c.finish-in-Err-Line.new.sink) (g.S.Sink.faults c.args.sink.now) (g.S.Sink.faults c.finish-in-Err-Line.new.sink) c.finish-in-Err-Line.result
+    (sym c.command_of.ensures ∙ c.in-Some.is) c.slots.ensures (rest_of c.args.words.now) (rw c.in-Err-Line.field-0-is at c.in-Err-Line.ensures.refused) (rw c.in-Err-Line.field-0-is at c.as_bytes.ensures.value) (rw c.in-Err-Line.field-0-is at c.finish-in-Err-Line.ensures)

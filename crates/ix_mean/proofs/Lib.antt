@@ -1,0 +1,13 @@
+pub mod Same
+pub mod InRange
+pub mod Making
+pub mod Expressions
+pub mod Merging
+pub mod Running
+pub mod Evaluating
+pub mod Entries
+pub mod Executing
+pub mod Effecting
+pub mod Fields
+pub mod Resolvings
+pub mod Steps

@@ -1,0 +1,11 @@
+pub mod Core
+pub mod Meaning
+pub mod Terms
+pub mod Typing
+pub mod View
+pub mod Given
+pub mod Effects
+pub mod ByName
+pub mod Resolving
+pub mod EffectByName
+pub mod ResolvingStatements

@@ -1,0 +1,10 @@
+//! The meaning of behaviours.
+#![tactic(auto)]
+
+mod evaluate;
+mod laws;
+mod resolved;
+
+pub use evaluate::{State, Written, execute, holds, number, one, two};
+pub use laws::{effect_laws, resolving_law};
+pub use resolved::{ResolvedExpr, ResolvedStmt, Types, Writing};

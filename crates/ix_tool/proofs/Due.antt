@@ -1,0 +1,185 @@
+-- What is due is one thing: at most one status for told files, but for faults of reading.
+use Rattle.std.proofs.Common.{◌≡◌, ◌≢◌, ℕ, ◌<◌, List, [], ◌∷◌, length, Option, Some, None, refl, ap, sym, ◌∙◌, subst, arith, ◌⊎◌, inl, inr}
+use Rattle.std.specs.Prelude.{IfSome, unwrap_or}
+use Rattle.ix_io.specs.Limits.{most_bytes}
+use Rattle.ix_io.specs.Shelf.{NamedFiles, told_file, file_named}
+use Rattle.ix_cert.proofs.Verdicts.{faultless_not_refused}
+use Rattle.ix_tool.specs.declared.status.Status.{Status}
+use Rattle.ix_tool.specs.declared.status.Status.TheVariants.{Usage, ReadFault}
+use Rattle.ix_tool.specs.declared.command.Command.{Command}
+use Rattle.ix_tool.specs.declared.command.FileKind.{FileKind}
+use Rattle.ix_tool.specs.declared.command.FileKind.TheVariants.{Image, Report}
+use Rattle.ix_tool.specs.declared.command.Slot.{Slot}
+use Rattle.ix_tool.specs.declared.command.Slot.TheVariants.{Number, File}
+use Rattle.ix_tool.specs.declared.value.Value.{Value}
+use Rattle.ix_tool.specs.declared.value.Value.TheVariants as value
+use Rattle.ix_tool.specs.ImageText.{IsImageText, AllBuilt}
+use Rattle.ix_tool.specs.CommandLine.{command_of, slots_of, behind, number_within}
+use Rattle.ix_tool.specs.CommandOutput.{IsRefusedImage, bad_line, unbuilt_line, IsRefusedText, IsReadAs, IsFile, IsRead, AreRead, IsRefusedFile, not_read, too_long, bad_text, IsFirstRefused, IsOwnRefusal, IsAnswer, IsDue, due_usage, due_file, due_answer, NoneRises, NoFileRises}
+use Rattle.ix_tool.proofs.ImageLemmas.{image_not_refused, built_not_refused}
+
+-- no value is some and none; one value is some of one thing
+pub both : {A : Type 0} (o : Option A) (a : A) → o ≡ Some a → o ≡ None → ⊥
+both o a s n = grind (arith, s, n)
+
+pub one : {A : Type 0} (o : Option A) (a b : A) → o ≡ Some a → o ≡ Some b → a ≡ b
+one o a b s t = grind (arith, s, t)
+
+-- ---- a text is read as one value, or refused
+image_apart : (bytes image : List ℕ) (number : ℕ) → IsImageText bytes image → AllBuilt image → IsRefusedImage bytes number → ⊥
+image_apart bytes image _ t b (bad_line number bad) = image_not_refused bytes image number t bad
+image_apart bytes image _ t b (unbuilt_line other number u bad) = built_not_refused bytes image number t.words_are b bad
+
+text_apart : (kind : FileKind) (bytes line : List ℕ) (v : Value) → IsReadAs kind bytes v → IsRefusedText kind bytes line → ⊥
+text_apart Image bytes line (value.Image image) r bad = image_apart bytes image bad.0 r.0 r.1 bad.1
+text_apart Image bytes line (value.Number n) r bad = r
+text_apart Image bytes line value.Report r bad = r
+text_apart Report bytes line value.Report r bad = faultless_not_refused bytes bad.0 r bad.1
+text_apart Report bytes line (value.Image image) r bad = r
+text_apart Report bytes line (value.Number n) r bad = r
+
+text_one : (kind : FileKind) (bytes : List ℕ) (v u : Value) → IsReadAs kind bytes v → IsReadAs kind bytes u → v ≡ u
+text_one Image bytes (value.Image i) (value.Image j) r s = ap (λ x. value.Image x) (r.0.words_are ∙ sym s.0.words_are)
+text_one Image bytes (value.Image i) (value.Number n) r s = absurd s
+text_one Image bytes (value.Image i) value.Report r s = absurd s
+text_one Image bytes (value.Number n) u r s = absurd r
+text_one Image bytes value.Report u r s = absurd r
+text_one Report bytes value.Report value.Report r s = refl
+text_one Report bytes value.Report (value.Image i) r s = absurd s
+text_one Report bytes value.Report (value.Number n) r s = absurd s
+text_one Report bytes (value.Number n) u r s = absurd r
+text_one Report bytes (value.Image i) u r s = absurd r
+
+-- ---- a told file has one text
+same_file : (files : Option NamedFiles) (name a b : List ℕ) → files ≢ None → IsFile files name a → IsFile files name b → a ≡ b
+same_file None name a b told f g = absurd (told refl)
+same_file (Some files) name a b told f g = f.told ∙ sym g.told
+
+not_long : (files : Option NamedFiles) (name a : List ℕ) → files ≢ None → IsFile files name a → IfSome (told_file files name) (λ file. most_bytes < length file) → ⊥
+not_long None name a told f long = told refl
+not_long (Some files) name a told f long =
+    let within = f.within in
+    let same : a ≡ unwrap_or (file_named files name) [] = f.told in
+    let l : most_bytes < length a = subst (λ x. most_bytes < length x) (sym same) long in
+    omega (arith, within, l)
+
+one_number : (most : ℕ) (word : List ℕ) (v u : Value) → ((n : ℕ) × (number_within most word ≡ Some n) × (v ≡ value.Number n)) → ((n : ℕ) × (number_within most word ≡ Some n) × (u ≡ value.Number n)) → v ≡ u
+one_number most word v u r s = r.2 ∙ ap (λ n. value.Number n) (one (number_within most word) r.0 s.0 r.1 s.1) ∙ sym s.2
+
+read_one : (files : Option NamedFiles) (slot : Slot) (word : List ℕ) (v u : Value) → files ≢ None → IsRead files slot word v → IsRead files slot word u → v ≡ u
+read_one files (Number most) word v u told r s = one_number most word v u r s
+read_one files (File kind) word v u told r s =
+    text_one kind s.0 v u (subst (λ b. IsReadAs kind b v) (same_file files word r.0 s.0 told r.1 s.1) r.2) s.2
+
+pub all_one : (files : Option NamedFiles) (slots : List Slot) (words : List (List ℕ)) (vs us : List Value) → files ≢ None → AreRead files slots words vs → AreRead files slots words us → vs ≡ us
+all_one files [] [] [] [] told r s = refl
+all_one files [] [] [] (u ∷ us) told r s = absurd s
+all_one files [] [] (v ∷ vs) us told r s = absurd r
+all_one files [] (word ∷ words) vs us told r s = absurd r
+all_one files (slot ∷ slots) [] vs us told r s = absurd r
+all_one files (slot ∷ slots) (word ∷ words) [] us told r s = absurd r
+all_one files (slot ∷ slots) (word ∷ words) (v ∷ vs) [] told r s = absurd s
+all_one files (slot ∷ slots) (word ∷ words) (v ∷ vs) (u ∷ us) told r s =
+    ap (λ x. x ∷ vs) (read_one files slot word v u told r.0 s.0) ∙ ap (λ xs. u ∷ xs) (all_one files slots words vs us told r.1 s.1)
+
+-- ---- a file that is read is refused for a fault alone
+only_fault : (files : Option NamedFiles) (R : List ℕ → Type 0) (kind : FileKind) (name : List ℕ) (v : Value) (status : Status) (line : List ℕ) → files ≢ None → IsRead files (File kind) name v → IsRefusedFile files R kind name status line → R name × (status ≡ ReadFault)
+only_fault files R kind name v _ _ told r (not_read rose) = (rose, refl)
+only_fault files R kind name v _ _ told r (too_long long) = absurd (not_long files name r.0 told r.1 long)
+only_fault files R kind name v _ _ told r (bad_text bytes line file bad) =
+    absurd (text_apart kind bytes line v (subst (λ b. IsReadAs kind b v) (same_file files name r.0 bytes told r.1 file) r.2) bad)
+
+-- two refusals of a file have one status, or the first is a fault
+two_refusals : (files : Option NamedFiles) (R : List ℕ → Type 0) (kind : FileKind) (name : List ℕ) (s t : Status) (a b : List ℕ) → files ≢ None → IsRefusedFile files R kind name s a → IsRefusedFile files NoneRises kind name t b → (s ≡ t) ⊎ (s ≡ ReadFault)
+two_refusals files R kind name _ _ _ _ told (not_read rose) g = inr refl
+two_refusals files R kind name _ _ _ _ told (too_long long) (not_read rose) = absurd rose
+two_refusals files R kind name _ _ _ _ told (too_long long) (too_long other) = inl refl
+two_refusals files R kind name _ _ _ _ told (too_long long) (bad_text bytes line file bad) = absurd (not_long files name bytes told file long)
+two_refusals files R kind name _ _ _ _ told (bad_text bytes line file bad) (not_read rose) = absurd rose
+two_refusals files R kind name _ _ _ _ told (bad_text bytes line file bad) (too_long long) = absurd (not_long files name bytes told file long)
+two_refusals files R kind name _ _ _ _ told (bad_text bytes line file bad) (bad_text texts other again worse) = inl refl
+
+-- ---- the same of all words
+first_two : (files : Option NamedFiles) (R : List ℕ → Type 0) (slots : List Slot) (words : List (List ℕ)) (s t : Status) (a b : List ℕ) → files ≢ None → IsFirstRefused files R slots words s a → IsFirstRefused files NoneRises slots words t b → (s ≡ t) ⊎ (s ≡ ReadFault)
+first_two files R [] words s t a b told f g = absurd f
+first_two files R (Number most ∷ slots) [] s t a b told f g = absurd f
+first_two files R (File kind ∷ slots) [] s t a b told f g = absurd f
+first_two files R (Number most ∷ slots) (word ∷ words) s t a b told f g = first_two files R slots words s t a b told f g
+first_two files R (File kind ∷ slots) (word ∷ words) s t a b told (inl f) (inl g) = two_refusals files R kind word s t a b told f g
+first_two files R (File kind ∷ slots) (word ∷ words) s t a b told (inl f) (inr g) = inr (only_fault files R kind word g.0 s a told g.1 f).1
+first_two files R (File kind ∷ slots) (word ∷ words) s t a b told (inr f) (inl g) = absurd (only_fault files NoneRises kind word f.0 t b told f.1 g).0
+first_two files R (File kind ∷ slots) (word ∷ words) s t a b told (inr f) (inr g) = first_two files R slots words s t a b told f.2 g.2
+
+first_fault : (files : Option NamedFiles) (R : List ℕ → Type 0) (slots : List Slot) (words : List (List ℕ)) (vs : List Value) (s : Status) (a : List ℕ) → files ≢ None → IsFirstRefused files R slots words s a → AreRead files slots words vs → s ≡ ReadFault
+first_fault files R [] words vs s a told f r = absurd f
+first_fault files R (Number most ∷ slots) [] vs s a told f r = absurd f
+first_fault files R (File kind ∷ slots) [] vs s a told f r = absurd f
+first_fault files R (slot ∷ slots) (word ∷ words) [] s a told f r = absurd r
+first_fault files R (Number most ∷ slots) (word ∷ words) (v ∷ vs) s a told f r = first_fault files R slots words vs s a told f r.1
+first_fault files R (File kind ∷ slots) (word ∷ words) (v ∷ vs) s a told (inl f) r = (only_fault files R kind word v s a told r.0 f).1
+first_fault files R (File kind ∷ slots) (word ∷ words) (v ∷ vs) s a told (inr f) r = first_fault files R slots words vs s a told f.2 r.1
+
+-- where no count rises, words that are read are not refused
+pub not_refused : (files : Option NamedFiles) (R : List ℕ → Type 0) (slots : List Slot) (words : List (List ℕ)) (vs : List Value) (s : Status) (a : List ℕ) → files ≢ None → NoFileRises R slots words → IsFirstRefused files R slots words s a → AreRead files slots words vs → ⊥
+not_refused files R [] words vs s a told none f r = f
+not_refused files R (Number most ∷ slots) [] vs s a told none f r = f
+not_refused files R (File kind ∷ slots) [] vs s a told none f r = f
+not_refused files R (slot ∷ slots) (word ∷ words) [] s a told none f r = r
+not_refused files R (Number most ∷ slots) (word ∷ words) (v ∷ vs) s a told none f r = not_refused files R slots words vs s a told none f r.1
+not_refused files R (File kind ∷ slots) (word ∷ words) (v ∷ vs) s a told none (inl f) r = none.0 (only_fault files R kind word v s a told r.0 f).0
+not_refused files R (File kind ∷ slots) (word ∷ words) (v ∷ vs) s a told none (inr f) r = not_refused files R slots words vs s a told none.1 f.2 r.1
+
+none_rises : (slots : List Slot) (words : List (List ℕ)) → NoFileRises NoneRises slots words
+none_rises [] words = tt
+none_rises (Number most ∷ slots) [] = tt
+none_rises (File kind ∷ slots) [] = tt
+none_rises (Number most ∷ slots) (word ∷ words) = none_rises slots words
+none_rises (File kind ∷ slots) (word ∷ words) = (λ rose. rose, none_rises slots words)
+
+-- ---- a command's own refusals, of which there are none yet
+-- their statuses, by what is so of each
+pub own_status : (P : Status → Type 0) (command : Command) (vs : List Value) (status : Status) (line : List ℕ) → IsOwnRefusal command vs status line → P status
+own_status P command vs status line own = absurd own
+
+-- a command answers its values with one status
+answer_one : (command : Command) (vs : List Value) (s t : Status) (a b : List ℕ) → IsAnswer command vs s a → IsAnswer command vs t b → s ≡ t
+answer_one command vs s t a b (inl own) other = absurd own
+answer_one command vs s t a b (inr out) (inl own) = absurd own
+answer_one command vs s t a b (inr out) (inr other) = out.0 ∙ sym other.0
+
+-- ---- what is due to a command: a refusal of a file, or its answer
+abbrev pub IsCommanded : Option NamedFiles → (List ℕ → Type 0) → List (List ℕ) → Command → Status → List ℕ → Type 0
+IsCommanded files R words command status bytes =
+    IsFirstRefused files R (slots_of command) (behind words) status bytes
+    ⊎ ((vs : List Value) × AreRead files (slots_of command) (behind words) vs × IsAnswer command vs status bytes)
+
+pub commanded : (files : Option NamedFiles) (R : List ℕ → Type 0) (words : List (List ℕ)) (command : Command) (status : Status) (bytes : List ℕ) → command_of words ≡ Some command → IsDue files R words status bytes → IsCommanded files R words command status bytes
+commanded files R words command _ _ e (due_usage none) = absurd (both (command_of words) command e none)
+commanded files R words command _ _ e (due_file other status line is first) =
+    inl (subst (λ c. IsFirstRefused files R (slots_of c) (behind words) status line) (one (command_of words) other command is e) first)
+commanded files R words command _ _ e (due_answer other vs status bytes is read answer) =
+    subst (λ c. IsCommanded files R words c status bytes) (one (command_of words) other command is e) (inr (vs, read, answer))
+
+-- ---- one status is due
+due_commanded : (files : Option NamedFiles) (R : List ℕ → Type 0) (words : List (List ℕ)) (command : Command) (s t : Status) (a b : List ℕ) → files ≢ None → IsCommanded files R words command s a → IsCommanded files NoneRises words command t b → (s ≡ t) ⊎ (s ≡ ReadFault)
+due_commanded files R words command s t a b told (inl f) (inl g) = first_two files R (slots_of command) (behind words) s t a b told f g
+due_commanded files R words command s t a b told (inl f) (inr g) = inr (first_fault files R (slots_of command) (behind words) g.0 s a told f g.1)
+due_commanded files R words command s t a b told (inr f) (inl g) =
+    absurd (not_refused files NoneRises (slots_of command) (behind words) f.0 t b told (none_rises (slots_of command) (behind words)) g f.1)
+due_commanded files R words command s t a b told (inr f) (inr g) =
+    inl (answer_one command g.0 s t a b (subst (λ vs. IsAnswer command vs s a) (all_one files (slots_of command) (behind words) f.0 g.0 told f.1 g.1) f.2) g.2)
+
+command_or_none : (o : Option Command) → (o ≡ None) ⊎ ((command : Command) × (o ≡ Some command))
+command_or_none None = inl refl
+command_or_none (Some command) = inr (command, refl)
+
+pub usage_alone : (files : Option NamedFiles) (R : List ℕ → Type 0) (words : List (List ℕ)) (s : Status) (a : List ℕ) → command_of words ≡ None → IsDue files R words s a → s ≡ Usage
+usage_alone files R words _ _ none (due_usage e) = refl
+usage_alone files R words _ _ none (due_file command status line is first) = absurd (both (command_of words) command is none)
+usage_alone files R words _ _ none (due_answer command vs status bytes is read answer) = absurd (both (command_of words) command is none)
+
+pub due_one : (files : Option NamedFiles) (R : List ℕ → Type 0) (words : List (List ℕ)) (s t : Status) (a b : List ℕ) → files ≢ None → IsDue files R words s a → IsDue files NoneRises words t b → (s ≡ t) ⊎ (s ≡ ReadFault)
+due_one files R words s t a b told d e = elim (command_or_none (command_of words)) [
+  | inl none ↦ inl (usage_alone files R words s a none d ∙ sym (usage_alone files NoneRises words t b none e))
+  | inr some ↦ due_commanded files R words some.0 s t a b told (commanded files R words some.0 s a some.1 d) (commanded files NoneRises words some.0 t b some.1 e)
+]

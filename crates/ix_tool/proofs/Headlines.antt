@@ -1,0 +1,183 @@
+-- What an output shows: of a run the headline, of a yes that the report is certified.
+use Rattle.std.proofs.Common.{◌≡◌, ◌≢◌, ℕ, ◌<◌, ◌≤◌, ◌^◌, List, [], ◌∷◌, length, Option, Some, None, Bool, true, false, refl, ap, sym, ◌∙◌, subst, arith}
+use Rattle.std.specs.Prelude.{codes, if◌then◌else◌}
+use Rattle.std.specs.Str.{bytes_eq}
+use Rattle.std.proofs.lemmas.Bool.{and_parts, true≢false}
+use Rattle.ix_io.specs.Shelf.{NamedFiles, told_file}
+use Rattle.ix_io.specs.Sink.{Appends}
+use Rattle.ix_cert.specs.Certificates.{IsFaultless}
+use Rattle.ix_cert.proofs.Verdicts.{faultless_certified}
+use Rattle.ix_tool.specs.declared.command.Command.{Command}
+use Rattle.ix_tool.specs.declared.command.Command.TheVariants.{RunImage, Certify}
+use Rattle.ix_tool.specs.declared.command.FileKind.TheVariants.{Image, Report}
+use Rattle.ix_tool.specs.declared.value.Value.{Value}
+use Rattle.ix_tool.specs.declared.value.Value.TheVariants as value
+use Rattle.ix_tool.specs.ImageText.{IsImageText, AllBuilt}
+use Rattle.ix_tool.specs.CommandLine.{command_of, commands, first_command, is_command, slots_of, fits_slots, behind, number_within, run_of, run_command, report_of}
+use Rattle.ix_tool.specs.CommandOutput.{IsReadAs, IsFile, AreRead, IsOutput, Takes, OutputAnswer, RunAnswer, CertifiedAnswer, image_of_run, told_of}
+use Rattle.ix_tool.proofs.Due.{both, one}
+
+-- ---- the words of a command
+found_at : (c : Command) (rest : List Command) (words : List (List ℕ)) (command : Command) (b : Bool) → is_command c words ≡ b → (if b then Some c else first_command rest words) ≡ Some command → (first_command rest words ≡ Some command → is_command command words ≡ true) → is_command command words ≡ true
+found_at c rest words command true is h later = let same : c ≡ command = cc in subst (λ k. is_command k words ≡ true) same is
+found_at c rest words command false is h later = later h
+
+found_in : (list : List Command) (words : List (List ℕ)) (command : Command) → first_command list words ≡ Some command → is_command command words ≡ true
+found_in [] words command e = cc
+found_in (c ∷ rest) words command e = found_at c rest words command (is_command c words) refl e (found_in rest words command)
+
+pub is_of : (words : List (List ℕ)) (command : Command) → command_of words ≡ Some command → is_command command words ≡ true
+is_of words command e = found_in commands words command e
+
+-- there is a first word, and those behind it fit
+pub some_word : (words : List (List ℕ)) (command : Command) → command_of words ≡ Some command → 1 ≤ length words
+some_word [] command e = cc
+some_word (word ∷ rest) command e = omega arith
+
+pub fit_behind : (words : List (List ℕ)) (command : Command) → command_of words ≡ Some command → fits_slots (slots_of command) (behind words) ≡ true
+fit_behind [] command e = cc
+fit_behind (word ∷ rest) command e = (and_parts _ _ (is_of (word ∷ rest) command e)).1
+
+-- ---- what a command takes
+image_of : (bytes : List ℕ) (v : Value) → IsReadAs Image bytes v → (image : List ℕ) × (v ≡ value.Image image) × IsImageText bytes image × AllBuilt image
+image_of bytes (value.Image image) r = (image, refl, r.0, r.1)
+image_of bytes (value.Number n) r = absurd r
+image_of bytes value.Report r = absurd r
+
+report_in : (bytes : List ℕ) (v : Value) → IsReadAs Report bytes v → (v ≡ value.Report) × IsFaultless bytes
+report_in bytes value.Report r = (refl, r)
+report_in bytes (value.Image image) r = absurd r
+report_in bytes (value.Number n) r = absurd r
+
+pub record IsRunRead (files : Option NamedFiles) (rest : List (List ℕ)) (vs : List Value) : Type 0 where
+  pub name : List ℕ
+  pub number : List ℕ
+  pub bytes : List ℕ
+  pub image : List ℕ
+  pub cycles : ℕ
+  pub words : rest ≡ name ∷ number ∷ []
+  pub values : vs ≡ value.Image image ∷ value.Number cycles ∷ []
+  pub file : IsFile files name bytes
+  pub text : IsImageText bytes image
+  pub are_built : AllBuilt image
+  pub within : number_within 200000 number ≡ Some cycles
+
+run_read : (files : Option NamedFiles) (rest : List (List ℕ)) (vs : List Value) → AreRead files (slots_of RunImage) rest vs → IsRunRead files rest vs
+run_read files [] vs h = absurd h
+run_read files (a ∷ rest) [] h = absurd h
+run_read files (a ∷ []) (v ∷ vs) h = absurd h.1
+run_read files (a ∷ b ∷ rest) (v ∷ []) h = absurd h.1
+run_read files (a ∷ b ∷ c ∷ rest) (v ∷ u ∷ vs) h = absurd h.1.1
+run_read files (a ∷ b ∷ []) (v ∷ u ∷ w ∷ vs) h = absurd h.1.1
+run_read files (a ∷ b ∷ []) (v ∷ u ∷ []) h =
+    let i = image_of h.0.0 v h.0.2 in
+    record {
+      name = a;
+      number = b;
+      bytes = h.0.0;
+      image = i.0;
+      cycles = h.1.0.0;
+      words = refl;
+      values = ap (λ x. x ∷ u ∷ []) i.1 ∙ ap (λ y. value.Image i.0 ∷ y ∷ []) h.1.0.2;
+      file = h.0.1;
+      text = i.2;
+      are_built = i.3;
+      within = h.1.0.1;
+    }
+
+pub record IsReportRead (files : Option NamedFiles) (rest : List (List ℕ)) (vs : List Value) : Type 0 where
+  pub name : List ℕ
+  pub bytes : List ℕ
+  pub words : rest ≡ name ∷ []
+  pub values : vs ≡ value.Report ∷ []
+  pub file : IsFile files name bytes
+  pub faultless : IsFaultless bytes
+
+report_read : (files : Option NamedFiles) (rest : List (List ℕ)) (vs : List Value) → AreRead files (slots_of Certify) rest vs → IsReportRead files rest vs
+report_read files [] vs h = absurd h
+report_read files (a ∷ rest) [] h = absurd h
+report_read files (a ∷ b ∷ rest) (v ∷ vs) h = absurd h.1
+report_read files (a ∷ []) (v ∷ u ∷ vs) h = absurd h.1
+report_read files (a ∷ []) (v ∷ []) h =
+    let r = report_in h.0.0 v h.0.2 in
+    record { name = a; bytes = h.0.0; words = refl; values = ap (λ x. x ∷ []) r.0; file = h.0.1; faultless = r.1 }
+
+-- the values of the words are those that the command takes
+pub takes : (files : Option NamedFiles) (command : Command) (rest : List (List ℕ)) (vs : List Value) → AreRead files (slots_of command) rest vs → Takes command vs
+takes files RunImage rest vs h = subst (λ x. Takes RunImage x) (sym (run_read files rest vs h).values) tt
+takes files Certify rest vs h = subst (λ x. Takes Certify x) (sym (report_read files rest vs h).values) tt
+
+-- ---- the headline
+-- the words of a run
+run_words_are : (words : List (List ℕ)) (name number : List ℕ) (cycles : ℕ) → is_command RunImage words ≡ true → behind words ≡ name ∷ number ∷ [] → number_within 200000 number ≡ Some cycles → run_of words ≡ Some (record { image = name; cycles = cycles })
+run_words_are [] name number cycles is e w = absurd (true≢false (sym is))
+run_words_are (word ∷ rest) name number cycles is e w =
+    let first = (and_parts _ _ is).0 in
+    ap (λ r. run_of (word ∷ r)) e ∙ ap (λ n. run_command (bytes_eq word (codes "run")) name n) w ∙ ap (λ b. run_command b name (Some cycles)) first
+
+-- a check is no run
+certify_no_run : (words : List (List ℕ)) (name : List ℕ) → is_command Certify words ≡ true → behind words ≡ name ∷ [] → run_of words ≡ None
+certify_no_run [] name is e = absurd (true≢false (sym is))
+certify_no_run (word ∷ rest) name is e = ap (λ r. run_of (word ∷ r)) e
+
+told_is : (files : Option NamedFiles) (name bytes : List ℕ) → told_file files name ≢ None → IsFile files name bytes → told_file files name ≡ Some bytes
+told_is None name bytes told f = absurd (told refl)
+told_is (Some files) name bytes told f = ap (λ x. Some x) (sym f.told)
+
+headline_of : (files : Option NamedFiles) (words : List (List ℕ)) (before now : Option (List ℕ)) (command : Command) (vs : List Value) (text : List ℕ) → is_command command words ≡ true → AreRead files (slots_of command) (behind words) vs → IsOutput command vs text → Appends before now text
+    → told_of files words ≢ None → RunAnswer words (told_of files words) before now
+headline_of files words before now Certify vs text is read out a told =
+    let r = report_read files (behind words) vs read in
+    absurd (told (ap (λ o. image_of_run files o) (certify_no_run words r.name is r.words)))
+headline_of files words before now RunImage vs text is read out a told =
+    let r = run_read files (behind words) vs read in
+    let run = run_words_are words r.name r.number r.cycles is r.words r.within in
+    let file : told_of files words ≡ told_file files r.name = ap (λ o. image_of_run files o) run in
+    record {
+      command = record { image = r.name; cycles = r.cycles };
+      file = r.bytes;
+      image = r.image;
+      text = text;
+      run = record { command_is = run; file_is = file ∙ told_is files r.name r.bytes (λ e. told (file ∙ e)) r.file; within = r.file.within };
+      read = r.text;
+      built = r.are_built;
+      output = subst (λ x. IsOutput RunImage x text) r.values out;
+      written = a;
+    }
+
+pub headline : (files : Option NamedFiles) (words : List (List ℕ)) (before now : Option (List ℕ)) → OutputAnswer files words before now → told_of files words ≢ None → RunAnswer words (told_of files words) before now
+headline files words before now o told = headline_of files words before now o.command o.vs o.text (is_of words o.command o.command_is) o.read o.output o.written told
+
+-- ---- a report that is certified
+report_words_are : (words : List (List ℕ)) (name report : List ℕ) → is_command Certify words ≡ true → behind words ≡ name ∷ [] → report_of words ≡ Some report → name ≡ report
+report_words_are [] name report is e h = absurd (true≢false (sym is))
+report_words_are (word ∷ rest) name report is e h =
+    let first = (and_parts _ _ is).0 in
+    let named : report_of (word ∷ rest) ≡ Some name = ap (λ r. report_of (word ∷ r)) e ∙ ap (λ b. if b then Some name else None) first in
+    one (report_of (word ∷ rest)) name report named h
+
+-- a run is no check
+run_no_report : (words : List (List ℕ)) (name number report : List ℕ) → is_command RunImage words ≡ true → behind words ≡ name ∷ number ∷ [] → report_of words ≡ Some report → ⊥
+run_no_report [] name number report is e h = true≢false (sym is)
+run_no_report (word ∷ rest) name number report is e h = both (report_of (word ∷ rest)) report h (ap (λ r. report_of (word ∷ r)) e)
+
+certified_of : (files : Option NamedFiles) (words : List (List ℕ)) (before now : Option (List ℕ)) (command : Command) (vs : List Value) (text report : List ℕ) → is_command command words ≡ true → AreRead files (slots_of command) (behind words) vs → IsOutput command vs text → Appends before now text
+    → report_of words ≡ Some report → CertifiedAnswer files report before now
+certified_of files words before now RunImage vs text report is read out a e =
+    let r = run_read files (behind words) vs read in
+    absurd (run_no_report words r.name r.number report is r.words e)
+certified_of files words before now Certify vs text report is read out a e =
+    let r = report_read files (behind words) vs read in
+    let within = r.file.within in
+    let small : length r.bytes < 2 ^ 32 = omega (arith, within) in
+    let yes_text : text ≡ codes "yes\n" = subst (λ x. IsOutput Certify x text) r.values out in
+    record {
+      bytes = r.bytes;
+      file = subst (λ n. IsFile files n r.bytes) (report_words_are words r.name report is r.words e) r.file;
+      faultless = r.faultless;
+      certified = faultless_certified r.bytes small r.faultless;
+      written = subst (λ t. Appends before now t) yes_text a;
+    }
+
+pub certified : (files : Option NamedFiles) (words : List (List ℕ)) (before now : Option (List ℕ)) → OutputAnswer files words before now → (report : List ℕ) → report_of words ≡ Some report → CertifiedAnswer files report before now
+certified files words before now o report e = certified_of files words before now o.command o.vs o.text report (is_of words o.command o.command_is) o.read o.output o.written e

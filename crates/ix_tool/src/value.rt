@@ -1,0 +1,172 @@
+ghost use Rattle.std.specs.Prelude.{◌≡◌, ◌≤◌, ◌++◌, codes, length, true, IfOk, IfErr};
+ghost use Rattle.ix_io.specs.Faults.{NoneFell};
+ghost use Rattle.ix_io.specs.Limits.{most_bytes};
+ghost use Rattle.ix_cert.specs.declared.report.CertErr.TheVariants.{Memory};
+ghost use Rattle.ix_tool.specs.CommandLine.{fits_slot, fits_slots, bytes_of};
+ghost use Rattle.ix_tool.specs.CommandOutput.{image_line, file_line, certificate_line, Refuses, Judged, WordRead, WordsRefused, AreRead, RoseIn};
+ghost use Rattle.ix_tool.specs.declared.command.FileKind.{FileKind as Kind};
+ghost use Rattle.ix_tool.specs.declared.command.FileKind.TheVariants.{Image as image_kind, Report as report_kind};
+
+use crate::command::{FileKind, Slot, number_within};
+use crate::image_text::{TextErr, first_unbuilt, read_image};
+use crate::status::Status;
+use ix_cert::{CertErr, certify};
+use ix_io::{ReadErr, Shelf, read_all};
+use rv_isa::Image;
+use std::alloc::Global;
+
+/// What a word of a command stands for.
+#[derive(Drop)]
+pub enum Value {
+    /// A number.
+    Number(u32),
+    /// The image of a file.
+    Image(Image),
+    /// A report in which no step of the check found a fault.
+    Report,
+}
+
+/// Why a word stands for nothing: the status and the line of the refusal.
+#[derive(Drop)]
+pub enum Refusal {
+    Line(Status, String),
+    /// Memory was not found.
+    Memory,
+}
+
+/// The refusal of a file.
+fn file_refusal(alloc: Global, status: Status, kind: &str, name: &str) -> Refusal
+    ensures { Refuses status (file_line kind.now name.now) result }
+{
+    match format!(in alloc; "refused {kind} {name}\n") {
+        Ok(line) => Refusal::Line(status, line),
+        Err(_) => Refusal::Memory,
+    }
+}
+
+/// The refusal of a line of an image.
+fn image_refusal(alloc: Global, number: u32) -> Refusal
+    ensures { Refuses Status.Image (image_line number) result }
+{
+    match format!(in alloc; "refused Image {number}\n") {
+        Ok(line) => Refusal::Line(Status::Image, line),
+        Err(_) => Refusal::Memory,
+    }
+}
+
+/// The refusal of a report.
+fn report_refusal(alloc: Global, error: CertErr) -> Refusal
+    ensures memory { error ≡ Memory → result ≡ Refusal.Memory }
+    ensures line { Refuses Status.Certificate (certificate_line error) result }
+{
+    if let CertErr::Memory = error {
+        return Refusal::Memory;
+    }
+    let line = error.line();
+    let kind = error.kind();
+    match format!(in alloc; "refused Certificate {line} {kind}\n") {
+        Ok(line) => Refusal::Line(Status::Certificate, line),
+        Err(_) => Refusal::Memory,
+    }
+}
+
+fn judge_image(alloc: Global, bytes: &[u8]) -> Result<Value, Refusal>
+    requires { length bytes.now ≤ most_bytes }
+    ensures { Judged image_kind bytes.now result }
+{
+    match read_image(alloc, bytes) {
+        Err(TextErr::At(number)) => Err(image_refusal(alloc, number)),
+        Err(TextErr::Memory) => Err(Refusal::Memory),
+        Ok(image) => {
+            match first_unbuilt(alloc, bytes) {
+                Err(_) => Err(Refusal::Memory),
+                Ok(Some(number)) => Err(image_refusal(alloc, number)),
+                Ok(None) => Ok(Value::Image(image)),
+            }
+        }
+    }
+}
+
+fn judge_report(alloc: Global, bytes: &[u8]) -> Result<Value, Refusal>
+    requires { length bytes.now ≤ most_bytes }
+    ensures { Judged report_kind bytes.now result }
+{
+    match certify(alloc, bytes) {
+        Ok(()) => Ok(Value::Report),
+        Err(error) => Err(report_refusal(alloc, error)),
+    }
+}
+
+/// What the text of a file is read as, or its refusal.
+fn judge(alloc: Global, kind: FileKind, bytes: &[u8]) -> Result<Value, Refusal>
+    requires { length bytes.now ≤ most_bytes }
+    ensures { Judged kind bytes.now result }
+{
+    match kind {
+        FileKind::Image => judge_image(alloc, bytes),
+        FileKind::Report => judge_report(alloc, bytes),
+    }
+}
+
+/// Reads a file whole and judges it.
+fn read_file<F: Shelf>(
+    alloc: Global,
+    kind: FileKind,
+    name: &str,
+    shelf: &mut F,
+) -> Result<Value, Refusal>
+    ensures read { WordRead (F.files shelf.old) (RoseIn (F.faults shelf.old) (F.faults shelf.new)) (Slot.File kind) name.now result }
+    ensures kept { F.files shelf.new ≡ F.files shelf.old }
+    ensures none_fell { NoneFell (F.faults shelf.old) (F.faults shelf.new) }
+{
+    match read_all(alloc, shelf, name) {
+        Ok(file) => judge(alloc, kind, file.as_slice()),
+        Err(ReadErr::Fault) => Err(file_refusal(alloc, Status::ReadFault, "ReadFault", name)),
+        Err(ReadErr::TooLong) => Err(file_refusal(alloc, Status::TooLong, "TooLong", name)),
+        Err(ReadErr::Memory) => Err(Refusal::Memory),
+    }
+}
+
+/// What one word stands for.
+fn read_word<F: Shelf>(
+    alloc: Global,
+    slot: Slot,
+    word: &str,
+    shelf: &mut F,
+) -> Result<Value, Refusal>
+    requires { fits_slot slot word.now ≡ true }
+    ensures read { WordRead (F.files shelf.old) (RoseIn (F.faults shelf.old) (F.faults shelf.new)) slot word.now result }
+    ensures kept { F.files shelf.new ≡ F.files shelf.old }
+    ensures none_fell { NoneFell (F.faults shelf.old) (F.faults shelf.new) }
+{
+    match slot {
+        Slot::Number(most) => Ok(Value::Number(number_within(most, word).unwrap())),
+        Slot::File(kind) => read_file(alloc, kind, word, shelf),
+    }
+}
+
+/// What the words stand for, in order: each file is read whole and judged before the next one is read.
+pub fn read_words<F: Shelf>(
+    alloc: Global,
+    slots: &[Slot],
+    words: &[String],
+    shelf: &mut F,
+) -> Result<Vec<Value>, Refusal>
+    requires { fits_slots slots.now (bytes_of words.now) ≡ true }
+    ensures read { IfOk result (λ values. AreRead (F.files shelf.old) slots.now (bytes_of words.now) values.items) }
+    ensures refused { IfErr result (WordsRefused (F.files shelf.old) (RoseIn (F.faults shelf.old) (F.faults shelf.new)) slots.now (bytes_of words.now)) }
+{
+    let mut values = Vec::new(alloc);
+    for (at, slot) in slots.iter().enumerate() {
+        prove!(at < words.len());
+        match read_word(alloc, *slot, words[at].as_str(), shelf) {
+            Ok(value) => {
+                if values.push(value).is_err() {
+                    return Err(Refusal::Memory);
+                }
+            }
+            Err(refusal) => return Err(refusal),
+        }
+    }
+    Ok(values)
+}

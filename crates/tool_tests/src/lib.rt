@@ -1,0 +1,7 @@
+//! Tests of `ix_tool`.
+#![tactic(auto)]
+
+#[cfg(test)]
+mod certifying;
+#[cfg(test)]
+mod running;
