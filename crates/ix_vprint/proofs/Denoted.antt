@@ -31,7 +31,8 @@ use Rattle.ix_verilog.specs.Lines.{Line, head, port, heading, input, output, wir
 use Rattle.ix_verilog.specs.Subset.{State, start, Leads, IsShortName, MayDeclare, IsDriven, AreModules, IsNetOf, AreNamedApart, Denotes}
 use Rattle.ix_vprint.specs.Printed.{port_name, head_text, port_text, ports_text, wires_text, registers_text, cell_text, bank_text, always_text, lines_text, module_text, inner}
 use Rattle.ix_vprint.specs.Short.{HasShortNames}
-use Rattle.ix_vprint.proofs.Nets.{all_of, contains_mapped, input_widths, output_widths, cell_widths, bank_widths, input_in, cell_in, bank_in}
+use Rattle.ix_verilog.proofs.Pairs.{all_of, contains_mapped}
+use Rattle.ix_vprint.proofs.Nets.{input_widths, output_widths, cell_widths, bank_widths, input_in, cell_in, bank_in}
 use Rattle.ix_vprint.proofs.Laid.{Reading, Says, Run, name_run, gap, run, mark, onto, said, laid, says_none, says_then, says_all, name_is_run}
 use Rattle.ix_vprint.proofs.Spelled.{AreRuns, are_runs, IsSmall, assign_of, update_of, port_of, by_pieces, cell_says, bank_says, port_says, ports_rest}
 use Rattle.ix_vprint.proofs.Sources.{wires, registers, driven, all_declared, Names, cell_driven, driven_cell, wide_declared, declared_named, declared_once, target_driven, target_no_input, register_named, register_alone, driven_by, register_by}

@@ -19,7 +19,8 @@ use Rattle.ix_net.specs.Valid.{IsValid, IsWidth, names}
 use Rattle.ix_net.proofs.TableLemmas.{name_at_place, place_within, apart_tail}
 use Rattle.ix_net.proofs.NetLemmas.{placed_from_width}
 use Rattle.ix_vprint.specs.Printed.{is_output, inner}
-use Rattle.ix_vprint.proofs.Nets.{contains_mapped, all_of, input_in, cell_in, bank_in, pairs_head, pairs_tail, pairs_cons, pairs_left, pairs_right, pairs_cross, pairs_append, mapped_back, head_case}
+use Rattle.ix_verilog.proofs.Pairs.{contains_mapped, all_of, pairs_head, pairs_tail, pairs_cons, pairs_left, pairs_right, pairs_cross, pairs_append, mapped_back, head_case}
+use Rattle.ix_vprint.proofs.Nets.{input_in, cell_in, bank_in}
 
 -- the ports of `wire` lines, of `reg` lines, and of both `output` and `wire` lines
 abbrev pub wires : Net → List Port
