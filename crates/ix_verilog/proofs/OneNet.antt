@@ -19,7 +19,16 @@ use Rattle.ix_net.specs.declared.netlist.Form.{Form}
 use Rattle.ix_net.specs.declared.netlist.Form.TheVariants.{Hex, Copy, Add, Sub, Mul, And, Or, Xor, Not, Eq, Lt, LtSigned, Join, Range, Choose}
 use Rattle.std.proofs.lemmas.Slice.Eq.{bytes_eq-Decides}
 use Rattle.ix_net.specs.Name.{IsName, is_letter}
-use Rattle.ix_net.specs.Forms.{operands}
+use Rattle.ix_net.specs.Forms.{operands, Fits}
+use Rattle.ix_net.specs.Valid.{IsValid, IsWidth, names}
+use Rattle.ix_net.specs.Signals.{signals, width_of, cell_port, bank_port}
+use Rattle.ix_net.proofs.NetLemmas.{fits_operands, HasWidth, placed_from_width}
+use Rattle.ix_net.proofs.TableLemmas.{place_within, name_at_place, width_at_place}
+use Rattle.ix_verilog.specs.declared.source.Source.{Source}
+use Rattle.ix_verilog.specs.declared.source.Update.{Update}
+use Rattle.ix_verilog.specs.Subset.{IsNetOf, Denotes, LeavesAt, declared, assigned}
+use Rattle.ix_verilog.proofs.OneReading.{written_once, written_stays}
+use Rattle.ix_verilog.proofs.Pairs.{contains_mapped, all_of, pairs_head, pairs_tail, head_case}
 use Rattle.ix_verilog.specs.Words.{Word, is_digit, Stops}
 use Rattle.ix_verilog.specs.Lines.{form_words, hex, hex_upto, hex_digit, is_hex_digit, AreDigits, IsNumber}
 use Rattle.ix_verilog.proofs.Digits.{decimal_is_number, hex_are_digits}
@@ -276,3 +285,156 @@ same_form f g s t o h = absurd (apart (form_shape f) (form_shape g) refl o)
 
 pub one_form : (f g : Form) → AreNamed (operands f) → AreNamed (operands g) → IsSmall f → IsSmall g → form_words f ≡ form_words g → f ≡ g
 one_form f g n m s t e = same_form f g s t (sym (shape_is f n) ∙ ap shape e ∙ shape_is g m) e
+
+-- ---- names and numbers of a valid net
+port_of : (net : Net) → (n : Word) (w : ℕ) → width_of (signals net) n ≡ Some w → (p : Port) × Contains (signals net) p × (p.name ≡ n) × (w ≡ p.width)
+port_of net n w e =
+    let k = placed_from_width (signals net) n w e in
+    let d : Port = record { name = n; width = w } in
+    let same : w ≡ (get_or (signals net) k.0 d).width = same_Some w (get_or (signals net) k.0 d).width (sym e ∙ width_at_place (signals net) n k.0 d k.1) in
+    (get_or (signals net) k.0 d, Contains-get_or (signals net) k.0 d (place_within (signals net) n k.0 k.1), name_at_place (signals net) n k.0 d k.1, same)
+
+wide_named : (net : Net) → IsValid net → (n : Word) (w : ℕ) → width_of (signals net) n ≡ Some w → IsName n
+wide_named net v n w e = (let p = port_of net n w e in subst IsName p.2 (All-contains (λ (q : Port). IsName q.name) (signals net) p.0 v.named p.1))
+
+most_width : (net : Net) → IsValid net → (n : Word) (w : ℕ) → width_of (signals net) n ≡ Some w → w ≤ 128
+most_width net v n w e = (let p = port_of net n w e in let f : IsWidth p.0.width = All-contains (λ (q : Port). IsWidth q.width) (signals net) p.0 v.widths p.1 in omega (arith, f.most, p.3))
+
+named_all : (net : Net) → IsValid net → (ns : List Word) → AllByRecursion (HasWidth (width_of (signals net))) ns → AreNamed ns
+named_all net v [] h = tt
+named_all net v (n ∷ ns) h = (wide_named net v n h.0.0 h.0.1, named_all net v ns h.1)
+
+small_form : (net : Net) → IsValid net → (f : Form) (w : ℕ) → Fits (width_of (signals net)) w f → IsSmall f
+small_form net v (Hex d) w h = tt
+small_form net v (Copy a) w h = tt
+small_form net v (Add a b) w h = tt
+small_form net v (Sub a b) w h = tt
+small_form net v (Mul a b) w h = tt
+small_form net v (And a b) w h = tt
+small_form net v (Or a b) w h = tt
+small_form net v (Xor a b) w h = tt
+small_form net v (Not a) w h = tt
+small_form net v (Eq a b) w h = tt
+small_form net v (Lt a b) w h = tt
+small_form net v (LtSigned a b) w h = tt
+small_form net v (Join a b) w h = tt
+small_form net v (Range a hi lo) w h = (let k = most_width net v a h.0 h.1 in (omega (arith, k, h.3), omega (arith, k, h.2, h.3)))
+small_form net v (Choose c a b) w h = tt
+
+-- ---- cells and registers
+port_once : (ps : List Port) → AllPairs (λ x y. x ≢ y) (names ps) → (p q : Port) → Contains ps p → Contains ps q → p.name ≡ q.name → p ≡ q
+port_once [] h p q c d e = absurd (omega (arith, c.1))
+port_once (r ∷ ps) h p q c d e = elim (head_case r ps p c) [
+  inl a ↦ elim (head_case r ps q d) [
+    inl b ↦ sym a ∙ b
+    | inr b ↦ absurd (pairs_head (λ x y. x ≢ y) r.name (names ps) h q.name (contains_mapped (λ (z : Port). z.name) ps q b) (ap (λ (z : Port). z.name) a ∙ e))
+  ]
+  | inr a ↦ elim (head_case r ps q d) [
+    inl b ↦ absurd (pairs_head (λ x y. x ≢ y) r.name (names ps) h p.name (contains_mapped (λ (z : Port). z.name) ps p a) (ap (λ (z : Port). z.name) b ∙ sym e))
+    | inr b ↦ port_once ps (pairs_tail (λ x y. x ≢ y) r.name (names ps) h) p q a b e
+  ]
+]
+
+record IsFine (ports : List Port) (c : Cell) : Type 0 where
+  pub declared_so : Contains ports (cell_port c)
+  pub named : AreNamed (operands c.form)
+  pub small : IsSmall c.form
+
+cell_same : (c d : Cell) → c.target ≡ d.target → c.width ≡ d.width → c.form ≡ d.form → c ≡ d
+cell_same c d t w f =
+    ap (λ x. let r : Cell = record { target = x; width = c.width; form = c.form } in r) t ∙ ap (λ x. let r : Cell = record { target = d.target; width = x; form = c.form } in r) w
+    ∙ ap (λ x. let r : Cell = record { target = d.target; width = d.width; form = x } in r) f
+
+heads : {X : Type 0} (x y : X) (xs ys : List X) → x ∷ xs ≡ y ∷ ys → x ≡ y
+heads x y xs ys e = cc
+
+tails : {X : Type 0} (x y : X) (xs ys : List X) → x ∷ xs ≡ y ∷ ys → xs ≡ ys
+tails x y xs ys e = cc
+
+no_cons : {X : Type 0} (x : X) (xs : List X) → x ∷ xs ≡ [] → ⊥
+no_cons x xs e = cc
+
+cells_same : (ports : List Port) → AllPairs (λ x y. x ≢ y) (names ports) → (cs ds : List Cell) → All (IsFine ports) cs → All (IsFine ports) ds
+    → map (λ (c : Cell). c.target) cs ≡ map (λ (c : Cell). c.target) ds → map (λ (c : Cell). form_words c.form) cs ≡ map (λ (c : Cell). form_words c.form) ds → cs ≡ ds
+cells_same ports h [] [] f g e i = refl
+cells_same ports h [] (d ∷ ds) f g e i = absurd (no_cons d.target (map (λ (c : Cell). c.target) ds) (sym e))
+cells_same ports h (c ∷ cs) [] f g e i = absurd (no_cons c.target (map (λ (x : Cell). x.target) cs) e)
+cells_same ports h (c ∷ cs) (d ∷ ds) f g e i =
+    let a : IsFine ports c = All-head (IsFine ports) c cs f in
+    let b : IsFine ports d = All-head (IsFine ports) d ds g in
+    let t : c.target ≡ d.target = heads c.target d.target (map (λ (x : Cell). x.target) cs) (map (λ (x : Cell). x.target) ds) e in
+    let w : form_words c.form ≡ form_words d.form = heads (form_words c.form) (form_words d.form) (map (λ (x : Cell). form_words x.form) cs) (map (λ (x : Cell). form_words x.form) ds) i in
+    let p : cell_port c ≡ cell_port d = port_once ports h (cell_port c) (cell_port d) a.declared_so b.declared_so t in
+    let s : c ≡ d = cell_same c d t (ap (λ (z : Port). z.width) p) (one_form c.form d.form a.named b.named a.small b.small w) in
+    let r = cells_same ports h cs ds (All-tail (IsFine ports) c cs f) (All-tail (IsFine ports) d ds g)
+    (tails c.target d.target (map (λ (x : Cell). x.target) cs) (map (λ (x : Cell). x.target) ds) e)
+    (tails (form_words c.form) (form_words d.form) (map (λ (x : Cell). form_words x.form) cs) (map (λ (x : Cell). form_words x.form) ds) i) in
+    ap (λ z. z ∷ cs) s ∙ ap (λ z. d ∷ z) r
+
+abbrev to_update : Bank → Update
+to_update b = record { enable = b.enable; target = b.target; source = b.source }
+
+bank_same : (b d : Bank) → to_update b ≡ to_update d → b.width ≡ d.width → b ≡ d
+bank_same b d u w =
+    ap (λ (x : Update). let r : Bank = record { target = x.target; width = b.width; enable = x.enable; source = x.source } in r) u
+    ∙ ap (λ x. let r : Bank = record { target = d.target; width = x; enable = d.enable; source = d.source } in r) w
+
+banks_same : (ports : List Port) → AllPairs (λ x y. x ≢ y) (names ports) → (bs ds : List Bank) → All (λ (b : Bank). Contains ports (bank_port b)) bs → All (λ (b : Bank). Contains ports (bank_port b)) ds
+    → map to_update bs ≡ map to_update ds → bs ≡ ds
+banks_same ports h [] [] f g e = refl
+banks_same ports h [] (d ∷ ds) f g e = absurd (no_cons (to_update d) (map to_update ds) (sym e))
+banks_same ports h (b ∷ bs) [] f g e = absurd (no_cons (to_update b) (map to_update bs) e)
+banks_same ports h (b ∷ bs) (d ∷ ds) f g e =
+    let u : to_update b ≡ to_update d = heads (to_update b) (to_update d) (map to_update bs) (map to_update ds) e in
+    let p : bank_port b ≡ bank_port d = port_once ports h (bank_port b) (bank_port d) (All-head (λ (x : Bank). Contains ports (bank_port x)) b bs f) (All-head (λ (x : Bank). Contains ports (bank_port x)) d ds g) (ap (λ (x : Update). x.target) u) in
+    let r = banks_same ports h bs ds (All-tail (λ (x : Bank). Contains ports (bank_port x)) b bs f) (All-tail (λ (x : Bank). Contains ports (bank_port x)) d ds g) (tails (to_update b) (to_update d) (map to_update bs) (map to_update ds) e) in
+    ap (λ z. z ∷ bs) (bank_same b d u (ap (λ (z : Port). z.width) p)) ∙ ap (λ z. d ∷ z) r
+
+-- ---- nets
+cells_fine : (s : Source) (net : Net) → IsNetOf s net → All (IsFine (declared s)) net.cells
+cells_fine s net n =
+    all_of (IsFine (declared s)) net.cells
+    (λ c h. (let f : Fits (width_of (signals net)) c.width c.form = All-contains (λ (d : Cell). Fits (width_of (signals net)) d.width d.form) net.cells c n.valid.cells_fit h in
+    let a : Contains (assigned s) (cell_port c) = All-contains (λ (d : Cell). Contains (assigned s) (cell_port d)) net.cells c n.cell_widths h in
+    record {
+      declared_so = Contains-append_left (s.inputs ++ assigned s) s.registers (cell_port c) (Contains-append_right s.inputs (assigned s) (cell_port c) a);
+      named = named_all net n.valid (operands c.form) (fits_operands (width_of (signals net)) c.width c.form f);
+      small = small_form net n.valid c.form c.width f;
+    }))
+
+banks_fine : (s : Source) (net : Net) → IsNetOf s net → All (λ (b : Bank). Contains (declared s) (bank_port b)) net.banks
+banks_fine s net n =
+    all_of (λ (b : Bank). Contains (declared s) (bank_port b)) net.banks
+    (λ b h. Contains-append_right (s.inputs ++ assigned s) s.registers (bank_port b) (All-contains (λ (d : Bank). Contains s.registers (bank_port d)) net.banks b n.bank_widths h))
+
+net_same : (n m : Net) → n.name ≡ m.name → n.inputs ≡ m.inputs → n.cells ≡ m.cells → n.banks ≡ m.banks → n.outputs ≡ m.outputs → n ≡ m
+net_same n m a b c d e =
+    ap (λ x. let r : Net = record { name = x; inputs = n.inputs; cells = n.cells; banks = n.banks; outputs = n.outputs } in r) a
+    ∙ ap (λ x. let r : Net = record { name = m.name; inputs = x; cells = n.cells; banks = n.banks; outputs = n.outputs } in r) b
+    ∙ ap (λ x. let r : Net = record { name = m.name; inputs = m.inputs; cells = x; banks = n.banks; outputs = n.outputs } in r) c
+    ∙ ap (λ x. let r : Net = record { name = m.name; inputs = m.inputs; cells = m.cells; banks = x; outputs = n.outputs } in r) d
+    ∙ ap (λ x. let r : Net = record { name = m.name; inputs = m.inputs; cells = m.cells; banks = m.banks; outputs = x } in r) e
+
+pub one_net : (s : Source) (n m : Net) → IsNetOf s n → IsNetOf s m → n ≡ m
+one_net s n m a b =
+    let apart_names : AllPairs (λ x y. x ≢ y) (names (declared s)) = pairs_tail (λ x y. x ≢ y) s.name (names (declared s)) a.once in
+    net_same n m (a.named ∙ sym b.named) (a.inputs ∙ sym b.inputs)
+    (cells_same (declared s) apart_names n.cells m.cells (cells_fine s n a) (cells_fine s m b) (a.targets ∙ sym b.targets) (a.rights ∙ sym b.rights))
+    (banks_same (declared s) apart_names n.banks m.banks (banks_fine s n a) (banks_fine s m b) (a.updates ∙ sym b.updates)) (a.outputs ∙ sym b.outputs)
+
+one_nets : (ss : List Source) (ns ms : List Net) → AllZip IsNetOf ss ns → AllZip IsNetOf ss ms → ns ≡ ms
+one_nets [] [] [] a b = refl
+one_nets [] [] (m ∷ ms) a b = absurd b
+one_nets [] (n ∷ ns) ms a b = absurd a
+one_nets (s ∷ ss) [] ms a b = absurd a
+one_nets (s ∷ ss) (n ∷ ns) [] a b = absurd b
+one_nets (s ∷ ss) (n ∷ ns) (m ∷ ms) a b = ap (λ z. z ∷ ns) (one_net s n m a.0 b.0) ∙ ap (λ z. m ∷ z) (one_nets ss ns ms a.1 b.1)
+
+-- a text denotes one list of nets
+pub one_denotation : (text : List ℕ) (ns ms : List Net) → Denotes text ns → Denotes text ms → ns ≡ ms
+one_denotation text ns ms a b =
+    let e : a.modules ≡ b.modules = written_once text a.modules b.modules a.written b.written in
+    one_nets b.modules ns ms (subst (λ (z : List Source). AllZip IsNetOf z ns) e a.nets_of) b.nets_of
+
+pub denoted_stays : (text : List ℕ) (ns : List Net) (byte : ℕ) → Denotes text ns → LeavesAt text byte → ⊥
+denoted_stays text ns byte a l = written_stays text a.modules byte a.written l
