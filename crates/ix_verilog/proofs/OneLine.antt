@@ -1,6 +1,6 @@
 -- Where two lines may stand, no words begin with both.
-use Rattle.std.proofs.Common.{◌≡◌, ◌≢◌, ℕ, zero, suc, ◌+◌, ◌-◌, ◌<◌, ◌≤◌, ◌^◌, List, [], ◌∷◌, ◌++◌, Bool, true, false, refl, ap, sym, ◌∙◌, subst, arith, append_assoc, inl, inr, Option, Some, None}
-use Rattle.std.specs.Prelude.{codes, decimal, Contains, if◌then◌else◌, IsTrue, nat_eq, ◌⊎◌}
+use Rattle.std.proofs.Common.{◌≡◌, ◌≢◌, ℕ, ◌-◌, List, [], ◌∷◌, ◌++◌, false, refl, ap, sym, ◌∙◌, arith, append_assoc, Option, Some, None}
+use Rattle.std.specs.Prelude.{codes, decimal, Contains, if◌then◌else◌, nat_eq}
 use Rattle.std.specs.Str.{bytes_eq}
 use Rattle.std.proofs.lemmas.Bool.{true≢false, eq-eqb}
 use Rattle.std.proofs.lemmas.List.Elements.{All-contains, All-from_recursion}
@@ -15,7 +15,7 @@ use Rattle.ix_verilog.specs.declared.source.Source.{Source}
 use Rattle.ix_verilog.specs.declared.source.Stage.{Stage}
 use Rattle.ix_verilog.specs.declared.source.Stage.TheVariants.{Ports, Lines, Clocked, Ended}
 use Rattle.ix_verilog.specs.Words.{Word, is_digit}
-use Rattle.ix_verilog.specs.Lines.{Line, head, port, heading, input, output, wire, register, assign, always, update, done, finish, line_words, port_words, IsRight, literal, copy, both, turned, signed, joined, range, choice, IsLiteral, IsNumber, AreDigits, operators}
+use Rattle.ix_verilog.specs.Lines.{Line, head, port, heading, input, output, wire, register, assign, always, update, done, finish, line_words, port_words, IsRight, literal, copy, both, turned, signed, joined, range, choice, IsLiteral, IsNumber, operators}
 use Rattle.ix_verilog.specs.Subset.{MayStandIn, MayStand, IsOperand}
 
 -- ---- words that differ
@@ -46,9 +46,19 @@ literal_no_sign w l f = go l.width l.wide (sym l.is ∙ f)
 operator_no_sign : (o : Word) → Contains operators o → o ≢ semicolon
 operator_no_sign o c =
     All-contains (λ z. z ≢ semicolon) operators o
-    (All-from_recursion (λ z. z ≢ semicolon) operators
-    (differ (codes "+") semicolon refl, (differ (codes "-") semicolon refl, (differ (codes "*") semicolon refl, (differ (codes "&") semicolon refl,
-    (differ (codes "|") semicolon refl, (differ (codes "^") semicolon refl, (differ (codes "==") semicolon refl, (differ (codes "<") semicolon refl, tt))))))))) c
+    (All-from_recursion (λ z. z ≢ semicolon) operators (
+      differ (codes "+") semicolon refl,
+      (
+        differ (codes "-") semicolon refl,
+        (
+          differ (codes "*") semicolon refl,
+          (
+            differ (codes "&") semicolon refl,
+            (differ (codes "|") semicolon refl, (differ (codes "^") semicolon refl, (differ (codes "==") semicolon refl, (differ (codes "<") semicolon refl, tt)))),
+          ),
+        ),
+      ),
+    )) c
 
 -- ---- right sides have no semicolon
 abbrev pub NoEnd : List Word → Type 0
@@ -86,6 +96,7 @@ one_end (a ∷ x) y (b ∷ z) w h k e =
   where
     first : (b c : Word) (s t : List Word) → b ∷ s ≡ c ∷ t → b ≡ c
     first b c s t e = cc
+
     rest : (b c : Word) (s t : List Word) → b ∷ s ≡ c ∷ t → s ≡ t
     rest b c s t e = cc
 

@@ -1,13 +1,13 @@
 -- A module is that of one net.
-use Rattle.std.proofs.Common.{◌≡◌, ◌≢◌, ℕ, zero, suc, ◌+◌, ◌-◌, ◌*◌, ◌/◌, ◌%◌, ◌<◌, ◌≤◌, ◌^◌, List, [], ◌∷◌, ◌++◌, Bool, true, false, length, map, get_or, refl, ap, sym, ◌∙◌, subst, arith, append_assoc, inl, inr, Option, Some, None}
-use Rattle.std.specs.Prelude.{codes, decimal, All, AllPairs, Contains, if◌then◌else◌, nat_eq, nat_lt, nat_le, ◌⊎◌, ◌&&◌, ◌||◌}
+use Rattle.std.proofs.Common.{◌≡◌, ◌≢◌, ℕ, zero, suc, ◌+◌, ◌*◌, ◌/◌, ◌%◌, ◌<◌, ◌≤◌, ◌^◌, List, [], ◌∷◌, ◌++◌, Bool, true, false, map, get_or, refl, ap, sym, ◌∙◌, subst, arith, inl, inr, Some}
+use Rattle.std.specs.Prelude.{codes, decimal, All, AllPairs, Contains, if◌then◌else◌, nat_eq, nat_lt, nat_le, ◌&&◌, ◌||◌}
 use Rattle.std.specs.Str.{bytes_eq}
 use Rattle.std.specs.List.{list_all, AllByRecursion, AllZip}
-use Rattle.std.proofs.lemmas.Bool.{true≢false, false≢true, cases_lt, lt-ltb, le-ltb, and_from, and_parts, or_cases, leb-true, eqb-true, false_from_ne_true}
+use Rattle.std.proofs.lemmas.Bool.{cases_lt, lt-ltb, le-ltb, and_from, and_parts, or_cases, leb-true, eqb-true, false_from_ne_true}
 use Rattle.std.proofs.lemmas.List.{append_cancel_left}
 use Rattle.std.proofs.lemmas.Fmt.{decimal_injective}
 use Rattle.std.proofs.lemmas.Option.{same_Some}
-use Rattle.std.proofs.lemmas.List.Elements.{All-head, All-tail, All-contains, All-from_recursion, recursion_from_All, Contains-append_left, Contains-append_right, Contains-get_or}
+use Rattle.std.proofs.lemmas.List.Elements.{All-head, All-tail, All-contains, Contains-append_left, Contains-append_right, Contains-get_or}
 use Rattle.std.proofs.Math.Nat.{pow-suc, pow-le-pow_right}
 use Rattle.ix_bits.specs.declared.number.Bits.{Bits}
 use Rattle.ix_bits.proofs.Same.{bits_are}
@@ -29,12 +29,12 @@ use Rattle.ix_verilog.specs.declared.source.Update.{Update}
 use Rattle.ix_verilog.specs.Subset.{IsNetOf, Denotes, LeavesAt, declared, assigned}
 use Rattle.ix_verilog.proofs.OneReading.{written_once, written_stays}
 use Rattle.ix_verilog.proofs.Pairs.{contains_mapped, all_of, pairs_head, pairs_tail, head_case}
-use Rattle.ix_verilog.specs.Words.{Word, is_digit, Stops}
+use Rattle.ix_verilog.specs.Words.{Word, is_digit}
 use Rattle.ix_verilog.specs.Lines.{form_words, hex, hex_upto, hex_digit, is_hex_digit, AreDigits, IsNumber}
 use Rattle.ix_verilog.proofs.Digits.{decimal_is_number, hex_are_digits}
 use Rattle.ix_verilog.proofs.Fronts.{fronts}
 use Rattle.ix_verilog.proofs.HexLemmas.{hex_small, hex_large}
-use Rattle.ix_verilog.proofs.OneLine.{apart, differ, name_differs}
+use Rattle.ix_verilog.proofs.OneLine.{apart, name_differs}
 
 -- ---- hexadecimal digits
 snoc : {X : Type 0} (xs ys : List X) (a b : X) → xs ++ a ∷ [] ≡ ys ++ b ∷ [] → (xs ≡ ys) × (a ≡ b)
@@ -69,12 +69,12 @@ high_digit x h = (let t : nat_lt x 10 ≡ false = le-ltb x 10 h in rw t refl)
 
 digit_same : (x y : ℕ) → hex_digit x ≡ hex_digit y → x < 16 → y < 16 → x ≡ y
 digit_same x y e h k = elim (cases_lt x 10) [
-  inl a ↦ elim (cases_lt y 10) [
-    inl b ↦ omega (arith, e, low_digit x a, low_digit y b)
+  | inl a ↦ elim (cases_lt y 10) [
+    | inl b ↦ omega (arith, e, low_digit x a, low_digit y b)
     | inr b ↦ omega (arith, e, low_digit x a, high_digit y b)
   ]
   | inr a ↦ elim (cases_lt y 10) [
-    inl b ↦ omega (arith, e, high_digit x a, low_digit y b)
+    | inl b ↦ omega (arith, e, high_digit x a, low_digit y b)
     | inr b ↦ omega (arith, e, high_digit x a, high_digit y b)
   ]
 ]
@@ -98,13 +98,13 @@ hex_same zero x y h k e =
 hex_same (suc n) x y h k e =
     let p : 16 ^ suc (suc n) ≡ 16 ^ suc n * 16 = pow-suc 16 (suc n) in
     elim (cases_lt x 16) [
-      inl a ↦ elim (cases_lt y 16) [
-        inl b ↦ (let f : [] ++ hex_digit x ∷ [] ≡ [] ++ hex_digit y ∷ [] = sym (hex_small (suc n) x a) ∙ e ∙ hex_small (suc n) y b in
+      | inl a ↦ elim (cases_lt y 16) [
+        | inl b ↦ (let f : [] ++ hex_digit x ∷ [] ≡ [] ++ hex_digit y ∷ [] = sym (hex_small (suc n) x a) ∙ e ∙ hex_small (suc n) y b in
             digit_same x y (snoc [] [] (hex_digit x) (hex_digit y) f).1 a b)
         | inr b ↦ absurd (mixed (suc n) x y a b k e)
       ]
       | inr a ↦ elim (cases_lt y 16) [
-        inl b ↦ absurd (mixed (suc n) y x b a h (sym e))
+        | inl b ↦ absurd (mixed (suc n) y x b a h (sym e))
         | inr b ↦ (let f : hex_upto (suc n) (x / 16) ++ hex_digit (x % 16) ∷ [] ≡ hex_upto (suc n) (y / 16) ++ hex_digit (y % 16) ∷ [] = sym (hex_large (suc n) x a) ∙ e ∙ hex_large (suc n) y b in
             let s = snoc (hex_upto (suc n) (x / 16)) (hex_upto (suc n) (y / 16)) (hex_digit (x % 16)) (hex_digit (y % 16)) f in
             let q : x / 16 ≡ y / 16 = hex_same n (x / 16) (y / 16) (omega arith) (omega arith) s.0 in
@@ -183,8 +183,8 @@ number_begins (b ∷ w) r h = h.0
 letter_no_digit : (b : ℕ) → is_letter b ≡ true → is_digit b ≡ false
 letter_no_digit b e = false_from_ne_true (is_digit b) (λ f. (let l = leb-true 48 b (and_parts (nat_le 48 b) (nat_le b 57) f).0 in let g = leb-true b 57 (and_parts (nat_le 48 b) (nat_le b 57) f).1 in
     elim (or_cases ((nat_le 65 b && nat_le b 90) || (nat_le 97 b && nat_le b 122)) (nat_eq b 95) e) [
-      inl h ↦ elim (or_cases (nat_le 65 b && nat_le b 90) (nat_le 97 b && nat_le b 122) h) [
-        inl i ↦ (let k = leb-true 65 b (and_parts (nat_le 65 b) (nat_le b 90) i).0 in omega (arith, g, k))
+      | inl h ↦ elim (or_cases (nat_le 65 b && nat_le b 90) (nat_le 97 b && nat_le b 122) h) [
+        | inl i ↦ (let k = leb-true 65 b (and_parts (nat_le 65 b) (nat_le b 90) i).0 in omega (arith, g, k))
         | inr i ↦ (let k = leb-true 97 b (and_parts (nat_le 97 b) (nat_le b 122) i).0 in omega (arith, g, k))
       ]
       | inr h ↦ (let k = eqb-true b 95 h in omega (arith, g, k))
@@ -325,12 +325,12 @@ small_form net v (Choose c a b) w h = tt
 port_once : (ps : List Port) → AllPairs (λ x y. x ≢ y) (names ps) → (p q : Port) → Contains ps p → Contains ps q → p.name ≡ q.name → p ≡ q
 port_once [] h p q c d e = absurd (omega (arith, c.1))
 port_once (r ∷ ps) h p q c d e = elim (head_case r ps p c) [
-  inl a ↦ elim (head_case r ps q d) [
-    inl b ↦ sym a ∙ b
+  | inl a ↦ elim (head_case r ps q d) [
+    | inl b ↦ sym a ∙ b
     | inr b ↦ absurd (pairs_head (λ x y. x ≢ y) r.name (names ps) h q.name (contains_mapped (λ (z : Port). z.name) ps q b) (ap (λ (z : Port). z.name) a ∙ e))
   ]
   | inr a ↦ elim (head_case r ps q d) [
-    inl b ↦ absurd (pairs_head (λ x y. x ≢ y) r.name (names ps) h p.name (contains_mapped (λ (z : Port). z.name) ps p a) (ap (λ (z : Port). z.name) b ∙ sym e))
+    | inl b ↦ absurd (pairs_head (λ x y. x ≢ y) r.name (names ps) h p.name (contains_mapped (λ (z : Port). z.name) ps p a) (ap (λ (z : Port). z.name) b ∙ sym e))
     | inr b ↦ port_once ps (pairs_tail (λ x y. x ≢ y) r.name (names ps) h) p q a b e
   ]
 ]

@@ -1,12 +1,12 @@
 -- A text is of one list of modules, or leaves the subset at one byte.
-use Rattle.std.proofs.Common.{◌≡◌, ◌≢◌, ℕ, zero, suc, ◌+◌, ◌-◌, ◌<◌, ◌≤◌, List, [], ◌∷◌, ◌++◌, length, map, take, drop, false, refl, ap, sym, ◌∙◌, subst, arith, append_assoc, inl, inr, Option, Some, None}
-use Rattle.std.specs.Prelude.{nat_eq, ◌⊎◌}
+use Rattle.std.proofs.Common.{◌≡◌, ◌≢◌, ℕ, zero, suc, ◌<◌, ◌≤◌, List, [], ◌∷◌, ◌++◌, length, take, drop, false, refl, ap, sym, ◌∙◌, subst, arith, append_assoc, inl, inr, None}
+use Rattle.std.specs.Prelude.{nat_eq}
 use Rattle.std.specs.List.{flat_map}
 use Rattle.std.proofs.lemmas.Bool.{cases_order}
-use Rattle.std.proofs.lemmas.List.{append_cancel_left, append-nil, take-append-drop, length-map}
+use Rattle.std.proofs.lemmas.List.{append_cancel_left, append-nil, take-append-drop}
 use Rattle.ix_verilog.specs.declared.source.Source.{Source}
 use Rattle.ix_verilog.specs.declared.token.Token.{Token}
-use Rattle.ix_verilog.specs.Words.{Word, Spells, words_of}
+use Rattle.ix_verilog.specs.Words.{Word, words_of}
 use Rattle.ix_verilog.specs.Lines.{Line, head, port, heading, input, output, wire, register, assign, always, update, done, finish, line_words}
 use Rattle.ix_verilog.specs.Subset.{State, start, after, Leads, AreModules, Begins, LeavesAt, IsWritten, place_of_token}
 use Rattle.ix_verilog.proofs.OneLine.{order, order_of, order_is, one_line, apart}
@@ -93,9 +93,9 @@ written_stays text ms byte a l =
     let e : a.tokens ≡ l.tokens = one_spelling a.spelled text refl l.spelled in
     let m : AreModules (words_of l.tokens) ms = subst (λ (t : List Token). AreModules (words_of t) ms) e a.are in
     elim (cases_order l.before (length l.tokens)) [
-      inl s ↦ l.end s ms m
+      | inl s ↦ l.end s ms m
       | inr t ↦ elim t [
-        inl s ↦ l.next s (begins_all (words_of l.tokens) ms m (suc l.before))
+        | inl s ↦ l.next s (begins_all (words_of l.tokens) ms m (suc l.before))
         | inr s ↦ omega (arith, l.within)
       ]
     ]
@@ -106,9 +106,9 @@ leaves_once text b c l k =
     let e : l.tokens ≡ k.tokens = one_spelling l.spelled text refl k.spelled in
     let first : Begins (take l.before (words_of k.tokens)) = subst (λ (t : List Token). Begins (take l.before (words_of t))) e l.front in
     let same : l.before ≡ k.before = elim (cases_order l.before k.before) [
-      inl s ↦ s
+      | inl s ↦ s
       | inr t ↦ elim t [
-        inl s ↦ (let w : l.before < length l.tokens = omega (arith, s, k.within, ap length e) in
+        | inl s ↦ (let w : l.before < length l.tokens = omega (arith, s, k.within, ap length e) in
             let n : Begins (take (suc l.before) (words_of l.tokens)) = subst (λ (t : List Token). Begins (take (suc l.before) (words_of t))) (sym e) (begins_before (suc l.before) k.before (words_of k.tokens) (omega (arith, s)) k.front) in
             absurd (l.next w n))
         | inr s ↦ (let w : k.before < length k.tokens = omega (arith, s, l.within, ap length e) in

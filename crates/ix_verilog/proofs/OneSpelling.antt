@@ -1,5 +1,5 @@
 -- A text spells its words in one way.
-use Rattle.std.proofs.Common.{◌≡◌, ℕ, ◌+◌, List, [], ◌∷◌, ◌++◌, length, Bool, true, false, refl, ap, sym, ◌∙◌, subst}
+use Rattle.std.proofs.Common.{◌≡◌, ℕ, ◌+◌, List, [], ◌∷◌, ◌++◌, length, refl, ap, sym, ◌∙◌, subst}
 use Rattle.std.proofs.lemmas.List.{append_cancel_left, append-nil}
 use Rattle.ix_verilog.specs.declared.token.Token.{Token}
 use Rattle.ix_verilog.specs.Words.{is_name_byte, is_number_byte, is_line_byte, Form, token, IsPart, is_space_part, is_line_part, is_comment_part, is_open_part, is_name_part, is_number_part, is_pair_part, is_single_part, form_of, Spells, spells_none, spells_more}

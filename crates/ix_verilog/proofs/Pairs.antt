@@ -1,5 +1,5 @@
 -- Lists of which no two elements are related, and elements of mapped lists.
-use Rattle.std.proofs.Common.{◌≡◌, ◌≢◌, ℕ, zero, suc, ◌<◌, List, [], ◌∷◌, ◌++◌, length, map, get_or, refl, ap, sym, ◌∙◌, subst, arith, inl, inr}
+use Rattle.std.proofs.Common.{◌≡◌, ℕ, zero, suc, ◌<◌, List, [], ◌∷◌, ◌++◌, length, map, get_or, refl, subst, arith, inl, inr}
 use Rattle.std.specs.Prelude.{◌⊎◌, All, AllPairs, Contains}
 use Rattle.std.proofs.lemmas.List.Kept.{AllPairs-cons}
 use Rattle.std.proofs.lemmas.List.Elements.{All-contains_itself, Contains-append_left, Contains-append_right, Contains-append_cases}
@@ -44,7 +44,7 @@ head_case x xs y c = go c.0 c.1 c.2
 pub pairs_cross : {X : Type 0} (R : X → X → Type 0) (xs ys : List X) → AllPairs R (xs ++ ys) → (x y : X) → Contains xs x → Contains ys y → R x y
 pairs_cross R [] ys h x y c d = absurd (omega (arith, c.1))
 pairs_cross R (z ∷ xs) ys h x y c d = elim (head_case z xs x c) [
-  inl e ↦ subst (λ w. R w y) e (pairs_head R z (xs ++ ys) h y (Contains-append_right xs ys y d))
+  | inl e ↦ subst (λ w. R w y) e (pairs_head R z (xs ++ ys) h y (Contains-append_right xs ys y d))
   | inr k ↦ pairs_cross R xs ys (pairs_tail R z (xs ++ ys) h) x y k d
 ]
 
@@ -53,7 +53,7 @@ pairs_append R [] ys h k f = k
 pairs_append R (x ∷ xs) ys h k f =
     pairs_cons R x (xs ++ ys)
     (λ y c. elim (Contains-append_cases xs ys y c) [
-      inl a ↦ pairs_head R x xs h y a
+      | inl a ↦ pairs_head R x xs h y a
       | inr b ↦ f x y (0, omega arith, refl) b
     ])
     (pairs_append R xs ys (pairs_tail R x xs h) k (λ a b c d. f a b (suc c.0, omega (arith, c.1), c.2) d))
@@ -62,7 +62,6 @@ pairs_append R (x ∷ xs) ys h k f =
 pub mapped_back : {X Y : Type 0} (f : X → Y) (xs : List X) (y : Y) → Contains (map f xs) y → (x : X) × Contains xs x × (f x ≡ y)
 mapped_back f [] y c = absurd (omega (arith, c.1))
 mapped_back f (x ∷ xs) y c = elim (head_case (f x) (map f xs) y c) [
-  inl e ↦ (x, (0, omega arith, refl), e)
+  | inl e ↦ (x, (0, omega arith, refl), e)
   | inr k ↦ (let r = mapped_back f xs y k in (r.0, (suc r.1.0, omega (arith, r.1.1), r.1.2), r.2))
 ]
-

@@ -1,7 +1,6 @@
 -- The words of a Verilog text (IEEE 1364-2005, 3, lexical conventions). A word is its bytes.
 use Rattle.std.specs.Prelude.{◌≡◌, ℕ, ◌+◌, List, [], ◌∷◌, ◌++◌, length, map, Bool, true, false, not, ◌&&◌, ◌||◌, if◌then◌else◌, nat_eq, nat_le}
 use Rattle.std.specs.List.{list_all}
-
 use Rattle.ix_verilog.specs.declared.token.Token.{Token}
 
 abbrev pub Word : Type 0

@@ -3,8 +3,6 @@
 
 mod part;
 mod scan;
-#[cfg(test)]
-mod tests;
 mod words;
 
 pub use words::words_in;

@@ -3,7 +3,5 @@
 
 mod printing;
 mod put;
-#[cfg(test)]
-mod tests;
 
 pub use printing::print;
