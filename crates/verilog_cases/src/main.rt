@@ -1,4 +1,5 @@
-//! Prints nets as Verilog text: a module with a register, and each right side at widths 1 and 128.
+//! Prints nets as Verilog text: a module with a register, and each right side at widths 1 and 128. With a number, prints 64 chains of so many cells
+//! and tells the lengths of their texts.
 #![tactic(auto)]
 
 ghost use Rattle.std.specs.Prelude.{◌≡◌, length};
@@ -7,7 +8,7 @@ use ix_bits::{Bits, List, Memory, Name};
 use ix_net::{Bank, Cell, Form, Net, Port, is_valid};
 use ix_vprint::print;
 use std::alloc::Global;
-use std::io;
+use std::{env, io};
 
 fn name(alloc: Global, text: &str) -> Result<Name, Memory> {
     if text.len() > 80 {
@@ -228,6 +229,48 @@ fn every_form(alloc: Global, text: &str, width: u8) -> Result<Net, Memory> {
     })
 }
 
+fn far_name(alloc: Global, k: u32) -> Result<Name, Memory> {
+    let Ok(text) = format!(in alloc; "n{k}") else {
+        return Err(Memory);
+    };
+    name(alloc, text.as_str())
+}
+
+// A cell that adds the one before it to itself.
+fn far_cell(alloc: Global, k: u32) -> Result<Cell, Memory> {
+    let target = far_name(alloc, k.wrapping_add(1))?;
+    let a = far_name(alloc, k)?;
+    let b = far_name(alloc, k)?;
+    Ok(Cell {
+        target,
+        width: 32,
+        form: Form::Add(a, b),
+    })
+}
+
+fn far_cells(alloc: Global, count: u32) -> Result<List<Cell>, Memory> {
+    let mut cells = List::new(alloc);
+    for k in 0..count {
+        cells.push(far_cell(alloc, k)?)?;
+    }
+    Ok(cells)
+}
+
+// A chain of so many cells.
+fn far(alloc: Global, count: u32) -> Result<Net, Memory> {
+    let name = name(alloc, "far_0")?;
+    let mut inputs = List::new(alloc);
+    inputs.push(port(alloc, "n0", 32)?)?;
+    let cells = far_cells(alloc, count)?;
+    Ok(Net {
+        name,
+        inputs,
+        cells,
+        banks: List::new(alloc),
+        outputs: List::new(alloc),
+    })
+}
+
 fn made(alloc: Global, k: u8) -> Result<Net, Memory> {
     match k {
         0 => sum(alloc),
@@ -251,7 +294,32 @@ fn shown(alloc: Global, k: u8) -> Result<Option<List<u8>>, Memory> {
     text(alloc, &[net])
 }
 
+// The length of the text of a chain.
+fn far_length(alloc: Global, count: u32) -> Result<usize, Memory> {
+    let net = far(alloc, count)?;
+    match text(alloc, &[net])? {
+        Some(bytes) => Ok(bytes.len()),
+        None => Ok(0),
+    }
+}
+
+// With a number as argument, prints that many chains of so many cells, and tells their lengths.
+fn measured(rt: &HostRuntime, count: u32) -> io::Result<()> {
+    for _ in 0..64 {
+        match far_length(rt.alloc(), count) {
+            Ok(length) => println!(rt; "{length}")?,
+            Err(_) => println!(rt; "no memory")?,
+        }
+    }
+    Ok(())
+}
+
 fn main(rt: HostRuntime) -> io::Result<()> {
+    let mut words = env::args(&rt)?;
+    words.next();
+    if let Some(word) = words.next() {
+        return measured(&rt, word.parse::<u32>().unwrap_or(0));
+    }
     for k in 0u8..3 {
         match shown(rt.alloc(), k) {
             Ok(Some(bytes)) => match str::from_utf8(bytes.as_slice()) {
