@@ -1,5 +1,5 @@
 -- What the functions find at the front of bytes.
-use Rattle.std.specs.Prelude.{◌≡◌, ℕ, ◌≤◌, List, [], ◌∷◌, length, Bool, true, false, take, drop}
+use Rattle.std.specs.Prelude.{ℕ, ◌≤◌, List, [], ◌∷◌, length, Bool, true, false, take, drop}
 use Rattle.ix_verilog.specs.declared.token.Token.{Token}
 use Rattle.ix_verilog.specs.Words.{is_name_byte, is_number_byte, is_line_byte, Form, token, IsPart}
 use Rattle.ix_vlex.specs.declared.scan.Class.{Class}

@@ -1,13 +1,12 @@
 -- The printed text of valid nets denotes them.
-use Rattle.std.proofs.Common.{◌≡◌, ◌≢◌, ℕ, zero, suc, ◌+◌, ◌<◌, ◌≤◌, ◌^◌, List, [], ◌∷◌, ◌++◌, length, map, get_or, Option, Some, None, refl, ap, sym, ◌∙◌, subst, append_assoc, arith}
-use Rattle.std.specs.Prelude.{All, AllPairs, Contains, codes}
-use Rattle.std.specs.List.{flat_map, AllZip, AllByRecursion}
-use Rattle.std.proofs.lemmas.List.{append-nil, map-append, length-append, length-map}
+use Rattle.std.proofs.Common.{◌≡◌, ℕ, ◌≤◌, List, [], ◌∷◌, ◌++◌, map, get_or, Some, refl, ap, sym, ◌∙◌, subst, append_assoc, arith}
+use Rattle.std.specs.Prelude.{All, Contains, codes}
+use Rattle.std.specs.List.{flat_map}
 use Rattle.std.proofs.lemmas.Simd.{map-map}
 use Rattle.std.proofs.lemmas.Option.{same_Some}
 use Rattle.std.proofs.lemmas.List.Folds.{flat_map-map}
 use Rattle.std.proofs.lemmas.Grind.{flat_map-append}
-use Rattle.std.proofs.lemmas.List.Elements.{All-head, All-tail, All-contains, All-append, All-map, All-from_recursion, Contains-append_left, Contains-append_right}
+use Rattle.std.proofs.lemmas.List.Elements.{All-contains, All-append, All-map, All-from_recursion, Contains-append_left, Contains-append_right}
 use Rattle.ix_net.specs.declared.netlist.Net.{Net}
 use Rattle.ix_net.specs.declared.netlist.Port.{Port}
 use Rattle.ix_net.specs.declared.netlist.Cell.{Cell}
@@ -20,23 +19,14 @@ use Rattle.ix_net.specs.Valid.{IsValid, IsWidth, names}
 use Rattle.ix_net.specs.Signals.{signals, cell_port, bank_port, width_of}
 use Rattle.ix_net.proofs.NetLemmas.{fits_operands, HasWidth, placed_from_width}
 use Rattle.ix_net.proofs.TableLemmas.{place_within, width_at_place}
-use Rattle.ix_verilog.specs.declared.source.Source.{Source}
-use Rattle.ix_verilog.specs.declared.source.Assign.{Assign}
-use Rattle.ix_verilog.specs.declared.source.Update.{Update}
-use Rattle.ix_verilog.specs.declared.source.Stage.{Stage}
-use Rattle.ix_verilog.specs.declared.source.Stage.TheVariants.{Lines, Ended}
-use Rattle.ix_verilog.specs.declared.token.Token.{Token}
-use Rattle.ix_verilog.specs.Words.{Word, Spells, spells_none, words_of}
-use Rattle.ix_verilog.specs.Lines.{Line, head, port, heading, input, output, wire, register, assign, always, update, done, finish, line_words, form_words, port_words}
-use Rattle.ix_verilog.specs.Subset.{State, start, Leads, IsShortName, MayDeclare, IsDriven, AreModules, IsNetOf, AreNamedApart, Denotes}
+use Rattle.ix_verilog.specs.Words.{Word}
+use Rattle.ix_verilog.specs.Lines.{Line, head, heading, input, output, wire, register, always, done, finish, line_words}
 use Rattle.ix_vprint.specs.Printed.{port_name, head_text, port_text, ports_text, wires_text, registers_text, cell_text, bank_text, always_text, lines_text, module_text, inner}
-use Rattle.ix_vprint.specs.Short.{HasShortNames}
 use Rattle.ix_verilog.proofs.Pairs.{all_of, contains_mapped}
-use Rattle.ix_vprint.proofs.Nets.{input_widths, output_widths, cell_widths, bank_widths, input_in, cell_in, bank_in}
-use Rattle.ix_vprint.proofs.Laid.{Reading, Says, Run, name_run, gap, run, mark, onto, said, laid, says_none, says_then, says_all, name_is_run}
+use Rattle.ix_vprint.proofs.Nets.{input_in, cell_in, bank_in}
+use Rattle.ix_vprint.proofs.Laid.{Reading, Says, Run, name_run, gap, run, mark, onto, laid, says_then, says_all, name_is_run}
 use Rattle.ix_vprint.proofs.Spelled.{AreRuns, are_runs, IsSmall, assign_of, update_of, port_of, by_pieces, cell_says, bank_says, port_says, ports_rest}
-use Rattle.ix_vprint.proofs.Sources.{wires, registers, driven, all_declared, Names, cell_driven, driven_cell, wide_declared, declared_named, declared_once, target_driven, target_no_input, register_named, register_alone, driven_by, register_by}
-use Rattle.ix_vprint.proofs.Followed.{leads_then, source, opened, ports_lead, inputs_lead, outputs_lead, wires_lead, registers_lead, MayAssign, to_assign, assigns_lead, MayUpdate, to_update, updates_lead, named_all, right_side}
+use Rattle.ix_vprint.proofs.Sources.{wires, registers, all_declared, Names, driven_cell, wide_declared, declared_named}
 
 -- ---- the lines of a net
 abbrev pub always_lines : List Bank → List Line
@@ -141,10 +131,13 @@ always_head =
   where
     always_word : Run (codes "always")
     always_word = name_run 97 (codes "lways") (λ bs. refl) refl
+
     posedge_word : Run (codes "posedge")
     posedge_word = name_run 112 (codes "osedge") (λ bs. refl) refl
+
     clk_word : Run (codes "clk")
     clk_word = name_run 99 (codes "lk") (λ bs. refl) refl
+
     begin_word : Run (codes "begin")
     begin_word = name_run 98 (codes "egin") (λ bs. refl) refl
 
@@ -227,6 +220,7 @@ head_says net v y ws r =
   where
     module_word : Run (codes "module")
     module_word = name_run 109 (codes "odule") (λ bs. refl) refl
+
     clk_word : Run (codes "clk")
     clk_word = name_run 99 (codes "lk") (λ bs. refl) refl
 

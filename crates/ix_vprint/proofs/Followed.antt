@@ -1,10 +1,8 @@
 -- The lines of a valid net may stand one behind the other.
-use Rattle.std.proofs.Common.{◌≡◌, ◌≢◌, ℕ, zero, suc, ◌+◌, ◌<◌, ◌≤◌, ◌^◌, List, [], ◌∷◌, ◌++◌, length, map, Option, Some, None, refl, ap, sym, ◌∙◌, subst, append_assoc, arith, inl, inr}
-use Rattle.std.specs.Prelude.{All, AllPairs, Contains, slice_get, codes, decimal}
-use Rattle.std.specs.List.{flat_map}
-use Rattle.std.proofs.lemmas.List.{append-nil, map-append, length-append, length-map}
-use Rattle.std.proofs.lemmas.List.Elements.{All-head, All-tail, All-contains, Contains-append_left}
-use Rattle.ix_net.specs.declared.netlist.Net.{Net}
+use Rattle.std.proofs.Common.{◌≡◌, ℕ, ◌+◌, List, [], ◌∷◌, ◌++◌, length, map, Some, refl, ap, sym, ◌∙◌, subst, append_assoc, arith}
+use Rattle.std.specs.Prelude.{All, Contains, slice_get, codes, decimal}
+use Rattle.std.proofs.lemmas.List.{append-nil, length-append}
+use Rattle.std.proofs.lemmas.List.Elements.{All-head, All-tail}
 use Rattle.ix_net.specs.declared.netlist.Port.{Port}
 use Rattle.ix_net.specs.declared.netlist.Cell.{Cell}
 use Rattle.ix_net.specs.declared.netlist.Bank.{Bank}
@@ -12,18 +10,17 @@ use Rattle.ix_net.specs.declared.netlist.Form.{Form}
 use Rattle.ix_net.specs.declared.netlist.Form.TheVariants.{Hex, Copy, Add, Sub, Mul, And, Or, Xor, Not, Eq, Lt, LtSigned, Join, Range, Choose}
 use Rattle.ix_net.specs.Name.{IsName}
 use Rattle.ix_net.specs.Forms.{operands}
-use Rattle.ix_net.specs.Valid.{IsValid, IsWidth, names}
-use Rattle.ix_net.specs.Signals.{cell_port, bank_port}
+use Rattle.ix_net.specs.Valid.{IsWidth, names}
 use Rattle.ix_verilog.specs.declared.source.Assign.{Assign}
 use Rattle.ix_verilog.specs.declared.source.Update.{Update}
 use Rattle.ix_verilog.specs.declared.source.Source.{Source}
 use Rattle.ix_verilog.specs.declared.source.Stage.{Stage}
-use Rattle.ix_verilog.specs.declared.source.Stage.TheVariants.{Ports, Lines, Clocked, Ended}
+use Rattle.ix_verilog.specs.declared.source.Stage.TheVariants.{Ports, Lines, Clocked}
 use Rattle.ix_verilog.specs.Words.{Word}
-use Rattle.ix_verilog.specs.Lines.{Line, head, port, heading, input, output, wire, register, assign, always, update, done, finish, line_words, form_words, IsRight, IsLiteral, IsNumber, literal, copy, both, turned, signed, joined, range, choice, hex, operators}
-use Rattle.ix_verilog.specs.Subset.{State, MayStand, Leads, after, IsShortName, MayDeclare, IsOperand, IsTarget, IsRegister, IsDriven, HasPorts, assigned, declared}
+use Rattle.ix_verilog.specs.Lines.{Line, input, output, wire, register, form_words, IsRight, literal, copy, both, turned, signed, joined, range, choice, hex, operators}
+use Rattle.ix_verilog.specs.Subset.{State, Leads, after, IsShortName, MayDeclare, IsOperand}
 use Rattle.ix_verilog.proofs.Digits.{decimal_is_number, hex_are_digits}
-use Rattle.ix_vprint.proofs.Spelled.{AreRuns, IsSmall, assign_of, update_of, port_of, raw_small}
+use Rattle.ix_vprint.proofs.Spelled.{IsSmall, assign_of, update_of, port_of, raw_small}
 use Rattle.ix_net.proofs.NetLemmas.{contains_from_slice_get}
 use Rattle.ix_vprint.proofs.Sources.{Names}
 
@@ -69,9 +66,10 @@ inputs_lead ms n ports before (p ∷ ps) rest e h =
     let P : List Port → Type 0 = λ z. Leads (opened ms (source n ports (before ++ p ∷ []) [] [] [] [] [] Lines)) (map input ps) (opened ms (source n ports z [] [] [] [] [] Lines)) in
     let k : length before + 0 ≡ length before = omega arith in
     let next : slice_get ports (length before + 0) ≡ Some p.name = ap (λ z. slice_get ports z) k ∙ ap (λ z. slice_get z (length before)) e ∙ next_is before p (ps ++ rest) in
-    let f : ports ≡ names ((before ++ p ∷ []) ++ (ps ++ rest)) = e ∙ ap names (sym (append_assoc before (p ∷ []) (ps ++ rest))) in
-    ((next, All-head (λ (p : Port). IsWidth p.width) p ps h, refl),
-      subst P (append_assoc before (p ∷ []) ps) (inputs_lead ms n ports (before ++ p ∷ []) ps rest f (All-tail (λ (p : Port). IsWidth p.width) p ps h)))
+    let f : ports ≡ names ((before ++ p ∷ []) ++ (ps ++ rest)) = e ∙ ap names (sym (append_assoc before (p ∷ []) (ps ++ rest))) in (
+      (next, All-head (λ (p : Port). IsWidth p.width) p ps h, refl),
+      subst P (append_assoc before (p ∷ []) ps) (inputs_lead ms n ports (before ++ p ∷ []) ps rest f (All-tail (λ (p : Port). IsWidth p.width) p ps h)),
+    )
 
 pub outputs_lead : (ms : List Source) (n : Word) (ports : List Word) (ins before ps : List Port) → ports ≡ names (ins ++ (before ++ ps)) → All (λ (p : Port). IsWidth p.width) ps
     → Leads (opened ms (source n ports ins before [] [] [] [] Lines)) (map output ps) (opened ms (source n ports ins (before ++ ps) [] [] [] [] Lines))
@@ -81,9 +79,10 @@ outputs_lead ms n ports ins before (p ∷ ps) e h =
     let g : ports ≡ names ((ins ++ before) ++ p ∷ ps) = e ∙ ap names (sym (append_assoc ins before (p ∷ ps))) in
     let k : length ins + length before ≡ length (ins ++ before) = sym (length-append ins before) in
     let next : slice_get ports (length ins + length before) ≡ Some p.name = ap (λ z. slice_get ports z) k ∙ ap (λ z. slice_get z (length (ins ++ before))) g ∙ next_is (ins ++ before) p ps in
-    let f : ports ≡ names (ins ++ ((before ++ p ∷ []) ++ ps)) = e ∙ ap (λ z. names (ins ++ z)) (sym (append_assoc before (p ∷ []) ps)) in
-    ((next, All-head (λ (p : Port). IsWidth p.width) p ps h),
-      subst P (append_assoc before (p ∷ []) ps) (outputs_lead ms n ports ins (before ++ p ∷ []) ps f (All-tail (λ (p : Port). IsWidth p.width) p ps h)))
+    let f : ports ≡ names (ins ++ ((before ++ p ∷ []) ++ ps)) = e ∙ ap (λ z. names (ins ++ z)) (sym (append_assoc before (p ∷ []) ps)) in (
+      (next, All-head (λ (p : Port). IsWidth p.width) p ps h),
+      subst P (append_assoc before (p ∷ []) ps) (outputs_lead ms n ports ins (before ++ p ∷ []) ps f (All-tail (λ (p : Port). IsWidth p.width) p ps h)),
+    )
 
 pub wires_lead : (ms : List Source) (n : Word) (ports : List Word) (ins outs before ps : List Port) → length ports ≡ length ins + length outs → All MayDeclare ps
     → Leads (opened ms (source n ports ins outs before [] [] [] Lines)) (map wire ps) (opened ms (source n ports ins outs (before ++ ps) [] [] [] Lines))
@@ -131,9 +130,10 @@ pub assigns_lead : (ms : List Source) (n : Word) (ports : List Word) (ins outs w
 assigns_lead ms n ports ins outs wires regs before [] e h = ap (λ z. opened ms (source n ports ins outs wires regs z [] Lines)) (sym (append-nil before))
 assigns_lead ms n ports ins outs wires regs before (c ∷ cs) e h =
     let P : List Assign → Type 0 = λ z. Leads (opened ms (source n ports ins outs wires regs (before ++ to_assign c ∷ []) [] Lines)) (map assign_of cs) (opened ms (source n ports ins outs wires regs z [] Lines)) in
-    let m : MayAssign ins outs wires regs c = All-head (MayAssign ins outs wires regs) c cs h in
-    ((e, record { named = m.named; declared_so = m.target; no_input = m.no_input }, right_map (IsOf (ins ++ (outs ++ wires) ++ regs)) (IsOperand (source n ports ins outs wires regs before [] Lines)) (λ n h. record { named = h.0; declared_so = h.1 }) (form_words c.form) m.right),
-      subst P (append_assoc before (to_assign c ∷ []) (map to_assign cs)) (assigns_lead ms n ports ins outs wires regs (before ++ to_assign c ∷ []) cs e (All-tail (MayAssign ins outs wires regs) c cs h)))
+    let m : MayAssign ins outs wires regs c = All-head (MayAssign ins outs wires regs) c cs h in (
+      (e, record { named = m.named; declared_so = m.target; no_input = m.no_input }, right_map (IsOf (ins ++ (outs ++ wires) ++ regs)) (IsOperand (source n ports ins outs wires regs before [] Lines)) (λ n h. record { named = h.0; declared_so = h.1 }) (form_words c.form) m.right),
+      subst P (append_assoc before (to_assign c ∷ []) (map to_assign cs)) (assigns_lead ms n ports ins outs wires regs (before ++ to_assign c ∷ []) cs e (All-tail (MayAssign ins outs wires regs) c cs h)),
+    )
 
 pub record MayUpdate (ins outs wires regs : List Port) (b : Bank) : Type 0 where
   pub enable : IsOf (ins ++ (outs ++ wires) ++ regs) b.enable
@@ -151,9 +151,10 @@ pub updates_lead : (ms : List Source) (n : Word) (ports : List Word) (ins outs w
 updates_lead ms n ports ins outs wires regs assigns before [] h = ap (λ z. opened ms (source n ports ins outs wires regs assigns z Clocked)) (sym (append-nil before))
 updates_lead ms n ports ins outs wires regs assigns before (b ∷ bs) h =
     let P : List Update → Type 0 = λ z. Leads (opened ms (source n ports ins outs wires regs assigns (before ++ to_update b ∷ []) Clocked)) (map update_of bs) (opened ms (source n ports ins outs wires regs assigns z Clocked)) in
-    let m : MayUpdate ins outs wires regs b = All-head (MayUpdate ins outs wires regs) b bs h in
-    ((record { named = m.enable.0; declared_so = m.enable.1 }, record { named = m.named; declared_so = m.target; no_other = m.no_other }, record { named = m.source_of.0; declared_so = m.source_of.1 }),
-      subst P (append_assoc before (to_update b ∷ []) (map to_update bs)) (updates_lead ms n ports ins outs wires regs assigns (before ++ to_update b ∷ []) bs (All-tail (MayUpdate ins outs wires regs) b bs h)))
+    let m : MayUpdate ins outs wires regs b = All-head (MayUpdate ins outs wires regs) b bs h in (
+      (record { named = m.enable.0; declared_so = m.enable.1 }, record { named = m.named; declared_so = m.target; no_other = m.no_other }, record { named = m.source_of.0; declared_so = m.source_of.1 }),
+      subst P (append_assoc before (to_update b ∷ []) (map to_update bs)) (updates_lead ms n ports ins outs wires regs assigns (before ++ to_update b ∷ []) bs (All-tail (MayUpdate ins outs wires regs) b bs h)),
+    )
 
 -- ---- right sides
 abbrev All3 : (Word → Type 0) → List Word → Type 0

@@ -1,16 +1,15 @@
 -- Texts that are made of words and of what stands between them, and the words that they spell.
-use Rattle.std.proofs.Common.{◌≡◌, ℕ, zero, suc, ◌+◌, ◌<◌, ◌≤◌, List, [], ◌∷◌, ◌++◌, length, map, Bool, true, false, not, ◌&&◌, ◌||◌, refl, ap, sym, ◌∙◌, subst, append_assoc, arith, inl, inr}
-use Rattle.std.specs.Prelude.{All, Contains, nat_eq, nat_le, IsTrue, codes}
+use Rattle.std.proofs.Common.{◌≡◌, ℕ, ◌+◌, ◌<◌, List, [], ◌∷◌, ◌++◌, length, Bool, true, false, not, ◌&&◌, ◌||◌, refl, ap, sym, ◌∙◌, subst, append_assoc, arith, inl, inr}
+use Rattle.std.specs.Prelude.{All, nat_eq, nat_le, IsTrue, codes}
 use Rattle.std.specs.List.{list_all, flat_map}
-use Rattle.std.proofs.lemmas.Bool.{or_parts, or_from, or_left, or_right, or_cases, and_parts, and_from, not-true, leb-true, eqb-true, ne_eqb, le-leb, lt-leb}
-use Rattle.std.proofs.lemmas.Bool.{agree_below_at, cases_Bool, true≢false}
-use Rattle.std.proofs.lemmas.Bool.Decides.{nat_tests}
+use Rattle.std.proofs.lemmas.Bool.{or_parts, or_left, or_right, or_cases, and_parts, and_from, not-true, leb-true, eqb-true}
+use Rattle.std.proofs.lemmas.Bool.{agree_below_at, true≢false}
 use Rattle.std.proofs.lemmas.List.Elements.{All-head, All-tail}
 use Rattle.ix_verilog.specs.declared.token.Token.{Token}
-use Rattle.ix_verilog.specs.Words.{Word, token, is_in, is_space, is_digit, is_opening, is_name_byte, is_number_byte, Stops, Form, space, name, number, pair, single, form_of, IsPart, is_space_part, is_name_part, is_number_part, is_pair_part, is_single_part, Spells, spells_none, spells_more, words_of}
+use Rattle.ix_verilog.specs.Words.{Word, token, is_in, is_space, is_digit, is_opening, is_name_byte, is_number_byte, Stops, Form, space, name, number, pair, single, form_of, IsPart, is_space_part, is_name_part, is_number_part, is_pair_part, is_single_part, Spells, spells_more, words_of}
 use Rattle.std.proofs.lemmas.List.Folds.{list_all-append}
 use Rattle.ix_verilog.specs.Lines.{is_hex_digit, AreDigits, IsNumber}
-use Rattle.ix_net.specs.Name.{IsName, StartsWithLetter, is_letter, is_mark}
+use Rattle.ix_net.specs.Name.{IsName, is_letter, is_mark}
 
 -- the bytes from a place on spell these words
 pub record SpellsAt (at : ℕ) (text : List ℕ) (words : List Word) : Type 0 where
@@ -121,8 +120,8 @@ says_all f g (x ∷ xs) h = says_then (f x) (flat_map f xs) (g x) (flat_map g xs
 -- ---- which words are runs
 letter_small : (b : ℕ) → is_letter b ≡ true → b < 128
 letter_small b e = elim (or_cases (is_in 65 90 b || is_in 97 122 b) (nat_eq b 95) e) [
-  inl f ↦ elim (or_cases (is_in 65 90 b) (is_in 97 122 b) f) [
-    inl g ↦ (let l = leb-true b 90 (and_parts (nat_le 65 b) (nat_le b 90) g).1 in omega (arith, l))
+  | inl f ↦ elim (or_cases (is_in 65 90 b) (is_in 97 122 b) f) [
+    | inl g ↦ (let l = leb-true b 90 (and_parts (nat_le 65 b) (nat_le b 90) g).1 in omega (arith, l))
     | inr g ↦ (let l = leb-true b 122 (and_parts (nat_le 97 b) (nat_le b 122) g).1 in omega (arith, l))
   ]
   | inr f ↦ (let l = eqb-true b 95 f in omega (arith, l))
@@ -156,9 +155,9 @@ letter_form b e bs =
 
 mark_byte : (b : ℕ) → (is_letter b || is_mark b) ≡ true → is_name_byte b ≡ true
 mark_byte b e = elim (or_cases (is_letter b) (is_mark b) e) [
-  inl f ↦ or_left (is_opening b) (is_digit b) (and_parts (not (is_space b)) (is_opening b) (letter_opens b f)).1
+  | inl f ↦ or_left (is_opening b) (is_digit b) (and_parts (not (is_space b)) (is_opening b) (letter_opens b f)).1
   | inr f ↦ elim (or_cases (is_in 48 57 b) (nat_eq b 95) f) [
-    inl g ↦ or_right (is_opening b) (is_digit b) g
+    | inl g ↦ or_right (is_opening b) (is_digit b) g
     | inr g ↦ (let l : b ≡ 95 = eqb-true b 95 g in rw l refl)
   ]
 ]
@@ -209,11 +208,13 @@ hex_number b e = go (is_number_byte b) refl
   where
     test : ℕ → Bool
     test z = not (is_hex_digit z) || is_number_byte z
+
     small : b < 128
     small = elim (or_cases (is_in 48 57 b) (is_in 97 102 b) e) [
-      inl g ↦ (let l = leb-true b 57 (and_parts (nat_le 48 b) (nat_le b 57) g).1 in omega (arith, l))
+      | inl g ↦ (let l = leb-true b 57 (and_parts (nat_le 48 b) (nat_le b 57) g).1 in omega (arith, l))
       | inr g ↦ (let l = leb-true b 102 (and_parts (nat_le 97 b) (nat_le b 102) g).1 in omega (arith, l))
     ]
+
     go : (v : Bool) → is_number_byte b ≡ v → is_number_byte b ≡ true
     go true f = f
     go false f = absurd (true≢false (sym (agree_below_at (λ z. not (is_hex_digit z) || is_number_byte z) (λ z. true) 128 b refl small) ∙ ap (λ z. not z || is_number_byte b) e ∙ f))

@@ -1,18 +1,14 @@
 -- What a valid net says of its parts.
-use Rattle.std.proofs.Common.{◌≡◌, ◌≢◌, ℕ, zero, suc, ◌<◌, List, [], ◌∷◌, ◌++◌, length, map, get_or, refl, ap, sym, ◌∙◌, subst, arith, inl, inr}
-use Rattle.std.specs.Prelude.{◌⊎◌}
-use Rattle.std.proofs.lemmas.List.Kept.{AllPairs-cons}
-use Rattle.std.proofs.lemmas.List.Elements.{Contains-append_cases}
-use Rattle.std.specs.Prelude.{All, AllPairs, Contains}
-use Rattle.std.proofs.lemmas.List.Elements.{All-contains, All-from_recursion}
-use Rattle.std.proofs.lemmas.List.Elements.{Contains-append_left, Contains-append_right, All-contains_itself}
+use Rattle.std.proofs.Common.{◌++◌, map}
+use Rattle.std.specs.Prelude.{All, Contains}
+use Rattle.std.proofs.lemmas.List.Elements.{All-contains}
+use Rattle.std.proofs.lemmas.List.Elements.{Contains-append_left, Contains-append_right}
 use Rattle.ix_net.specs.declared.netlist.Net.{Net}
 use Rattle.ix_net.specs.declared.netlist.Port.{Port}
 use Rattle.ix_net.specs.declared.netlist.Cell.{Cell}
 use Rattle.ix_net.specs.declared.netlist.Bank.{Bank}
 use Rattle.ix_net.specs.Signals.{signals, cell_port, bank_port}
-use Rattle.ix_net.specs.Valid.{IsValid, IsWidth, names}
-use Rattle.ix_net.proofs.NetLemmas.{contains_from_slice_get, slice_get_from_contains, slice_get_mapped}
+use Rattle.ix_net.specs.Valid.{IsValid, IsWidth}
 use Rattle.ix_verilog.proofs.Pairs.{contains_mapped, all_of}
 
 pub input_in : (net : Net) (p : Port) → Contains net.inputs p → Contains (signals net) p

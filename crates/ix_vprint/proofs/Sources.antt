@@ -1,11 +1,9 @@
 -- A valid net as a module that is written.
-use Rattle.std.proofs.Common.{◌≡◌, ◌≢◌, ℕ, zero, suc, ◌<◌, ◌≤◌, List, [], ◌∷◌, ◌++◌, length, map, get_or, Bool, true, false, not, Option, Some, None, refl, ap, sym, ◌∙◌, subst, arith, inl, inr, cond}
-use Rattle.std.specs.Prelude.{◌⊎◌, All, AllPairs, Contains, filter, Any, codes, decimal}
+use Rattle.std.proofs.Common.{◌≡◌, ◌≢◌, ℕ, suc, List, [], ◌∷◌, ◌++◌, map, get_or, Bool, true, false, not, Some, refl, ap, sym, ◌∙◌, subst, arith, inl, inr, cond}
+use Rattle.std.specs.Prelude.{AllPairs, Contains, filter, Any}
 use Rattle.std.specs.Str.{bytes_eq}
-use Rattle.std.specs.List.{list_any, AllByRecursion}
 use Rattle.std.proofs.lemmas.Bool.{not-true, true≢false}
-use Rattle.std.proofs.lemmas.List.{map-append}
-use Rattle.std.proofs.lemmas.List.Elements.{All-contains, Contains-append_left, Contains-append_right, Contains-append_cases, Contains-get_or, filter_passes, All-from_recursion}
+use Rattle.std.proofs.lemmas.List.Elements.{All-contains, Contains-append_left, Contains-append_right, Contains-append_cases, Contains-get_or, filter_passes}
 use Rattle.std.proofs.lemmas.List.Kept.{AllPairs-filter}
 use Rattle.std.proofs.lemmas.List.Folds.{Any-from_list_any, list_any-from_Any}
 use Rattle.std.proofs.lemmas.Slice.Eq.{bytes_eq-Decides}
@@ -15,11 +13,11 @@ use Rattle.ix_net.specs.declared.netlist.Cell.{Cell}
 use Rattle.ix_net.specs.declared.netlist.Bank.{Bank}
 use Rattle.ix_net.specs.Name.{IsName}
 use Rattle.ix_net.specs.Signals.{signals, cell_port, bank_port, width_of}
-use Rattle.ix_net.specs.Valid.{IsValid, IsWidth, names}
+use Rattle.ix_net.specs.Valid.{IsValid, names}
 use Rattle.ix_net.proofs.TableLemmas.{name_at_place, place_within, apart_tail}
 use Rattle.ix_net.proofs.NetLemmas.{placed_from_width}
 use Rattle.ix_vprint.specs.Printed.{is_output, inner}
-use Rattle.ix_verilog.proofs.Pairs.{contains_mapped, all_of, pairs_head, pairs_tail, pairs_cons, pairs_left, pairs_right, pairs_cross, pairs_append, mapped_back, head_case}
+use Rattle.ix_verilog.proofs.Pairs.{contains_mapped, pairs_head, pairs_tail, pairs_cons, pairs_left, pairs_right, pairs_cross, pairs_append, mapped_back, head_case}
 use Rattle.ix_vprint.proofs.Nets.{input_in, cell_in, bank_in}
 
 -- the ports of `wire` lines, of `reg` lines, and of both `output` and `wire` lines
@@ -76,12 +74,12 @@ cell_or_bank net v p q c d =
 one_port : (ps : List Port) → AllPairs Differ ps → (p q : Port) → Contains ps p → Contains ps q → p.name ≡ q.name → p ≡ q
 one_port [] h p q c d e = absurd (omega (arith, c.1))
 one_port (r ∷ ps) h p q c d e = elim (head_case r ps p c) [
-  inl a ↦ elim (head_case r ps q d) [
-    inl b ↦ sym a ∙ b
+  | inl a ↦ elim (head_case r ps q d) [
+    | inl b ↦ sym a ∙ b
     | inr b ↦ absurd (pairs_head Differ r ps h q b (ap (λ (z : Port). z.name) a ∙ e))
   ]
   | inr a ↦ elim (head_case r ps q d) [
-    inl b ↦ absurd (pairs_head Differ r ps h p a (ap (λ (z : Port). z.name) b ∙ sym e))
+    | inl b ↦ absurd (pairs_head Differ r ps h p a (ap (λ (z : Port). z.name) b ∙ sym e))
     | inr b ↦ one_port ps (pairs_tail Differ r ps h) p q a b e
   ]
 ]
@@ -90,7 +88,7 @@ one_port (r ∷ ps) h p q c d e = elim (head_case r ps p c) [
 contains_filter : {X : Type 0} (t : X → Bool) (xs : List X) (x : X) → Contains xs x → t x ≡ true → Contains (filter t xs) x
 contains_filter t [] x c e = absurd (omega (arith, c.1))
 contains_filter t (y ∷ xs) x c e = elim (head_case y xs x c) [
-  inl a ↦ (let b : t y ≡ true = ap t a ∙ e in rw b (0, omega arith, a))
+  | inl a ↦ (let b : t y ≡ true = ap t a ∙ e in rw b (0, omega arith, a))
   | inr a ↦ go (t y) (contains_filter t xs x a e)
 ]
   where
@@ -104,7 +102,7 @@ filter_contains t (y ∷ xs) x c = go (t y) (filter_contains t xs x) c
   where
     go : (b : Bool) → (Contains (filter t xs) x → Contains xs x) → Contains (cond b (y ∷ filter t xs) (filter t xs)) x → Contains (y ∷ xs) x
     go true f k = elim (head_case y (filter t xs) x k) [
-      inl a ↦ (0, omega arith, a)
+      | inl a ↦ (0, omega arith, a)
       | inr a ↦ (let g = f a in (suc g.0, omega (arith, g.1), g.2))
     ]
     go false f k = (let g = f k in (suc g.0, omega (arith, g.1), g.2))
@@ -138,7 +136,7 @@ wire_cell net p c = mapped_back cell_port (inner net.outputs net.cells) p c
 
 pub driven_cell : (net : Net) → IsValid net → (p : Port) → Contains (driven net) p → Contains (map cell_port net.cells) p
 driven_cell net v p c = elim (Contains-append_cases net.outputs (wires net) p c) [
-  inl a ↦ output_cell net v p a
+  | inl a ↦ output_cell net v p a
   | inr a ↦ (let b = wire_cell net p a in
       subst (λ (q : Port). Contains (map cell_port net.cells) q) b.2 (contains_mapped cell_port net.cells b.0 (filter_contains (λ (d : Cell). not (is_output net.outputs d.target)) net.cells b.0 b.1)))
 ]
@@ -153,11 +151,11 @@ names_of ps p c = contains_mapped (λ (q : Port). q.name) ps p c
 -- a signal is declared
 signal_declared : (net : Net) → IsValid net → (p : Port) → Contains (signals net) p → Contains (all_declared net) p
 signal_declared net v p c = elim (Contains-append_cases (net.inputs ++ map cell_port net.cells) (map bank_port net.banks) p c) [
-  inl a ↦ Contains-append_left (net.inputs ++ driven net) (registers net) p (elim (Contains-append_cases net.inputs (map cell_port net.cells) p a) [
-      inl b ↦ Contains-append_left net.inputs (driven net) p b
-      | inr b ↦ (let d = mapped_back cell_port net.cells p b in
-          subst (λ (q : Port). Contains (net.inputs ++ driven net) q) d.2 (Contains-append_right net.inputs (driven net) (cell_port d.0) (cell_driven net v d.0 d.1)))
-    ])
+  | inl a ↦ Contains-append_left (net.inputs ++ driven net) (registers net) p (elim (Contains-append_cases net.inputs (map cell_port net.cells) p a) [
+    | inl b ↦ Contains-append_left net.inputs (driven net) p b
+    | inr b ↦ (let d = mapped_back cell_port net.cells p b in
+        subst (λ (q : Port). Contains (net.inputs ++ driven net) q) d.2 (Contains-append_right net.inputs (driven net) (cell_port d.0) (cell_driven net v d.0 d.1)))
+  ])
   | inr a ↦ Contains-append_right (net.inputs ++ driven net) (registers net) p a
 ]
 
@@ -173,8 +171,8 @@ wide_declared net v n w e =
 -- what is declared is a signal
 declared_signal : (net : Net) → IsValid net → (p : Port) → Contains (all_declared net) p → Contains (signals net) p
 declared_signal net v p c = elim (Contains-append_cases (net.inputs ++ driven net) (registers net) p c) [
-  inl a ↦ elim (Contains-append_cases net.inputs (driven net) p a) [
-    inl b ↦ input_in net p b
+  | inl a ↦ elim (Contains-append_cases net.inputs (driven net) p a) [
+    | inl b ↦ input_in net p b
     | inr b ↦ cell_in net p (driven_cell net v p b)
   ]
   | inr a ↦ bank_in net p a
@@ -194,6 +192,7 @@ wires_differ net v = mapped_cells (inner net.outputs net.cells) (AllPairs-filter
     unmapped_cells (p ∷ ps) h =
         pairs_cons (λ a b. Differ (cell_port a) (cell_port b)) p ps (λ q c. pairs_head Differ (cell_port p) (map cell_port ps) h (cell_port q) (contains_mapped cell_port ps q c))
         (unmapped_cells ps (pairs_tail Differ (cell_port p) (map cell_port ps) h))
+
     mapped_cells : (cs : List Cell) → AllPairs (λ a b. Differ (cell_port a) (cell_port b)) cs → AllPairs Differ (map cell_port cs)
     mapped_cells [] h = λ i j d l k. absurd (omega arith)
     mapped_cells (p ∷ ps) h =
@@ -220,7 +219,7 @@ fronts_apart net v =
 
 front_or_bank : (net : Net) → IsValid net → (p q : Port) → Contains (net.inputs ++ driven net) p → Contains (registers net) q → p.name ≢ q.name
 front_or_bank net v p q c d = elim (Contains-append_cases net.inputs (driven net) p c) [
-  inl a ↦ input_or_bank net v p q a d
+  | inl a ↦ input_or_bank net v p q a d
   | inr a ↦ cell_or_bank net v p q (driven_cell net v p a) d
 ]
 

@@ -1,9 +1,8 @@
 -- The words of each printed line.
-use Rattle.std.proofs.Common.{◌≡◌, ℕ, zero, suc, ◌+◌, ◌-◌, ◌<◌, ◌≤◌, ◌^◌, List, [], ◌∷◌, ◌++◌, map, refl, ap, sym, ◌∙◌, subst, append_assoc, arith, lit<}
-use Rattle.std.specs.Prelude.{All, codes, decimal, Contains}
+use Rattle.std.proofs.Common.{◌≡◌, ℕ, ◌-◌, ◌<◌, ◌≤◌, ◌^◌, List, [], ◌∷◌, ◌++◌, map, refl, sym, subst, append_assoc, arith}
+use Rattle.std.specs.Prelude.{All, codes, decimal}
 use Rattle.std.specs.List.{flat_map}
 use Rattle.std.proofs.lemmas.List.Elements.{All-head, All-tail}
-use Rattle.std.proofs.lemmas.List.Folds.{flat_map-map}
 use Rattle.std.proofs.Math.Nat.{pow-le-pow_right}
 use Rattle.ix_bits.specs.declared.number.Bits.{Bits}
 use Rattle.ix_net.specs.declared.netlist.Port.{Port}
@@ -12,12 +11,11 @@ use Rattle.ix_net.specs.declared.netlist.Bank.{Bank}
 use Rattle.ix_net.specs.declared.netlist.Form.{Form}
 use Rattle.ix_net.specs.declared.netlist.Form.TheVariants.{Hex, Copy, Add, Sub, Mul, And, Or, Xor, Not, Eq, Lt, LtSigned, Join, Range, Choose}
 use Rattle.ix_net.specs.Forms.{operands}
-use Rattle.ix_verilog.specs.declared.source.Update.{Update}
 use Rattle.ix_verilog.specs.Words.{Word, form_of, single}
-use Rattle.ix_verilog.specs.Lines.{Line, port, heading, assign, update, line_words, port_words, form_words, hex, IsNumber}
+use Rattle.ix_verilog.specs.Lines.{Line, port, assign, update, line_words, port_words, form_words, hex, IsNumber}
 use Rattle.ix_verilog.proofs.Digits.{decimal_is_number, hex_are_digits}
 use Rattle.ix_vprint.specs.Printed.{port_name, port_text, pair_text, form_text, cell_text, bank_text}
-use Rattle.ix_vprint.proofs.Laid.{Reading, Says, Run, name_run, number_run, Ends, Piece, gap, run, mark, twin, onto, said, IsLaid, laid, says_all, number_is_run, literal_is_run}
+use Rattle.ix_vprint.proofs.Laid.{Reading, Says, Run, name_run, number_run, Ends, Piece, gap, run, mark, twin, onto, said, IsLaid, laid, number_is_run, literal_is_run}
 
 -- a text that is those pieces
 pub by_pieces : (text : List ℕ) (words : List Word) (ps : List Piece) → ((y : List ℕ) → text ++ y ≡ onto ps y) → ((ws : List Word) → words ++ ws ≡ said ps ws) → ((y : List ℕ) → IsLaid ps y) → Says text words

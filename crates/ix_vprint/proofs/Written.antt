@@ -1,8 +1,8 @@
 -- A valid net is written as a module, and its text denotes it.
-use Rattle.std.proofs.Common.{◌≡◌, ◌≢◌, ℕ, zero, suc, ◌+◌, ◌<◌, ◌≤◌, List, [], ◌∷◌, ◌++◌, length, map, Option, Some, None, refl, ap, sym, ◌∙◌, subst, append_assoc, arith}
-use Rattle.std.specs.Prelude.{All, AllPairs, Contains, codes}
+use Rattle.std.proofs.Common.{◌≡◌, ℕ, ◌+◌, List, [], ◌∷◌, ◌++◌, length, map, Some, None, refl, ap, sym, ◌∙◌, subst, append_assoc}
+use Rattle.std.specs.Prelude.{All, Contains}
 use Rattle.std.specs.List.{flat_map, AllZip}
-use Rattle.std.proofs.lemmas.List.{append-nil, map-append, length-append, length-map}
+use Rattle.std.proofs.lemmas.List.{append-nil, length-append, length-map}
 use Rattle.std.proofs.lemmas.Simd.{map-map}
 use Rattle.std.proofs.lemmas.Grind.{flat_map-append}
 use Rattle.std.proofs.lemmas.List.Elements.{All-head, All-tail, All-contains, All-append, All-map, Contains-append_right}
@@ -19,15 +19,14 @@ use Rattle.ix_verilog.specs.declared.source.Assign.{Assign}
 use Rattle.ix_verilog.specs.declared.source.Update.{Update}
 use Rattle.ix_verilog.specs.declared.source.Stage.{Stage}
 use Rattle.ix_verilog.specs.declared.source.Stage.TheVariants.{Ports, Lines, Clocked, Ended}
-use Rattle.ix_verilog.specs.declared.token.Token.{Token}
-use Rattle.ix_verilog.specs.Words.{Word, Spells, spells_none, words_of}
-use Rattle.ix_verilog.specs.Lines.{Line, head, port, heading, input, output, wire, register, assign, always, update, done, finish, line_words, form_words}
-use Rattle.ix_verilog.specs.Subset.{State, start, Leads, IsShortName, MayDeclare, IsDriven, AreModules, IsNetOf, AreNamedApart, Denotes}
-use Rattle.ix_vprint.specs.Printed.{module_text, inner}
-use Rattle.ix_vprint.specs.Short.{IsShort, AreShort, HasShortNames}
+use Rattle.ix_verilog.specs.Words.{Word, Spells, spells_none}
+use Rattle.ix_verilog.specs.Lines.{heading, input, output, wire, register, done, finish, line_words}
+use Rattle.ix_verilog.specs.Subset.{State, Leads, IsShortName, MayDeclare, IsDriven, IsNetOf, AreNamedApart, Denotes}
+use Rattle.ix_vprint.specs.Printed.{module_text}
+use Rattle.ix_vprint.specs.Short.{IsShort, HasShortNames}
 use Rattle.ix_verilog.proofs.Pairs.{all_of, contains_mapped}
 use Rattle.ix_vprint.proofs.Nets.{input_widths, output_widths, input_in, cell_in, bank_in}
-use Rattle.ix_vprint.proofs.Laid.{Reading, Says, says_none, says_then, says_all}
+use Rattle.ix_vprint.proofs.Laid.{Reading, Says, says_all}
 use Rattle.ix_vprint.proofs.Spelled.{assign_of, update_of, port_of}
 use Rattle.ix_vprint.proofs.Sources.{wires, registers, driven, all_declared, Names, cell_driven, driven_cell, wide_declared, declared_named, declared_once, target_driven, target_no_input, register_named, register_alone, driven_by, register_by}
 use Rattle.ix_vprint.proofs.Followed.{leads_then, source, opened, ports_lead, inputs_lead, outputs_lead, wires_lead, registers_lead, IsOf, MayAssign, to_assign, assigns_lead, MayUpdate, to_update, updates_lead, named_all, right_side}
@@ -123,15 +122,16 @@ always_lead : (ms : List Source) (net : Net) (bs : List Bank) → All (MayUpdate
     → Leads (opened ms (source net.name (names (net.inputs ++ net.outputs)) net.inputs net.outputs (wires net) (map bank_port bs) (map to_assign net.cells) [] Lines)) (always_lines bs)
     (record { modules = ms ++ source net.name (names (net.inputs ++ net.outputs)) net.inputs net.outputs (wires net) (map bank_port bs) (map to_assign net.cells) (map to_update bs) (end_stage bs) ∷ []; open_module = None })
 always_lead ms net [] h d = ((has_ports net, d), refl)
-always_lead ms net (b ∷ bs) h d =
-    ((has_ports net, λ e. cc),
-      leads_then
+always_lead ms net (b ∷ bs) h d = (
+  (has_ports net, λ e. cc),
+  leads_then
       (opened ms (source net.name (names (net.inputs ++ net.outputs)) net.inputs net.outputs (wires net) (map bank_port (b ∷ bs)) (map to_assign net.cells) [] Clocked))
       (opened ms (source net.name (names (net.inputs ++ net.outputs)) net.inputs net.outputs (wires net) (map bank_port (b ∷ bs)) (map to_assign net.cells) (map to_update (b ∷ bs)) Clocked))
       (record { modules = ms ++ source net.name (names (net.inputs ++ net.outputs)) net.inputs net.outputs (wires net) (map bank_port (b ∷ bs)) (map to_assign net.cells) (map to_update (b ∷ bs)) Ended ∷ []; open_module = None })
       (map update_of (b ∷ bs)) (done ∷ finish ∷ [])
       (updates_lead ms net.name (names (net.inputs ++ net.outputs)) net.inputs net.outputs (wires net) (map bank_port (b ∷ bs)) (map to_assign net.cells) [] (b ∷ bs) h)
-      (tt, (d, refl)))
+      (tt, (d, refl)),
+)
 
 -- one group of lines behind the other
 body_lead : (ms : List Source) (net : Net) → IsValid net → HasShortNames net
@@ -157,10 +157,11 @@ module_lead ms net v s =
     let n = net.name in
     let ports = names (net.inputs ++ net.outputs) in
     let end : State = record { modules = ms ++ written net ∷ []; open_module = None } in
-    leads_then (record { modules = ms; open_module = None }) (opened ms (source n ports [] [] [] [] [] [] Lines)) end (head_lines net) (body_lines net)
-    ((v.module_named, s.name),
+    leads_then (record { modules = ms; open_module = None }) (opened ms (source n ports [] [] [] [] [] [] Lines)) end (head_lines net) (body_lines net) (
+      (v.module_named, s.name),
       leads_then (opened ms (source n [] [] [] [] [] [] [] Ports)) (opened ms (source n ports [] [] [] [] [] [] Ports)) (opened ms (source n ports [] [] [] [] [] [] Lines)) (map port_of (net.inputs ++ net.outputs)) (heading ∷ [])
-      (ports_lead ms n [] (net.inputs ++ net.outputs) (ports_short net v s)) (tt, refl))
+          (ports_lead ms n [] (net.inputs ++ net.outputs) (ports_short net v s)) (tt, refl),
+    )
     (body_lead ms net v s)
 
 -- ---- the module is the net's

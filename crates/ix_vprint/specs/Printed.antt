@@ -1,5 +1,5 @@
 -- The printed form of nets: a line for each item, two spaces before it, four within `begin` (this project's choice).
-use Rattle.std.specs.Prelude.{ℕ, ◌-◌, List, [], ◌∷◌, ◌++◌, map, filter, Bool, not, codes, decimal}
+use Rattle.std.specs.Prelude.{ℕ, ◌-◌, List, [], ◌∷◌, ◌++◌, filter, Bool, not, codes, decimal}
 use Rattle.std.specs.List.{flat_map, list_any}
 use Rattle.std.specs.Str.{bytes_eq}
 use Rattle.ix_net.specs.declared.netlist.Port.{Port}

@@ -1,4 +1,4 @@
-use Rattle.std.proofs.Common.{refl, ap}
+use Rattle.std.proofs.Common.{ap}
 use Rattle.ix_vlex.proofs.Parts.{front_at, space_front, name_front, number_front, space_at, name_at, number_at}
 use Rattle.ix_vlex.specs.declared.part.Found.{Found}
 use Rattle.ix_vlex.proofs.part.part.Goals as goal

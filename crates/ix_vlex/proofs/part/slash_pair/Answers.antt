@@ -1,4 +1,4 @@
-use Rattle.std.proofs.Common.{refl, ap, ◌+◌, length}
+use Rattle.std.proofs.Common.{ap, ◌+◌}
 use Rattle.ix_vlex.proofs.Parts.{front_at, line_form, line_front, single_front, lone_slash}
 use Rattle.ix_vlex.specs.declared.part.Found.{Found}
 use Rattle.ix_vlex.proofs.part.slash_pair.Goals as goal

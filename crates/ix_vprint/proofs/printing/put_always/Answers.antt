@@ -1,4 +1,3 @@
-use Rattle.std.proofs.Common.{arith}
 use Rattle.std.proofs.lemmas.Result.{on_ok_weaker}
 use Rattle.ix_vprint.proofs.Texts.{banks_done}
 use Rattle.ix_vprint.proofs.printing.put_always.Goals as goal

@@ -1,9 +1,8 @@
-use Rattle.std.proofs.Common.{◌≡◌, ◌++◌, take, map}
-use Rattle.std.specs.Prelude.{All, codes}
+use Rattle.std.proofs.Common.{◌≡◌, ◌++◌, take}
+use Rattle.std.specs.Prelude.{All}
 use Rattle.std.specs.List.{flat_map}
-use Rattle.ix_net.specs.Valid.{IsWidth, IsValid}
-use Rattle.ix_net.specs.Signals.{bank_port}
-use Rattle.ix_vprint.specs.Printed.{port_name, ports_text, port_text, wires_text, registers_text, cell_text, bank_text, module_text}
+use Rattle.ix_net.specs.Valid.{IsWidth}
+use Rattle.ix_vprint.specs.Printed.{port_text}
 use Rattle.ix_vprint.proofs.printing.put_ports.Given as goal
 
 abbrev pub invariant-loop-port : goal.invariant-loop-port
