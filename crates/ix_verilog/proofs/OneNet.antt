@@ -113,7 +113,7 @@ hex_same (suc n) x y h k e =
       ]
     ]
 
-raw_small : (d : Bits) → d.raw < 16 ^ 32
+pub raw_small : (d : Bits) → d.raw < 16 ^ 32
 raw_small d =
     let two : 0 < 2 = omega arith in
     let p : 2 ^ d.width ≤ 2 ^ 128 = pow-le-pow_right {n = 2} two d.most_width in
@@ -304,7 +304,7 @@ named_all : (net : Net) → IsValid net → (ns : List Word) → AllByRecursion 
 named_all net v [] h = tt
 named_all net v (n ∷ ns) h = (wide_named net v n h.0.0 h.0.1, named_all net v ns h.1)
 
-small_form : (net : Net) → IsValid net → (f : Form) (w : ℕ) → Fits (width_of (signals net)) w f → IsSmall f
+pub small_form : (net : Net) → IsValid net → (f : Form) (w : ℕ) → Fits (width_of (signals net)) w f → IsSmall f
 small_form net v (Hex d) w h = tt
 small_form net v (Copy a) w h = tt
 small_form net v (Add a b) w h = tt

@@ -1,7 +1,13 @@
 -- What follows from the definitions: a text denotes one list of nets at most, or leaves the subset at one byte.
 use Rattle.std.specs.Prelude.{◌≡◌, ℕ, List}
 use Rattle.ix_net.specs.declared.netlist.Net.{Net}
+use Rattle.ix_verilog.specs.declared.token.Token.{Token}
+use Rattle.ix_verilog.specs.Words.{Spells}
 use Rattle.ix_verilog.specs.Subset.{Denotes, LeavesAt}
+
+-- no text has two lists of words
+abbrev pub OneSpelling : Type 0
+OneSpelling = (text : List ℕ) (tokens others : List Token) → Spells 0 text tokens → Spells 0 text others → tokens ≡ others
 
 -- no text denotes two lists of nets
 abbrev pub OneDenotation : Type 0

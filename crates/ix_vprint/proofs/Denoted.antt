@@ -1,9 +1,8 @@
 -- The printed text of valid nets denotes them.
-use Rattle.std.proofs.Common.{◌≡◌, ℕ, ◌≤◌, List, [], ◌∷◌, ◌++◌, map, get_or, Some, refl, ap, sym, ◌∙◌, subst, append_assoc, arith}
+use Rattle.std.proofs.Common.{◌≡◌, ℕ, ◌≤◌, List, [], ◌∷◌, ◌++◌, map, Some, refl, ap, sym, ◌∙◌, subst, append_assoc}
 use Rattle.std.specs.Prelude.{All, Contains, codes}
 use Rattle.std.specs.List.{flat_map}
 use Rattle.std.proofs.lemmas.Simd.{map-map}
-use Rattle.std.proofs.lemmas.Option.{same_Some}
 use Rattle.std.proofs.lemmas.List.Folds.{flat_map-map}
 use Rattle.std.proofs.lemmas.Grind.{flat_map-append}
 use Rattle.std.proofs.lemmas.List.Elements.{All-contains, All-append, All-map, All-from_recursion, Contains-append_left, Contains-append_right}
@@ -11,21 +10,19 @@ use Rattle.ix_net.specs.declared.netlist.Net.{Net}
 use Rattle.ix_net.specs.declared.netlist.Port.{Port}
 use Rattle.ix_net.specs.declared.netlist.Cell.{Cell}
 use Rattle.ix_net.specs.declared.netlist.Bank.{Bank}
-use Rattle.ix_net.specs.declared.netlist.Form.{Form}
-use Rattle.ix_net.specs.declared.netlist.Form.TheVariants.{Hex, Copy, Add, Sub, Mul, And, Or, Xor, Not, Eq, Lt, LtSigned, Join, Range, Choose}
 use Rattle.ix_net.specs.Name.{IsName}
 use Rattle.ix_net.specs.Forms.{operands, Fits}
 use Rattle.ix_net.specs.Valid.{IsValid, IsWidth, names}
 use Rattle.ix_net.specs.Signals.{signals, cell_port, bank_port, width_of}
-use Rattle.ix_net.proofs.NetLemmas.{fits_operands, HasWidth, placed_from_width}
-use Rattle.ix_net.proofs.TableLemmas.{place_within, width_at_place}
+use Rattle.ix_net.proofs.NetLemmas.{fits_operands, HasWidth}
 use Rattle.ix_verilog.specs.Words.{Word}
 use Rattle.ix_verilog.specs.Lines.{Line, head, heading, input, output, wire, register, always, done, finish, line_words}
+use Rattle.ix_verilog.proofs.OneNet.{IsSmall, small_form}
 use Rattle.ix_vprint.specs.Printed.{port_name, head_text, port_text, ports_text, wires_text, registers_text, cell_text, bank_text, always_text, lines_text, module_text, inner}
 use Rattle.ix_verilog.proofs.Pairs.{all_of, contains_mapped}
 use Rattle.ix_vprint.proofs.Nets.{input_in, cell_in, bank_in}
 use Rattle.ix_vprint.proofs.Laid.{Reading, Says, Run, name_run, gap, run, mark, onto, laid, says_then, says_all, name_is_run}
-use Rattle.ix_vprint.proofs.Spelled.{AreRuns, are_runs, IsSmall, assign_of, update_of, port_of, by_pieces, cell_says, bank_says, port_says, ports_rest}
+use Rattle.ix_vprint.proofs.Spelled.{AreRuns, are_runs, assign_of, update_of, port_of, by_pieces, cell_says, bank_says, port_says, ports_rest}
 use Rattle.ix_vprint.proofs.Sources.{wires, registers, all_declared, Names, driven_cell, wide_declared, declared_named}
 
 -- ---- the lines of a net
@@ -58,32 +55,6 @@ operand_names net v c h =
 operand_runs : (net : Net) → IsValid net → (c : Cell) → Contains net.cells c → AreRuns (operands c.form)
 operand_runs net v c h =
     are_runs (operands c.form) (all_of Run (operands c.form) (λ n k. name_is_run n (declared_named net v n (All-contains (Names (all_declared net)) (operands c.form) n (operand_names net v c h) k))))
-
--- the width of a declared name
-declared_wide : (net : Net) → IsValid net → (n : List ℕ) (w : ℕ) → width_of (signals net) n ≡ Some w → w ≤ 128
-declared_wide net v n w e =
-    let k = placed_from_width (signals net) n w e in
-    let d : Port = record { name = n; width = w } in
-    let f : IsWidth (get_or (signals net) k.0 d).width = v.widths k.0 d (place_within (signals net) n k.0 k.1) in
-    let same : w ≡ (get_or (signals net) k.0 d).width = same_Some w (get_or (signals net) k.0 d).width (sym e ∙ width_at_place (signals net) n k.0 d k.1) in
-    omega (arith, same, f.most)
-
-small_form : (net : Net) → IsValid net → (f : Form) (w : ℕ) → Fits (width_of (signals net)) w f → IsSmall f
-small_form net v (Hex d) w h = tt
-small_form net v (Copy a) w h = tt
-small_form net v (Add a b) w h = tt
-small_form net v (Sub a b) w h = tt
-small_form net v (Mul a b) w h = tt
-small_form net v (And a b) w h = tt
-small_form net v (Or a b) w h = tt
-small_form net v (Xor a b) w h = tt
-small_form net v (Not a) w h = tt
-small_form net v (Eq a b) w h = tt
-small_form net v (Lt a b) w h = tt
-small_form net v (LtSigned a b) w h = tt
-small_form net v (Join a b) w h = tt
-small_form net v (Range a hi lo) w h = (let k = declared_wide net v a h.0 h.1 in (omega (arith, k, h.3), omega (arith, k, h.2, h.3)))
-small_form net v (Choose c a b) w h = tt
 
 pub cell_small : (net : Net) → IsValid net → (c : Cell) → Contains net.cells c → IsSmall c.form
 cell_small net v c h = small_form net v c.form c.width (All-contains (λ (d : Cell). Fits (width_of (signals net)) d.width d.form) net.cells c v.cells_fit h)

@@ -20,7 +20,8 @@ use Rattle.ix_verilog.specs.Words.{Word}
 use Rattle.ix_verilog.specs.Lines.{Line, input, output, wire, register, form_words, IsRight, literal, copy, both, turned, signed, joined, range, choice, hex, operators}
 use Rattle.ix_verilog.specs.Subset.{State, Leads, after, IsShortName, MayDeclare, IsOperand}
 use Rattle.ix_verilog.proofs.Digits.{decimal_is_number, hex_are_digits}
-use Rattle.ix_vprint.proofs.Spelled.{IsSmall, assign_of, update_of, port_of, raw_small}
+use Rattle.ix_verilog.proofs.OneNet.{IsSmall, raw_small}
+use Rattle.ix_vprint.proofs.Spelled.{assign_of, update_of, port_of}
 use Rattle.ix_net.proofs.NetLemmas.{contains_from_slice_get}
 use Rattle.ix_vprint.proofs.Sources.{Names}
 

@@ -1,10 +1,8 @@
 -- The words of each printed line.
-use Rattle.std.proofs.Common.{◌≡◌, ℕ, ◌-◌, ◌<◌, ◌≤◌, ◌^◌, List, [], ◌∷◌, ◌++◌, map, refl, sym, subst, append_assoc, arith}
+use Rattle.std.proofs.Common.{◌≡◌, ℕ, ◌-◌, ◌≤◌, List, [], ◌∷◌, ◌++◌, map, refl, sym, subst, append_assoc, arith}
 use Rattle.std.specs.Prelude.{All, codes, decimal}
 use Rattle.std.specs.List.{flat_map}
 use Rattle.std.proofs.lemmas.List.Elements.{All-head, All-tail}
-use Rattle.std.proofs.Math.Nat.{pow-le-pow_right}
-use Rattle.ix_bits.specs.declared.number.Bits.{Bits}
 use Rattle.ix_net.specs.declared.netlist.Port.{Port}
 use Rattle.ix_net.specs.declared.netlist.Cell.{Cell}
 use Rattle.ix_net.specs.declared.netlist.Bank.{Bank}
@@ -13,6 +11,7 @@ use Rattle.ix_net.specs.declared.netlist.Form.TheVariants.{Hex, Copy, Add, Sub, 
 use Rattle.ix_net.specs.Forms.{operands}
 use Rattle.ix_verilog.specs.Words.{Word, form_of, single}
 use Rattle.ix_verilog.specs.Lines.{Line, port, assign, update, line_words, port_words, form_words, hex, IsNumber}
+use Rattle.ix_verilog.proofs.OneNet.{IsSmall, raw_small}
 use Rattle.ix_verilog.proofs.Digits.{decimal_is_number, hex_are_digits}
 use Rattle.ix_vprint.specs.Printed.{port_name, port_text, pair_text, form_text, cell_text, bank_text}
 use Rattle.ix_vprint.proofs.Laid.{Reading, Says, Run, name_run, number_run, Ends, Piece, gap, run, mark, twin, onto, said, IsLaid, laid, number_is_run, literal_is_run}
@@ -43,17 +42,6 @@ AreRuns (n ∷ ns) = Run n × AreRuns ns
 pub are_runs : (ns : List Word) → All Run ns → AreRuns ns
 are_runs [] h = tt
 are_runs (n ∷ ns) h = (All-head Run n ns h, are_runs ns (All-tail Run n ns h))
-
--- the numbers are small
-abbrev pub IsSmall : Form → Type 0
-IsSmall (Range a hi lo) = (hi < 2 ^ 64) × (lo < 2 ^ 64)
-IsSmall form = Unit {0}
-
-pub raw_small : (d : Bits) → d.raw < 16 ^ 32
-raw_small d =
-    let two : 0 < 2 = omega arith in
-    let p : 2 ^ d.width ≤ 2 ^ 128 = pow-le-pow_right {n = 2} two d.most_width in
-    omega (arith, p, d.in_width)
 
 pub form_says : (f : Form) → AreRuns (operands f) → IsSmall f → Says (form_text f) (form_words f ++ codes ";" ∷ [])
 form_says (Hex d) r s =

@@ -1,6 +1,11 @@
 use Rattle.ix_verilog.proofs.OneNet.{one_denotation, denoted_stays}
+use Rattle.std.proofs.Common.{refl}
+use Rattle.ix_verilog.proofs.OneSpelling.{one_spelling}
 use Rattle.ix_verilog.proofs.OneReading.{leaves_once}
 use Rattle.ix_verilog.proofs.laws.subset_laws.Goals as goal
+
+pub returns-clause-spelling : goal.returns-clause-spelling
+returns-clause-spelling c = λ text tokens others a b. one_spelling a text refl b
 
 pub returns-clause-denotation : goal.returns-clause-denotation
 returns-clause-denotation c = one_denotation
