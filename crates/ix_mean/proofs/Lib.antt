@@ -11,3 +11,4 @@ pub mod Effecting
 pub mod Fields
 pub mod Resolvings
 pub mod Steps
+pub mod GraphMeanings

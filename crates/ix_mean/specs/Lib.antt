@@ -9,3 +9,4 @@ pub mod ByName
 pub mod Resolving
 pub mod EffectByName
 pub mod ResolvingStatements
+pub mod GraphValues
