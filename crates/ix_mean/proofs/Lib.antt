@@ -12,3 +12,4 @@ pub mod Fields
 pub mod Resolvings
 pub mod Steps
 pub mod GraphMeanings
+pub mod Ordering

@@ -10,3 +10,4 @@ pub mod Resolving
 pub mod EffectByName
 pub mod ResolvingStatements
 pub mod GraphValues
+pub mod Order
