@@ -17,6 +17,7 @@ use ix_parse_state::frame::{
     StmtFrame, TypeFrame,
 };
 use ix_parse_state::look::{copy, expect, is_symbol, is_word, level, nest};
+use ix_parse_state::node::between;
 use ix_parse_state::part::Part;
 use ix_parse_state::reader::{in_expr, in_stmt, in_text};
 use ix_parse_state::settle::settle_stmt;
@@ -225,10 +226,7 @@ fn after_behavior(instr: OpenInstr, stmt: Stmt, token: &Token) -> Result<Reader,
         name,
         pieces,
     } = instr;
-    let span = Span {
-        from: first.span.from,
-        to: token.span.to,
-    };
+    let span = between(&first, token);
     drop(first);
     let whole = Instr {
         span,

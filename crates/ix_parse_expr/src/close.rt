@@ -1,5 +1,4 @@
 ghost use Rattle.std.specs.Prelude.{◌≡◌, ℕ, [], ◌∷◌, ◌++◌, map, IfOk};
-ghost use Rattle.ix_tree.specs.Trees.{between};
 ghost use Rattle.ix_tree.specs.View.{view, view_place, view_assign};
 ghost use Rattle.ix_tree.specs.Productions.{place_x, place_mem, place_mem_range, assign_set};
 ghost use Rattle.ix_tree.specs.Machine.{go, want, close, f_round, f_index, f_range, f_then, f_x, f_mem, f_mem_range, f_if, f_start, f_test, f_entries};
@@ -15,7 +14,7 @@ use ix_parse_state::frame::{
     AssignFrame, ClosingFrame, Frame, NamedState, OpenLoop, OperatorFrame, StmtFrame,
 };
 use ix_parse_state::look::{expect, is_symbol, level, nest};
-use ix_parse_state::node::{index, range, round};
+use ix_parse_state::node::{between, index, range, round};
 use ix_parse_state::part::Part;
 use ix_parse_state::reader::{in_assign, in_expr, in_stmt, in_text};
 use ix_parse_state::sign::{CLOSE_BRACE, CLOSE_ROUND, CLOSE_SQUARE, COLON, COMMA, SEMICOLON};
@@ -365,16 +364,6 @@ fn mem_range_place(word: &Token, high: Part, low: Part, last: &Token) -> Lvalue
     Lvalue {
         span: between(word, last),
         kind: LvalueKind::Mem(high.tree, Some(low.tree)),
-    }
-}
-
-/// From the first byte of one token to the last of another.
-fn between(first: &Token, last: &Token) -> Span
-    ensures { result ≡ between first.now last.now }
-{
-    Span {
-        from: first.span.from,
-        to: last.span.to,
     }
 }
 

@@ -10,6 +10,7 @@ use ix_bits::{List, Memory, Name};
 use ix_parse_state::block::locals;
 use ix_parse_state::frame::{DeclFrame, Frame, NamedState, OpenState};
 use ix_parse_state::look::{is_symbol, level};
+use ix_parse_state::node::between;
 use ix_parse_state::part::Part;
 use ix_parse_state::reader::{in_stmt, in_text};
 use ix_parse_state::sign::{COMMA, SEMICOLON};
@@ -169,10 +170,7 @@ fn register(first: &Token, ty: TypeText, name: Name, value: Option<Part>, last: 
         Some(part) => Some(part.tree),
     };
     State {
-        span: Span {
-            from: first.span.from,
-            to: last.span.to,
-        },
+        span: between(first, last),
         name,
         ty,
         kind: StateKind::Register(value),

@@ -12,7 +12,10 @@ use ix_bits::{BinOp, Bits, Memory, Name, Ty};
 use ix_parse_state::frame::{AssignFrame, ClosingFrame, Frame};
 use ix_parse_state::look::{copy, is_symbol, level, nest};
 use ix_parse_state::reader::{in_assign, in_expr};
-use ix_parse_state::sign::{MEM, MINUS_MINUS, PC, PLUS_PLUS, X};
+use ix_parse_state::sign::{
+    AND_EQUALS, EQUALS, LEFT_EQUALS, MEM, MINUS_EQUALS, MINUS_MINUS, OR_EQUALS, PC, PLUS_EQUALS,
+    PLUS_PLUS, RIGHT_EQUALS, TIMES_EQUALS, X, XOR_EQUALS,
+};
 use ix_parse_state::stack::{pop, push};
 use ix_parse_state::state::{AssignGoal, ExprGoal, Reader};
 use ix_parse_state::stop::Stop;
@@ -214,15 +217,15 @@ fn assign_of(token: &Token) -> Option<Option<BinOp>>
 {
     match &token.kind {
         TokenKind::Symbol(n) => match *n {
-            10 => Some(None),
-            11 => Some(Some(BinOp::Add)),
-            12 => Some(Some(BinOp::Sub)),
-            13 => Some(Some(BinOp::Mul)),
-            14 => Some(Some(BinOp::And)),
-            15 => Some(Some(BinOp::Or)),
-            16 => Some(Some(BinOp::Xor)),
-            17 => Some(Some(BinOp::Shl)),
-            18 => Some(Some(BinOp::Shr)),
+            EQUALS => Some(None),
+            PLUS_EQUALS => Some(Some(BinOp::Add)),
+            MINUS_EQUALS => Some(Some(BinOp::Sub)),
+            TIMES_EQUALS => Some(Some(BinOp::Mul)),
+            AND_EQUALS => Some(Some(BinOp::And)),
+            OR_EQUALS => Some(Some(BinOp::Or)),
+            XOR_EQUALS => Some(Some(BinOp::Xor)),
+            LEFT_EQUALS => Some(Some(BinOp::Shl)),
+            RIGHT_EQUALS => Some(Some(BinOp::Shr)),
             _ => None,
         },
         _ => None,

@@ -9,13 +9,14 @@ use crate::section::end_section;
 use ix_bits::{List, Name};
 use ix_parse_state::frame::{ClosingFrame, Frame, NamedState, Open, OpenState, TypeFrame};
 use ix_parse_state::look::{copy, is_symbol, is_word};
+use ix_parse_state::node::between;
 use ix_parse_state::reader::{behind, in_text, in_type};
 use ix_parse_state::sign::{CLOSE_BRACE, CONST, REGISTER, SEMICOLON};
 use ix_parse_state::stack::single;
 use ix_parse_state::state::{ExprGoal, Fixed, Goal, Place, Reader, TextGoal, TypeGoal};
 use ix_parse_state::stop::Stop;
 use ix_parse_state::types::begin_type;
-use ix_tree::{Expr, SectionKind, Span, State, StateKind, Token, TokenKind, TypeText};
+use ix_tree::{Expr, SectionKind, State, StateKind, Token, TokenKind, TypeText};
 use std::alloc::Global;
 
 /// What goes on where a register or a table may begin.
@@ -122,10 +123,7 @@ fn whole_table(
     ensures { view_state result ≡ table_tree first ty name length (map view entries) last.now }
 {
     State {
-        span: Span {
-            from: first.span.from,
-            to: last.span.to,
-        },
+        span: between(&first, last),
         name,
         ty,
         kind: StateKind::Table { length, entries },

@@ -7,6 +7,7 @@ ghost use Rattle.ix_parse_state.specs.Moves.{Moves};
 use ix_bits::{Bits, Memory, Name};
 use ix_parse_state::frame::{BodyFrame, Frame, OpenInstr};
 use ix_parse_state::look::{copy, is_symbol, is_word};
+use ix_parse_state::node::between;
 use ix_parse_state::reader::{behind, in_instr};
 use ix_parse_state::sign::{
     ASSEMBLY, BEHAVIOR, CLOSE_BRACE, CLOSE_SQUARE, COLON, COMMA, DOUBLE_COLON, OPEN_BRACE,
@@ -15,7 +16,7 @@ use ix_parse_state::sign::{
 use ix_parse_state::stack::single;
 use ix_parse_state::state::{Fixed, Goal, InstrGoal, Place, Reader, StmtGoal};
 use ix_parse_state::stop::Stop;
-use ix_tree::{PieceKind, PieceText, Span, Token, TokenKind};
+use ix_tree::{PieceKind, PieceText, Token, TokenKind};
 use std::alloc::Global;
 
 /// What the token leads to in an instruction.
@@ -85,10 +86,7 @@ fn field_piece(first: Token, name: Name, hi: u128, lo: u128, last: &Token) -> Pi
     ensures { result ≡ field_piece first name hi lo last.now }
 {
     PieceText {
-        span: Span {
-            from: first.span.from,
-            to: last.span.to,
-        },
+        span: between(&first, last),
         kind: PieceKind::Field { name, hi, lo },
     }
 }

@@ -9,6 +9,7 @@ use crate::entry::{after_register, begin_state, table_end, table_length};
 use ix_bits::{List, Memory, Name};
 use ix_parse_state::frame::{BodyFrame, Frame, Open, OpenAlways, OpenInstr};
 use ix_parse_state::look::{copy, is_symbol, is_word};
+use ix_parse_state::node::between;
 use ix_parse_state::reader::{behind, in_stmt, in_text};
 use ix_parse_state::sign::{
     ALWAYS, ARCHITECTURAL_STATE, CLOSE_BRACE, INSTRUCTION_SET, INSTRUCTIONS, OPEN_BRACE,
@@ -16,7 +17,7 @@ use ix_parse_state::sign::{
 use ix_parse_state::stack::single;
 use ix_parse_state::state::{Fixed, InstrGoal, Place, Reader, StmtGoal, TextGoal};
 use ix_parse_state::stop::Stop;
-use ix_tree::{BlockText, Instr, Section, SectionKind, Span, Token, TokenKind, Tree};
+use ix_tree::{BlockText, Instr, Section, SectionKind, Token, TokenKind, Tree};
 use std::alloc::Global;
 
 /// What the token leads to in the text and its sections.
@@ -116,10 +117,7 @@ fn whole_text(first: Token, name: Name, sections: List<Section>, last: &Token) -
     ensures { view_tree result ≡ text_tree first name (map view_section sections) last.now }
 {
     Tree {
-        span: Span {
-            from: first.span.from,
-            to: last.span.to,
-        },
+        span: between(&first, last),
         name,
         sections,
     }
@@ -130,10 +128,7 @@ fn whole_section(word: &Token, kind: SectionKind, last: &Token) -> Section
     ensures { view_section result ≡ section_tree word.now (view_section_kind kind) last.now }
 {
     Section {
-        span: Span {
-            from: word.span.from,
-            to: last.span.to,
-        },
+        span: between(word, last),
         kind,
     }
 }

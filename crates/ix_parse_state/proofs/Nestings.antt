@@ -31,8 +31,8 @@ both_deep (Err Deep) (go m z) (go n y) d h = d.1
 both_deep (Err Memory) a b d h = tt
 
 pub deep_if : (b : Bool) (p q r s : Next) → BothDeep p q → BothDeep r s → BothDeep (if b then p else r) (if b then q else s)
-pub deep_if true p q r s g h = g
-pub deep_if false p q r s g h = h
+deep_if true p q r s g h = g
+deep_if false p q r s g h = h
 
 pub deep_only : (b : Bool) (m n : ℕ) (z y : State) → 64 < m → 64 < n → BothDeep (only b m z) (only b n y)
 deep_only true m n z y g h = (g, h)

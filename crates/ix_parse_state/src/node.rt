@@ -1,5 +1,5 @@
 ghost use Rattle.std.specs.Prelude.{◌≡◌, IfOk};
-ghost use Rattle.ix_tree.specs.Trees.{p_primary, p_unary, p_cast, p_binary, p_round, p_index, p_range, p_choose};
+ghost use Rattle.ix_tree.specs.Trees.{between, p_primary, p_unary, p_cast, p_binary, p_round, p_index, p_range, p_choose};
 ghost use Rattle.ix_tree.specs.View.{view};
 ghost use Rattle.ix_parse_state.specs.Parts.{part_of};
 
@@ -12,6 +12,16 @@ use std::alloc::Global;
 
 /// How tightly an index holds what stands before it.
 pub const INDEX_POWER: u8 = 26;
+
+/// From the first byte of one token to the last of another.
+pub fn between(first: &Token, last: &Token) -> Span
+    ensures { result ≡ between first.now last.now }
+{
+    Span {
+        from: first.span.from,
+        to: last.span.to,
+    }
+}
 
 /// An expression that is one token.
 pub fn leaf(token: &Token, tree: Expr) -> Part

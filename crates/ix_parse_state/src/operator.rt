@@ -7,11 +7,12 @@ ghost use Rattle.ix_tree.specs.View.{view, view_option};
 ghost use Rattle.ix_tree.specs.Machine.{unary_of, primary, word_primary};
 
 use crate::look::is_symbol;
-use crate::sign::{BANG, DOUBLE_COLON, MINUS, TILDE};
+use crate::sign::{BANG, DOUBLE_COLON, FALSE, MEM, MINUS, PC, TILDE, TRUE, X};
 use ix_bits::{BinOp, Bits, Memory, Name, Ty, UnOp};
 use ix_tree::{Expr, ExprKind, Span, Token, TokenKind};
 use std::alloc::Global;
 
+/// The number of `||`, the first symbol of the table of operators.
 const FIRST_OPERATOR: u8 = 22;
 
 /// How tightly each symbol holds what stands before it.
@@ -123,11 +124,11 @@ fn word_primary(span: Span, number: u8) -> Option<Expr>
     ensures { view_option result ≡ word_primary span number }
 {
     let kind = match number {
-        19 => ExprKind::Pc,
-        20 => ExprKind::X,
-        21 => ExprKind::Mem,
-        22 => return Some(truth(span, true)),
-        23 => return Some(truth(span, false)),
+        PC => ExprKind::Pc,
+        X => ExprKind::X,
+        MEM => ExprKind::Mem,
+        TRUE => return Some(truth(span, true)),
+        FALSE => return Some(truth(span, false)),
         _ => return None,
     };
     Some(Expr { span, kind })

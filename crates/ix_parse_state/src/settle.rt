@@ -28,13 +28,16 @@ pub struct HadStmt {
     pub stack: Vec<Frame>,
 }
 
+/// How tightly an operator before its operand, or a cast, holds it.
+const PREFIX_POWER: u8 = 24;
+
 /// How tightly an open operator holds its operand.
 fn hold(frame: &OperatorFrame) -> u8
     ensures { result ≡ hold (operator_frame frame.now) }
 {
     match frame {
-        OperatorFrame::Unary(_, _, _) => 24,
-        OperatorFrame::Cast(_, _, _) => 24,
+        OperatorFrame::Unary(_, _, _) => PREFIX_POWER,
+        OperatorFrame::Cast(_, _, _) => PREFIX_POWER,
         OperatorFrame::Binary(operand) => power(&operand.token),
         OperatorFrame::Else(_, _, _) => 1,
     }

@@ -44,6 +44,10 @@ pub const PC: u8 = 19;
 pub const X: u8 = 20;
 /// `MEM`
 pub const MEM: u8 = 21;
+/// `true`
+pub const TRUE: u8 = 22;
+/// `false`
+pub const FALSE: u8 = 23;
 
 /// `{`
 pub const OPEN_BRACE: u8 = 0;
@@ -67,6 +71,22 @@ pub const COLON: u8 = 8;
 pub const DOUBLE_COLON: u8 = 9;
 /// `=`
 pub const EQUALS: u8 = 10;
+/// `+=`
+pub const PLUS_EQUALS: u8 = 11;
+/// `-=`
+pub const MINUS_EQUALS: u8 = 12;
+/// `*=`
+pub const TIMES_EQUALS: u8 = 13;
+/// `&=`
+pub const AND_EQUALS: u8 = 14;
+/// `|=`
+pub const OR_EQUALS: u8 = 15;
+/// `^=`
+pub const XOR_EQUALS: u8 = 16;
+/// `<<=`
+pub const LEFT_EQUALS: u8 = 17;
+/// `>>=`
+pub const RIGHT_EQUALS: u8 = 18;
 /// `++`
 pub const PLUS_PLUS: u8 = 19;
 /// `--`
