@@ -219,11 +219,19 @@ told_report files words = report_named files (report_of words)
 abbrev pub UsageAnswer : List (List ℕ) → Option (List ℕ) → Option (List ℕ) → Type 0
 UsageAnswer words before now = (command_of words ≡ None) × Appends before now (codes "refused Usage\n")
 
+-- a word behind the first names this file of this kind, and the words before it are read
+abbrev pub IsFileOf : Option NamedFiles → FileKind → List ℕ → List Slot → List (List ℕ) → Type 0
+IsFileOf files kind name slots words = AtFile files (λ found word. (found ≡ kind) × (word ≡ name)) slots words
+
 -- the count of one of the command's files rose in this call, and the refusal that names it was written
 pub record ReadFaultAnswer (files : Option NamedFiles) (words : List (List ℕ)) (counts counts_now : List ℕ → ℕ) (before now : Option (List ℕ)) : Type 0 where
   pub command : Command
+  pub kind : FileKind
+  pub name : List ℕ
   pub command_is : command_of words ≡ Some command
-  pub file : AtFile files (λ kind name. RoseIn counts counts_now name × Appends before now (file_line (codes "ReadFault") name)) (slots_of command) (behind words)
+  pub file : IsFileOf files kind name (slots_of command) (behind words)
+  pub rose : RoseIn counts counts_now name
+  pub line : Appends before now (file_line (codes "ReadFault") name)
 
 -- the sink's count rose in this call, and a front of the bytes due was written
 pub record WriteFaultAnswer (files : Option NamedFiles) (words : List (List ℕ)) (counts counts_now : List ℕ → ℕ) (before now : Option (List ℕ)) (faults faults_now : ℕ) : Type 0 where
@@ -236,23 +244,24 @@ pub record WriteFaultAnswer (files : Option NamedFiles) (words : List (List ℕ)
 -- one of the command's files has more than 1,048,576 bytes, and the refusal that names it was written
 pub record TooLongAnswer (files : Option NamedFiles) (words : List (List ℕ)) (before now : Option (List ℕ)) : Type 0 where
   pub command : Command
+  pub kind : FileKind
+  pub name : List ℕ
   pub command_is : command_of words ≡ Some command
-  pub file : AtFile files (λ kind name. IfSome (told_file files name) (λ file. most_bytes < length file) × Appends before now (file_line (codes "TooLong") name)) (slots_of command) (behind words)
+  pub file : IsFileOf files kind name (slots_of command) (behind words)
+  pub long : IfSome (told_file files name) (λ bytes. most_bytes < length bytes)
+  pub line : Appends before now (file_line (codes "TooLong") name)
 
--- this text of a file of the command is refused with this line, which was written
-pub record IsRefusedWith (files : Option NamedFiles) (kind : FileKind) (before now : Option (List ℕ)) (found : FileKind) (name : List ℕ) : Type 0 where
-  pub kind_is : found ≡ kind
-  pub bytes : List ℕ
-  pub line : List ℕ
-  pub file : IsFile files name bytes
-  pub refused : IsRefusedText kind bytes line
-  pub written : Appends before now line
-
--- one of the command's files of this kind is refused, and its refusal was written
+-- the text of one of the command's files of this kind is refused with a line, which was written
 pub record TextAnswer (files : Option NamedFiles) (words : List (List ℕ)) (kind : FileKind) (before now : Option (List ℕ)) : Type 0 where
   pub command : Command
+  pub name : List ℕ
+  pub bytes : List ℕ
+  pub line : List ℕ
   pub command_is : command_of words ≡ Some command
-  pub file : AtFile files (IsRefusedWith files kind before now) (slots_of command) (behind words)
+  pub file : IsFileOf files kind name (slots_of command) (behind words)
+  pub content : IsFile files name bytes
+  pub refused : IsRefusedText kind bytes line
+  pub written : Appends before now line
 
 -- the output of the command was written whole
 pub record OutputAnswer (files : Option NamedFiles) (words : List (List ℕ)) (before now : Option (List ℕ)) : Type 0 where
