@@ -1,0 +1,14 @@
+use Rattle.std.proofs.Common.{◌≡◌, ◌++◌, take, map}
+use Rattle.std.specs.Prelude.{All, codes}
+use Rattle.std.specs.List.{flat_map}
+use Rattle.ix_net.specs.Valid.{IsWidth, IsValid}
+use Rattle.ix_net.specs.Signals.{bank_port}
+use Rattle.ix_vprint.specs.Short.{IsShort, AreShort, HasShortNames}
+use Rattle.ix_vprint.specs.Printed.{port_name, ports_text, port_text, wires_text, registers_text, cell_text, bank_text, module_text}
+use Rattle.ix_vprint.proofs.printing.put_banks.Given as goal
+
+abbrev pub invariant-loop-bank : goal.invariant-loop-bank
+invariant-loop-bank l = record {
+  so_far : l.out.items ≡ l.initial.out.items ++ flat_map bank_text (take l.bank-index l.banks);
+  short : All (λ b. IsShort b.target) (take l.bank-index l.banks);
+}
