@@ -1,0 +1,4 @@
+pub mod Walks
+pub mod Embedded
+pub mod Listed
+pub mod ListedRows
