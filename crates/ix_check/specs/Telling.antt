@@ -111,3 +111,12 @@ cut n st = record { names = st.names; written = take n st.written; accessed = st
 abbrev pub other_branch : ℕ → State → StmtTree → Setting → Result (Step State TypedStmtTree) Refusal
 other_branch n st y g =
     and_then (in_scope (cut n st) (judged_stmt y g (cut n st))) (λ k. Ok (record { item = k.item; after = appended (drop n st.written) k.after }))
+
+-- ---- a first fault, if there is one
+abbrev pub IsFault : Option Refusal → Option Refusal → Type 0
+IsFault None o = Unit {0}
+IsFault (Some f) o = o ≡ Some f
+
+abbrev pub TellsFault : {A : Type 0} → Result A CheckErr → Option Refusal → Type 0
+TellsFault (Ok u) o = o ≡ None
+TellsFault (Err e) o = IsFault (refusal_of e) o

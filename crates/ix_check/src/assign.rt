@@ -18,14 +18,26 @@ use ix_typing::{Setting, State, Target};
 use std::alloc::Global;
 
 /// The assignment with its types: first its target, then its value, then whether the value goes into the target.
-pub fn assignment(alloc: Global, setting: Setting, state: &mut State, assign: &Assign) -> Result<TypedAssign, CheckErr>
+pub fn assignment(
+    alloc: Global,
+    setting: Setting,
+    state: &mut State,
+    assign: &Assign,
+) -> Result<TypedAssign, CheckErr>
     ensures { TellsAssign result state.new (judged_assign setting (view_assign assign.now) state.old) }
 {
     match place(alloc, setting, state, is_update(assign.op), &assign.target) {
         Err(error) => Err(error),
         Ok(place) => {
             let value = expression(alloc, setting, state, place.accessed, &assign.value);
-            assigned(state, assign.span, assign.op, span_of(&assign.value), place, value)
+            assigned(
+                state,
+                assign.span,
+                assign.op,
+                span_of(&assign.value),
+                place,
+                value,
+            )
         }
     }
 }
@@ -47,7 +59,14 @@ pub fn span_of(e: &Expr) -> Span
     e.span
 }
 
-fn assigned(state: &mut State, span: Span, op: Option<BinOp>, at: Span, place: Place, value: Result<Judged, CheckErr>) -> Result<TypedAssign, CheckErr>
+fn assigned(
+    state: &mut State,
+    span: Span,
+    op: Option<BinOp>,
+    at: Span,
+    place: Place,
+    value: Result<Judged, CheckErr>,
+) -> Result<TypedAssign, CheckErr>
     ensures { (r : Result T.Judged Refusal) → Tells value r → TellsAssign result state.new (assigned state.old span op at (seen_place place) r) }
 {
     match value {
@@ -60,7 +79,13 @@ fn assigned(state: &mut State, span: Span, op: Option<BinOp>, at: Span, place: P
 }
 
 /// Whether a value of the type `value` may be assigned to a place of the type `place`: after an operator it is cast.
-fn result_into(span: Span, op: Option<BinOp>, at: Span, place: Ty, value: Ty) -> Result<Ty, CheckErr>
+fn result_into(
+    span: Span,
+    op: Option<BinOp>,
+    at: Span,
+    place: Ty,
+    value: Ty,
+) -> Result<Ty, CheckErr>
     ensures { TellsType result (goes_into span op at place value) }
 {
     match op {
@@ -83,7 +108,13 @@ pub fn fits_into(at: Span, place: Ty, value: Ty) -> Result<Ty, CheckErr>
     }
 }
 
-fn written(state: &mut State, span: Span, op: Option<BinOp>, place: Place, value: Judged) -> Result<TypedAssign, CheckErr>
+fn written(
+    state: &mut State,
+    span: Span,
+    op: Option<BinOp>,
+    place: Place,
+    value: Judged,
+) -> Result<TypedAssign, CheckErr>
     ensures { TellsAssign result state.new (Ok (record { item = record { span = span; target = typed_place place.tree; op = op; value = typed_view value.tree }; after = behind_write state.old place.writes value.accessed })) }
 {
     match write(state, place.writes, value.accessed) {

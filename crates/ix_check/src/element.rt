@@ -24,7 +24,13 @@ use std::alloc::Global;
 const INDEX_BITS: u8 = 5;
 
 /// What stands before an index or a range: X or MEM, which are words alone, or any expression, judged before.
-pub fn word(setting: Setting, state: &State, accessed: bool, x: &Expr, judged: Result<Judged, CheckErr>) -> Result<Judged, CheckErr>
+pub fn word(
+    setting: Setting,
+    state: &State,
+    accessed: bool,
+    x: &Expr,
+    judged: Result<Judged, CheckErr>,
+) -> Result<Judged, CheckErr>
     ensures { (r : Result T.Judged Refusal) → Tells judged r → Tells result (word setting state.now accessed (view x.now) r) }
 {
     match &x.kind {
@@ -35,7 +41,14 @@ pub fn word(setting: Setting, state: &State, accessed: bool, x: &Expr, judged: R
 }
 
 /// What stands before an index: a table's name too.
-pub fn based(alloc: Global, setting: Setting, state: &State, accessed: bool, x: &Expr, judged: Result<Judged, CheckErr>) -> Result<Judged, CheckErr>
+pub fn based(
+    alloc: Global,
+    setting: Setting,
+    state: &State,
+    accessed: bool,
+    x: &Expr,
+    judged: Result<Judged, CheckErr>,
+) -> Result<Judged, CheckErr>
     ensures { (r : Result T.Judged Refusal) → Tells judged r → Tells result (based setting state.now accessed (view x.now) r) }
 {
     match &x.kind {
@@ -113,7 +126,16 @@ pub fn lies_in_destination(field: Option<Field>) -> bool
 }
 
 /// `x[i]`.
-pub fn indexed(alloc: Global, setting: Setting, state: &State, span: Span, x: &Expr, i: &Expr, base: Judged, index: Result<Judged, CheckErr>) -> Result<Judged, CheckErr>
+pub fn indexed(
+    alloc: Global,
+    setting: Setting,
+    state: &State,
+    span: Span,
+    x: &Expr,
+    i: &Expr,
+    base: Judged,
+    index: Result<Judged, CheckErr>,
+) -> Result<Judged, CheckErr>
     ensures { (r : Result T.Judged Refusal) → Tells index r → Tells result (indexed setting state.now span (view x.now) (view i.now) (seen base) r) }
 {
     match index {
@@ -125,7 +147,13 @@ pub fn indexed(alloc: Global, setting: Setting, state: &State, span: Span, x: &E
     }
 }
 
-fn element(alloc: Global, span: Span, ty: Ty, base: TypedExpr, index: Judged) -> Result<Judged, CheckErr>
+fn element(
+    alloc: Global,
+    span: Span,
+    ty: Ty,
+    base: TypedExpr,
+    index: Judged,
+) -> Result<Judged, CheckErr>
     ensures { Tells result (Ok (record { tree = t_index span ty (typed_view base) (typed_view index.tree); ty = ty; accessed = index.accessed })) }
 {
     match Box::new(alloc, base) {
@@ -145,13 +173,27 @@ fn element(alloc: Global, span: Span, ty: Ty, base: TypedExpr, index: Judged) ->
 }
 
 /// The type of `x[i]`, where x has the type `base` and i the type `ty`.
-fn element_type(setting: Setting, state: &State, span: Span, x: &Expr, i: &Expr, base: Ty, ty: Ty) -> Result<Ty, CheckErr>
+fn element_type(
+    setting: Setting,
+    state: &State,
+    span: Span,
+    x: &Expr,
+    i: &Expr,
+    base: Ty,
+    ty: Ty,
+) -> Result<Ty, CheckErr>
     ensures { TellsType result (element_type setting state.now span (view x.now) (view i.now) base ty) }
 {
     match &x.kind {
         ExprKind::X => register_type(state, span, i),
         ExprKind::Mem => loaded_type(span, 8, ty),
-        ExprKind::Name(name) => entry_or_bits(span, table(setting, state, name.as_str()), i, base, ty),
+        ExprKind::Name(name) => entry_or_bits(
+            span,
+            table(setting, state, name.as_str()),
+            i,
+            base,
+            ty,
+        ),
         _ => bits_type(span, base, constant_value(i), constant_value(i)),
     }
 }
@@ -179,7 +221,13 @@ pub fn loaded_type(span: Span, width: u8, ty: Ty) -> Result<Ty, CheckErr>
 }
 
 /// The type of `x[i]`, where x is a table or a number.
-fn entry_or_bits(span: Span, table: Option<Shape>, i: &Expr, base: Ty, ty: Ty) -> Result<Ty, CheckErr>
+fn entry_or_bits(
+    span: Span,
+    table: Option<Shape>,
+    i: &Expr,
+    base: Ty,
+    ty: Ty,
+) -> Result<Ty, CheckErr>
     ensures { TellsType result (entry_or_bits span table (view i.now) base ty) }
 {
     match table {
@@ -255,7 +303,15 @@ fn bits_between(span: Span, base: Ty, high: Value, low: Value) -> Result<Ty, Che
 }
 
 /// `x[h:l]`.
-pub fn ranged(alloc: Global, span: Span, x: &Expr, h: &Expr, l: &Expr, both: Pair, low: Result<Judged, CheckErr>) -> Result<Judged, CheckErr>
+pub fn ranged(
+    alloc: Global,
+    span: Span,
+    x: &Expr,
+    h: &Expr,
+    l: &Expr,
+    both: Pair,
+    low: Result<Judged, CheckErr>,
+) -> Result<Judged, CheckErr>
     ensures { (r : Result T.Judged Refusal) → Tells low r → Tells result (ranged span (view x.now) (view h.now) (view l.now) (seen_pair both) r) }
 {
     match low {
@@ -323,13 +379,7 @@ fn width_of_sum(op: BinOp, a: &Expr, by: &Expr, l: &Expr) -> Option<u8>
     ensures { result ≡ width_of_sum op (view a.now) (view by.now) (view l.now) }
 {
     match op {
-        BinOp::Add => {
-            if is_same(a, l) {
-                width_by(by)
-            } else {
-                None
-            }
-        }
+        BinOp::Add => { if is_same(a, l) { width_by(by) } else { None } }
         _ => None,
     }
 }

@@ -3,8 +3,8 @@ ghost use Rattle.ix_typing.specs.Expressions.{judged};
 ghost use Rattle.ix_check.specs.Telling.{Tells};
 
 use crate::CheckErr;
-use crate::judged::Judged;
 use crate::element::{based, indexed, ranged, word};
+use crate::judged::Judged;
 use crate::node::{binary, cast, choose, literal, pair, unary};
 use crate::words::{named, program_counter};
 use ix_tree::{Expr, ExprKind};

@@ -9,11 +9,15 @@ mod judged;
 mod locals;
 mod node;
 mod parts;
+mod pieces;
 mod same;
 mod statement;
+mod states;
 mod target;
 mod types;
 mod words;
 
 pub use error::CheckErr;
+pub use pieces::{declare_fields, pieces as check_pieces};
 pub use statement::statement as check_statement;
+pub use states::{globals, states as check_states};

@@ -16,7 +16,13 @@ use ix_typing::{Role, Setting, State};
 use std::alloc::Global;
 
 /// The declarations of locals of a type, each visible behind its own.
-pub fn declarations(alloc: Global, setting: Setting, state: &mut State, ty: Ty, decls: &[Decl]) -> Result<Vec<TypedDecl>, CheckErr>
+pub fn declarations(
+    alloc: Global,
+    setting: Setting,
+    state: &mut State,
+    ty: Ty,
+    decls: &[Decl],
+) -> Result<Vec<TypedDecl>, CheckErr>
     ensures { TellsDecls result state.new (judged_decls setting ty (map view_decl decls.now) state.old) }
 {
     let mut out = Vec::new(alloc);
@@ -32,7 +38,13 @@ pub fn declarations(alloc: Global, setting: Setting, state: &mut State, ty: Ty, 
     Ok(out)
 }
 
-fn declaration(alloc: Global, setting: Setting, state: &mut State, ty: Ty, decl: &Decl) -> Result<TypedDecl, CheckErr>
+fn declaration(
+    alloc: Global,
+    setting: Setting,
+    state: &mut State,
+    ty: Ty,
+    decl: &Decl,
+) -> Result<TypedDecl, CheckErr>
     ensures { TellsDecl result state.new (judged_decl setting ty (view_decl decl.now) state.old) }
 {
     match state.names.find(decl.name.as_str()) {
@@ -41,7 +53,13 @@ fn declaration(alloc: Global, setting: Setting, state: &mut State, ty: Ty, decl:
     }
 }
 
-fn valued(alloc: Global, setting: Setting, state: &mut State, ty: Ty, decl: &Decl) -> Result<TypedDecl, CheckErr>
+fn valued(
+    alloc: Global,
+    setting: Setting,
+    state: &mut State,
+    ty: Ty,
+    decl: &Decl,
+) -> Result<TypedDecl, CheckErr>
     ensures { TellsDecl result state.new (valued setting ty decl.now.span decl.now.name (view_option decl.now.value) state.old) }
 {
     match &decl.value {
@@ -53,7 +71,14 @@ fn valued(alloc: Global, setting: Setting, state: &mut State, ty: Ty, decl: &Dec
     }
 }
 
-fn initial(alloc: Global, state: &mut State, ty: Ty, decl: &Decl, at: Span, value: Result<Judged, CheckErr>) -> Result<TypedDecl, CheckErr>
+fn initial(
+    alloc: Global,
+    state: &mut State,
+    ty: Ty,
+    decl: &Decl,
+    at: Span,
+    value: Result<Judged, CheckErr>,
+) -> Result<TypedDecl, CheckErr>
     ensures { (r : Result T.Judged Refusal) → Tells value r → TellsDecl result state.new (initial decl.now.span decl.now.name ty at state.old r) }
 {
     match value {
@@ -68,7 +93,13 @@ fn initial(alloc: Global, state: &mut State, ty: Ty, decl: &Decl, at: Span, valu
     }
 }
 
-fn declare(alloc: Global, state: &mut State, ty: Ty, decl: &Decl, value: Option<TypedExpr>) -> Result<TypedDecl, CheckErr>
+fn declare(
+    alloc: Global,
+    state: &mut State,
+    ty: Ty,
+    decl: &Decl,
+    value: Option<TypedExpr>,
+) -> Result<TypedDecl, CheckErr>
     ensures { TellsDecl result state.new (Ok (declared decl.now.span decl.now.name ty (typed_option value) state.old)) }
 {
     match make_visible(alloc, state, ty, decl.name.as_str()) {

@@ -72,7 +72,12 @@ fn common_type(span: Span, a: Ty, b: Ty) -> Result<Ty, CheckErr>
 }
 
 /// An operator on one expression.
-pub fn unary(alloc: Global, span: Span, op: UnOp, x: Result<Judged, CheckErr>) -> Result<Judged, CheckErr>
+pub fn unary(
+    alloc: Global,
+    span: Span,
+    op: UnOp,
+    x: Result<Judged, CheckErr>,
+) -> Result<Judged, CheckErr>
     ensures { (r : Result T.Judged Refusal) → Tells x r → Tells result (unary span op r) }
 {
     match x {
@@ -95,7 +100,12 @@ pub fn unary(alloc: Global, span: Span, op: UnOp, x: Result<Judged, CheckErr>) -
 }
 
 /// A cast, whose written type is judged before its operand.
-pub fn cast(alloc: Global, span: Span, to: CastTo, x: Result<Judged, CheckErr>) -> Result<Judged, CheckErr>
+pub fn cast(
+    alloc: Global,
+    span: Span,
+    to: CastTo,
+    x: Result<Judged, CheckErr>,
+) -> Result<Judged, CheckErr>
     ensures { (r : Result T.Judged Refusal) → Tells x r → Tells result (cast span to r) }
 {
     match to {
@@ -140,7 +150,13 @@ fn cast_to(alloc: Global, span: Span, to: CastTo, ty: Ty, x: Judged) -> Result<J
 }
 
 /// An operator on two expressions.
-pub fn binary(alloc: Global, span: Span, op: BinOp, x: Judged, y: Result<Judged, CheckErr>) -> Result<Judged, CheckErr>
+pub fn binary(
+    alloc: Global,
+    span: Span,
+    op: BinOp,
+    x: Judged,
+    y: Result<Judged, CheckErr>,
+) -> Result<Judged, CheckErr>
     ensures { (r : Result T.Judged Refusal) → Tells y r → Tells result (binary span op (seen x) r) }
 {
     match y {
@@ -152,7 +168,14 @@ pub fn binary(alloc: Global, span: Span, op: BinOp, x: Judged, y: Result<Judged,
     }
 }
 
-fn operated(alloc: Global, span: Span, ty: Ty, op: BinOp, x: TypedExpr, y: Judged) -> Result<Judged, CheckErr>
+fn operated(
+    alloc: Global,
+    span: Span,
+    ty: Ty,
+    op: BinOp,
+    x: TypedExpr,
+    y: Judged,
+) -> Result<Judged, CheckErr>
     ensures { Tells result (Ok (record { tree = t_binary span ty op (typed_view x) (typed_view y.tree); ty = ty; accessed = y.accessed })) }
 {
     match Box::new(alloc, x) {
@@ -172,7 +195,12 @@ fn operated(alloc: Global, span: Span, ty: Ty, op: BinOp, x: TypedExpr, y: Judge
 }
 
 /// A choice between two expressions.
-pub fn choose(alloc: Global, span: Span, both: Pair, y: Result<Judged, CheckErr>) -> Result<Judged, CheckErr>
+pub fn choose(
+    alloc: Global,
+    span: Span,
+    both: Pair,
+    y: Result<Judged, CheckErr>,
+) -> Result<Judged, CheckErr>
     ensures { (r : Result T.Judged Refusal) → Tells y r → Tells result (choose span (seen_pair both) r) }
 {
     match y {

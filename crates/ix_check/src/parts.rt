@@ -14,7 +14,9 @@ use crate::judged::Branch;
 use crate::locals::declarations;
 use crate::types::written_type;
 use ix_bits::List;
-use ix_tree::{Decl, Expr, Span, TypeText, TypedAssign, TypedDecl, TypedExpr, TypedStmt, TypedStmtKind};
+use ix_tree::{
+    Decl, Expr, Span, TypeText, TypedAssign, TypedDecl, TypedExpr, TypedStmt, TypedStmtKind,
+};
 use ix_typing::{Setting, State, Targets};
 use std::alloc::Global;
 
@@ -41,7 +43,14 @@ pub fn below_spawn(setting: Setting) -> Setting
 }
 
 /// A statement of declarations.
-pub fn locals(alloc: Global, setting: Setting, state: &mut State, span: Span, text: TypeText, decls: &[Decl]) -> Result<TypedStmt, CheckErr>
+pub fn locals(
+    alloc: Global,
+    setting: Setting,
+    state: &mut State,
+    span: Span,
+    text: TypeText,
+    decls: &[Decl],
+) -> Result<TypedStmt, CheckErr>
     ensures { TellsStmt result state.new (and_then (written text.span text.kind) (λ ty. locals span text (judged_decls setting ty (map view_decl decls.now) state.old))) }
 {
     match written_type(text) {
@@ -53,7 +62,11 @@ pub fn locals(alloc: Global, setting: Setting, state: &mut State, span: Span, te
     }
 }
 
-fn locals_of(span: Span, text: TypeText, decls: Result<Vec<TypedDecl>, CheckErr>) -> Result<TypedStmt, CheckErr>
+fn locals_of(
+    span: Span,
+    text: TypeText,
+    decls: Result<Vec<TypedDecl>, CheckErr>,
+) -> Result<TypedStmt, CheckErr>
     ensures { (st : State) (r : Result (Step State (List TypedDeclTree)) Refusal) → TellsDecls decls st r → TellsStmt result st (locals span text r) }
 {
     match decls {
@@ -79,7 +92,12 @@ pub fn assign_of(span: Span, typed: Result<TypedAssign, CheckErr>) -> Result<Typ
 }
 
 /// The condition of an `if`.
-pub fn condition(alloc: Global, setting: Setting, state: &mut State, c: &Expr) -> Result<TypedExpr, CheckErr>
+pub fn condition(
+    alloc: Global,
+    setting: Setting,
+    state: &mut State,
+    c: &Expr,
+) -> Result<TypedExpr, CheckErr>
     ensures { TellsCondition result state.new (condition setting (view c.now) state.old) }
 {
     match expression(alloc, setting, state, state.accessed, c) {
@@ -92,7 +110,12 @@ pub fn condition(alloc: Global, setting: Setting, state: &mut State, c: &Expr) -
 }
 
 /// An `if` without `else`.
-pub fn choice(alloc: Global, span: Span, c: TypedExpr, x: Result<TypedStmt, CheckErr>) -> Result<TypedStmt, CheckErr>
+pub fn choice(
+    alloc: Global,
+    span: Span,
+    c: TypedExpr,
+    x: Result<TypedStmt, CheckErr>,
+) -> Result<TypedStmt, CheckErr>
     ensures { (st : State) (r : Result (Step State TypedStmtTree) Refusal) → TellsStmt x st r → TellsStmt result st (choice span (typed_view c) r) }
 {
     match x {
@@ -114,12 +137,20 @@ pub fn with_branch(c: TypedExpr, x: Result<TypedStmt, CheckErr>) -> Result<Branc
 {
     match x {
         Err(error) => Err(error),
-        Ok(first) => Ok(Branch { condition: c, first }),
+        Ok(first) => Ok(Branch {
+            condition: c,
+            first,
+        }),
     }
 }
 
 /// An `if` with both branches.
-pub fn choice_else(alloc: Global, span: Span, branch: Branch, y: Result<TypedStmt, CheckErr>) -> Result<TypedStmt, CheckErr>
+pub fn choice_else(
+    alloc: Global,
+    span: Span,
+    branch: Branch,
+    y: Result<TypedStmt, CheckErr>,
+) -> Result<TypedStmt, CheckErr>
     ensures { (st : State) (r : Result (Step State TypedStmtTree) Refusal) → TellsStmt y st r → TellsStmt result st (choice_else span (typed_view branch.condition) (typed_whole branch.first) r) }
 {
     match y {
@@ -138,7 +169,11 @@ pub fn choice_else(alloc: Global, span: Span, branch: Branch, y: Result<TypedStm
 }
 
 /// Puts what the first branch wrote behind what the second did.
-pub fn joined(state: &mut State, first: &Targets, y: Result<TypedStmt, CheckErr>) -> Result<TypedStmt, CheckErr>
+pub fn joined(
+    state: &mut State,
+    first: &Targets,
+    y: Result<TypedStmt, CheckErr>,
+) -> Result<TypedStmt, CheckErr>
     ensures { (r : Result (Step State TypedStmtTree) Refusal) → TellsStmt y state.old r → TellsStmt result state.new (and_then r (λ k. Ok (record { item = k.item; after = appended first.now k.after }))) }
 {
     match y {
@@ -151,7 +186,11 @@ pub fn joined(state: &mut State, first: &Targets, y: Result<TypedStmt, CheckErr>
 }
 
 /// A `spawn`.
-pub fn spawned(alloc: Global, span: Span, x: Result<TypedStmt, CheckErr>) -> Result<TypedStmt, CheckErr>
+pub fn spawned(
+    alloc: Global,
+    span: Span,
+    x: Result<TypedStmt, CheckErr>,
+) -> Result<TypedStmt, CheckErr>
     ensures { (st : State) (r : Result (Step State TypedStmtTree) Refusal) → TellsStmt x st r → TellsStmt result st (spawned span r) }
 {
     match x {

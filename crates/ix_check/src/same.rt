@@ -69,7 +69,7 @@ fn is_same_literal(a: Ty, x: Bits, b: Ty, y: Bits) -> bool
     a.signed == b.signed && a.width == b.width && x.raw == y.raw && x.width == y.width
 }
 
-fn is_same_name(m: &Name, n: &Name) -> bool
+pub fn is_same_name(m: &Name, n: &Name) -> bool
     ensures { result ≡ same_bytes m.now n.now }
 {
     m.as_str() == n.as_str()

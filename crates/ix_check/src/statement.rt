@@ -18,7 +18,12 @@ use std::alloc::Global;
 
 /// The statement with its types, or the first rule that it breaks. The names that it declares are visible behind it.
 #[cycle(statements)]
-pub fn statement(alloc: Global, setting: Setting, state: &mut State, stmt: &Stmt) -> Result<TypedStmt, CheckErr>
+pub fn statement(
+    alloc: Global,
+    setting: Setting,
+    state: &mut State,
+    stmt: &Stmt,
+) -> Result<TypedStmt, CheckErr>
     ensures { TellsStmt result state.new (judged_stmt (view_whole stmt.now) setting state.old) }
 {
     let span = stmt.span;
@@ -28,7 +33,14 @@ pub fn statement(alloc: Global, setting: Setting, state: &mut State, stmt: &Stmt
             span,
             kind: TypedStmtKind::Empty,
         }),
-        StmtKind::Locals(text, decls) => locals(alloc, setting, state, span, *text, decls.as_slice()),
+        StmtKind::Locals(text, decls) => locals(
+            alloc,
+            setting,
+            state,
+            span,
+            *text,
+            decls.as_slice(),
+        ),
         StmtKind::Assign(assign) => {
             let assign = assignment(alloc, setting, state, assign);
             assign_of(span, assign)
@@ -69,7 +81,12 @@ pub fn statement(alloc: Global, setting: Setting, state: &mut State, stmt: &Stmt
 
 // The statement in a scope of its own: what it declares is visible no more behind it.
 #[cycle(statements)]
-fn scoped(alloc: Global, setting: Setting, state: &mut State, stmt: &Stmt) -> Result<TypedStmt, CheckErr>
+fn scoped(
+    alloc: Global,
+    setting: Setting,
+    state: &mut State,
+    stmt: &Stmt,
+) -> Result<TypedStmt, CheckErr>
     ensures { TellsStmt result state.new (in_scope state.old (judged_stmt (view_whole stmt.now) setting state.old)) }
 {
     let before = state.names.len();
@@ -80,7 +97,13 @@ fn scoped(alloc: Global, setting: Setting, state: &mut State, stmt: &Stmt) -> Re
 
 // The second branch of an `if`, where what was written behind the first `before` targets is on the other path.
 #[cycle(statements)]
-fn otherwise(alloc: Global, setting: Setting, state: &mut State, before: usize, stmt: &Stmt) -> Result<TypedStmt, CheckErr>
+fn otherwise(
+    alloc: Global,
+    setting: Setting,
+    state: &mut State,
+    before: usize,
+    stmt: &Stmt,
+) -> Result<TypedStmt, CheckErr>
     ensures { TellsStmt result state.new (other_branch before state.old (view_whole stmt.now) setting) }
 {
     match state.written.split(alloc, before) {
@@ -94,7 +117,13 @@ fn otherwise(alloc: Global, setting: Setting, state: &mut State, before: usize, 
 
 // A block.
 #[cycle(statements)]
-fn block(alloc: Global, setting: Setting, state: &mut State, span: Span, all: &[Stmt]) -> Result<TypedStmt, CheckErr>
+fn block(
+    alloc: Global,
+    setting: Setting,
+    state: &mut State,
+    span: Span,
+    all: &[Stmt],
+) -> Result<TypedStmt, CheckErr>
     ensures { TellsStmt result state.new (block span state.old (judged_row (view_items all.now) setting state.old)) }
 {
     let before = state.names.len();
@@ -112,7 +141,12 @@ fn block(alloc: Global, setting: Setting, state: &mut State, span: Span, all: &[
 
 // The statements of a block.
 #[cycle(statements)]
-fn inside(alloc: Global, setting: Setting, state: &mut State, all: &[Stmt]) -> Result<Vec<TypedStmt>, CheckErr>
+fn inside(
+    alloc: Global,
+    setting: Setting,
+    state: &mut State,
+    all: &[Stmt],
+) -> Result<Vec<TypedStmt>, CheckErr>
     ensures { TellsRow result state.new (judged_row (view_items all.now) setting state.old) }
 {
     let mut out = Vec::new(alloc);

@@ -17,12 +17,25 @@ use ix_typing::{Role, Setting, State, Target};
 use std::alloc::Global;
 
 /// The place that an assignment writes, with `updates` where it is read before.
-pub fn place(alloc: Global, setting: Setting, state: &State, updates: bool, target: &Lvalue) -> Result<Place, CheckErr>
+pub fn place(
+    alloc: Global,
+    setting: Setting,
+    state: &State,
+    updates: bool,
+    target: &Lvalue,
+) -> Result<Place, CheckErr>
     ensures { TellsPlace result (placed setting state.now updates target.now.span (view_lvalue target.now.kind)) }
 {
     let span = target.span;
     match &target.kind {
-        LvalueKind::Name(name) => role_place(alloc, state, updates, span, name, state.names.find(name.as_str())),
+        LvalueKind::Name(name) => role_place(
+            alloc,
+            state,
+            updates,
+            span,
+            name,
+            state.names.find(name.as_str()),
+        ),
         LvalueKind::Pc => pc_place(setting, state, updates, span),
         LvalueKind::X(i) => {
             let index = expression(alloc, setting, state, state.accessed, i);
@@ -45,7 +58,13 @@ pub fn place(alloc: Global, setting: Setting, state: &State, updates: bool, targ
 }
 
 /// The type of a target that is written: no path wrote it before. Where it is updated, it is read first.
-fn writable(state: &State, updates: bool, span: Span, target: Target, ty: Ty) -> Result<Ty, CheckErr>
+fn writable(
+    state: &State,
+    updates: bool,
+    span: Span,
+    target: Target,
+    ty: Ty,
+) -> Result<Ty, CheckErr>
     ensures { TellsType result (writable state.now updates span target ty) }
 {
     if state.written.contains(target) {
@@ -60,7 +79,14 @@ fn writable(state: &State, updates: bool, span: Span, target: Target, ty: Ty) ->
 }
 
 /// The place of a name by its role.
-fn role_place(alloc: Global, state: &State, updates: bool, span: Span, name: &Name, role: Option<Role>) -> Result<Place, CheckErr>
+fn role_place(
+    alloc: Global,
+    state: &State,
+    updates: bool,
+    span: Span,
+    name: &Name,
+    role: Option<Role>,
+) -> Result<Place, CheckErr>
     ensures { TellsPlace result (place_of_role state.now updates span name.now role) }
 {
     match role {
@@ -77,7 +103,14 @@ fn role_place(alloc: Global, state: &State, updates: bool, span: Span, name: &Na
     }
 }
 
-fn named_place(alloc: Global, state: &State, span: Span, ty: Ty, writes: Option<Target>, name: &Name) -> Result<Place, CheckErr>
+fn named_place(
+    alloc: Global,
+    state: &State,
+    span: Span,
+    ty: Ty,
+    writes: Option<Target>,
+    name: &Name,
+) -> Result<Place, CheckErr>
     ensures { TellsPlace result (Ok (named_place state.now span name.now writes ty)) }
 {
     match Name::from_text(alloc, name.as_str()) {
@@ -117,7 +150,14 @@ fn pc_place(setting: Setting, state: &State, updates: bool, span: Span) -> Resul
     }
 }
 
-fn x_place(setting: Setting, state: &State, updates: bool, span: Span, i: &Expr, index: Result<Judged, CheckErr>) -> Result<Place, CheckErr>
+fn x_place(
+    setting: Setting,
+    state: &State,
+    updates: bool,
+    span: Span,
+    i: &Expr,
+    index: Result<Judged, CheckErr>,
+) -> Result<Place, CheckErr>
     ensures { (r : Result T.Judged Refusal) → Tells index r → TellsPlace result (x_place setting state.now updates span (view i.now) r) }
 {
     match index {
@@ -126,7 +166,14 @@ fn x_place(setting: Setting, state: &State, updates: bool, span: Span, i: &Expr,
     }
 }
 
-fn x_place_at(setting: Setting, state: &State, updates: bool, span: Span, i: &Expr, index: Judged) -> Result<Place, CheckErr>
+fn x_place_at(
+    setting: Setting,
+    state: &State,
+    updates: bool,
+    span: Span,
+    i: &Expr,
+    index: Judged,
+) -> Result<Place, CheckErr>
     ensures { TellsPlace result (x_place setting state.now updates span (view i.now) (Ok (seen index))) }
 {
     let is_field = lies_in_destination(field_of(state, i));
@@ -148,7 +195,14 @@ fn x_place_at(setting: Setting, state: &State, updates: bool, span: Span, i: &Ex
 }
 
 /// The type of what is stored: memory is written once on a path, occurs once in a behaviour, and in no `spawn`.
-fn stored(setting: Setting, state: &State, updates: bool, accessed: bool, span: Span, ty: Ty) -> Result<Ty, CheckErr>
+fn stored(
+    setting: Setting,
+    state: &State,
+    updates: bool,
+    accessed: bool,
+    span: Span,
+    ty: Ty,
+) -> Result<Ty, CheckErr>
     ensures { TellsType result (stored setting state.now updates accessed span ty) }
 {
     if state.written.contains(Target::Memory) {
@@ -164,7 +218,15 @@ fn stored(setting: Setting, state: &State, updates: bool, accessed: bool, span: 
 }
 
 /// The type of what is stored, of this width, at an address of the type `at`.
-fn stored_type(setting: Setting, state: &State, updates: bool, accessed: bool, span: Span, width: Option<u8>, at: Ty) -> Result<Ty, CheckErr>
+fn stored_type(
+    setting: Setting,
+    state: &State,
+    updates: bool,
+    accessed: bool,
+    span: Span,
+    width: Option<u8>,
+    at: Ty,
+) -> Result<Ty, CheckErr>
     ensures { TellsType result (stored_type setting state.now updates accessed span width at) }
 {
     if !is_instruction(setting.body) {
@@ -176,12 +238,26 @@ fn stored_type(setting: Setting, state: &State, updates: bool, accessed: bool, s
     }
 }
 
-fn byte_place(setting: Setting, state: &State, updates: bool, span: Span, at: Result<Judged, CheckErr>) -> Result<Place, CheckErr>
+fn byte_place(
+    setting: Setting,
+    state: &State,
+    updates: bool,
+    span: Span,
+    at: Result<Judged, CheckErr>,
+) -> Result<Place, CheckErr>
     ensures { (r : Result T.Judged Refusal) → Tells at r → TellsPlace result (byte_place setting state.now updates span r) }
 {
     match at {
         Err(error) => Err(error),
-        Ok(at) => match stored_type(setting, state, updates, at.accessed, span, Some(8), at.tree.ty) {
+        Ok(at) => match stored_type(
+            setting,
+            state,
+            updates,
+            at.accessed,
+            span,
+            Some(8),
+            at.tree.ty,
+        ) {
             Err(error) => Err(error),
             Ok(ty) => Ok(Place {
                 tree: TypedLvalue {
@@ -196,12 +272,29 @@ fn byte_place(setting: Setting, state: &State, updates: bool, span: Span, at: Re
     }
 }
 
-fn word_place(setting: Setting, state: &State, updates: bool, span: Span, h: &Expr, l: &Expr, high: Judged, low: Result<Judged, CheckErr>) -> Result<Place, CheckErr>
+fn word_place(
+    setting: Setting,
+    state: &State,
+    updates: bool,
+    span: Span,
+    h: &Expr,
+    l: &Expr,
+    high: Judged,
+    low: Result<Judged, CheckErr>,
+) -> Result<Place, CheckErr>
     ensures { (r : Result T.Judged Refusal) → Tells low r → TellsPlace result (word_place setting state.now updates span (view h.now) (view l.now) (seen high) r) }
 {
     match low {
         Err(error) => Err(error),
-        Ok(low) => match stored_type(setting, state, updates, low.accessed, span, width_loaded(h, l), low.tree.ty) {
+        Ok(low) => match stored_type(
+            setting,
+            state,
+            updates,
+            low.accessed,
+            span,
+            width_loaded(h, l),
+            low.tree.ty,
+        ) {
             Err(error) => Err(error),
             Ok(ty) => Ok(Place {
                 tree: TypedLvalue {

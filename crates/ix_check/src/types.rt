@@ -1,6 +1,7 @@
 ghost use Rattle.std.specs.Prelude.{◌≡◌};
 ghost use Rattle.ix_bits.specs.NearTypes.{type_near, int_type};
 ghost use Rattle.ix_typing.specs.Expressions.{written, sized, embeds};
+ghost use Rattle.ix_typing.specs.Texts.{nearest};
 ghost use Rattle.ix_check.specs.Telling.{TellsType};
 
 use crate::CheckErr;
@@ -29,7 +30,9 @@ pub fn type_near(signed: bool, width: u128) -> Ty
 }
 
 /// The written type, or that which is next to it where its width is 0 or over 128.
-pub fn nearest_type(kind: TypeKind) -> Ty {
+pub fn nearest_type(kind: TypeKind) -> Ty
+    ensures { result ≡ nearest kind }
+{
     match kind {
         TypeKind::Signed(width) => type_near(true, width),
         TypeKind::Unsigned(width) => type_near(false, width),

@@ -67,7 +67,14 @@ fn read(state: &State, span: Span, target: Target, ty: Ty) -> Result<Ty, CheckEr
 }
 
 /// A name that is read.
-pub fn named(alloc: Global, setting: Setting, state: &State, accessed: bool, span: Span, name: &Name) -> Result<Judged, CheckErr>
+pub fn named(
+    alloc: Global,
+    setting: Setting,
+    state: &State,
+    accessed: bool,
+    span: Span,
+    name: &Name,
+) -> Result<Judged, CheckErr>
     ensures { Tells result (named setting state.now accessed span name.now) }
 {
     match type_of_name(setting, state, span, name.as_str()) {
@@ -77,7 +84,13 @@ pub fn named(alloc: Global, setting: Setting, state: &State, accessed: bool, spa
 }
 
 /// A name of a type.
-pub fn with_name(alloc: Global, accessed: bool, span: Span, ty: Ty, name: &Name) -> Result<Judged, CheckErr>
+pub fn with_name(
+    alloc: Global,
+    accessed: bool,
+    span: Span,
+    ty: Ty,
+    name: &Name,
+) -> Result<Judged, CheckErr>
     ensures { Tells result (Ok (record { tree = t_name span ty name.now; ty = ty; accessed = accessed })) }
 {
     match Name::from_text(alloc, name.as_str()) {
@@ -94,7 +107,12 @@ pub fn with_name(alloc: Global, accessed: bool, span: Span, ty: Ty, name: &Name)
 }
 
 /// The program counter that is read.
-pub fn program_counter(setting: Setting, state: &State, accessed: bool, span: Span) -> Result<Judged, CheckErr>
+pub fn program_counter(
+    setting: Setting,
+    state: &State,
+    accessed: bool,
+    span: Span,
+) -> Result<Judged, CheckErr>
     ensures { Tells result (program_counter setting state.now accessed span) }
 {
     if is_constant(setting.body) {
@@ -117,7 +135,12 @@ pub fn program_counter(setting: Setting, state: &State, accessed: bool, span: Sp
 }
 
 /// The word X before an index.
-pub fn x_word(setting: Setting, state: &State, accessed: bool, span: Span) -> Result<Judged, CheckErr>
+pub fn x_word(
+    setting: Setting,
+    state: &State,
+    accessed: bool,
+    span: Span,
+) -> Result<Judged, CheckErr>
     ensures { Tells result (x_word setting state.now accessed span) }
 {
     if !is_instruction(setting.body) {

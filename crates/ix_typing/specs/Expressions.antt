@@ -1,5 +1,5 @@
 -- The types of expressions, or the first rule that one breaks: operands before their operator, left to right (CoreDSL 2, expressions; the exact types, the rules and their order are this project's choice).
-use Rattle.std.specs.Prelude.{ℕ, ◌+◌, ◌-◌, ◌^◌, ℤ, pos, int_lt, int_le, unsigned_abs, List, [], ◌∷◌, Option, Some, None, Bool, true, false, not, ◌&&◌, ◌||◌, if◌then◌else◌, nat_eq, nat_le, nat_lt, Result, Ok, Err}
+use Rattle.std.specs.Prelude.{ℕ, ◌+◌, ◌-◌, ◌^◌, pos, int_lt, int_le, unsigned_abs, List, [], Option, Some, None, Bool, true, false, not, ◌&&◌, ◌||◌, if◌then◌else◌, nat_eq, nat_le, nat_lt, Result, Ok}
 use Rattle.ix_bits.specs.declared.number.Ty.{Ty}
 use Rattle.ix_bits.specs.declared.number.Bits.{Bits}
 use Rattle.ix_bits.specs.declared.operator.BinOp.{BinOp}
@@ -10,7 +10,6 @@ use Rattle.ix_bits.specs.ResultTypes.{is_mixed, widest, binary_signed, binary_wi
 use Rattle.ix_tree.specs.declared.token.Span.{Span}
 use Rattle.ix_tree.specs.declared.expr.TypeKind.{TypeKind}
 use Rattle.ix_tree.specs.declared.expr.TypeKind.TheVariants as K
-use Rattle.ix_tree.specs.declared.expr.TypeText.{TypeText}
 use Rattle.ix_tree.specs.declared.expr.CastTo.{CastTo}
 use Rattle.ix_tree.specs.declared.expr.CastTo.TheVariants as C
 use Rattle.ix_tree.specs.LoopHeads.{Valued, head_value}
@@ -27,7 +26,7 @@ use Rattle.ix_typing.specs.declared.state.State.{State}
 use Rattle.ix_typing.specs.declared.targets.Target.{Target}
 use Rattle.ix_typing.specs.declared.targets.Target.TheVariants as T
 use Rattle.ix_typing.specs.Names.{role_of, is_among}
-use Rattle.ix_typing.specs.Refusals.{Refusal, Rule, unknown, narrow, too_wide, mixed, range, index, read_after_write, second_access, in_spawn, rom, refuse, and_then}
+use Rattle.ix_typing.specs.Refusals.{Refusal, unknown, too_wide, mixed, range, index, read_after_write, second_access, in_spawn, rom, refuse, and_then}
 use Rattle.ix_typing.specs.SameTrees.{same_tree}
 
 -- an expression with its types, its own type, and whether MEM occurs up to its end

@@ -5,3 +5,4 @@ pub mod Expressions
 pub mod Assignments
 pub mod Statements
 pub mod Texts
+pub mod Laws

@@ -3,7 +3,7 @@ use Rattle.std.specs.Prelude.{ℕ, List, [], ◌∷◌, ◌++◌, length, take, 
 use Rattle.ix_bits.specs.declared.number.Ty.{Ty}
 use Rattle.ix_tree.specs.declared.token.Span.{Span}
 use Rattle.ix_tree.specs.declared.expr.TypeText.{TypeText}
-use Rattle.ix_tree.specs.Trees.{ExprTree, LvalueTree, l_name, l_pc, l_x, l_mem, AssignTree, DeclTree, StmtTree, s_block, s_empty, s_locals, s_assign, s_if, s_if_else, s_for, s_spawn, StmtRow, row_end, row_more}
+use Rattle.ix_tree.specs.Trees.{ExprTree, LvalueTree, l_name, l_pc, l_x, l_mem, DeclTree, StmtTree, s_block, s_empty, s_locals, s_assign, s_if, s_if_else, s_for, s_spawn, StmtRow, row_end, row_more}
 use Rattle.ix_tree.specs.TypedTrees.{TypedExprTree, TypedAssignTree, TypedDeclTree, TypedStmtTree, ts_block, ts_empty, ts_locals, ts_assign, ts_if, ts_if_else, ts_spawn, TypedRow, typed_end, typed_more}
 use Rattle.ix_typing.specs.declared.role.Role.{Role}
 use Rattle.ix_typing.specs.declared.role.Role.TheVariants as R

@@ -19,8 +19,9 @@ use Rattle.ix_typing.specs.declared.state.Body.{Body}
 use Rattle.ix_typing.specs.declared.state.Body.TheVariants as B
 use Rattle.ix_typing.specs.declared.state.Setting.{Setting}
 use Rattle.ix_typing.specs.declared.state.State.{State}
+use Rattle.ix_typing.specs.declared.state.Front.{Front}
 use Rattle.ix_typing.specs.Names.{role_of}
-use Rattle.ix_typing.specs.Refusals.{Refusal, Rule, twice, range, rom, refuse, and_then, Step, each}
+use Rattle.ix_typing.specs.Refusals.{Refusal, twice, range, rom, refuse, and_then, Step, each}
 use Rattle.ix_typing.specs.Expressions.{judged, written}
 use Rattle.ix_typing.specs.Assignments.{span_of, fits_into}
 use Rattle.ix_typing.specs.Statements.{judged_stmt}
@@ -161,9 +162,9 @@ is_listed [] n = false
 is_listed (x ∷ xs) n = same_bytes x n || is_listed xs n
 
 -- a behaviour, in which nothing is written yet
-abbrev pub behaviour : Body → List Named → StmtTree → Result (Step State TypedStmtTree) Refusal
+abbrev pub behaviour : Body → List Named → StmtTree → Result TypedStmtTree Refusal
 behaviour body names x =
-    judged_stmt x (record { body = body; in_spawn = false; below_if = false }) (record { names = names; written = []; accessed = false; spawned = false })
+    and_then (judged_stmt x (record { body = body; in_spawn = false; below_if = false }) (record { names = names; written = []; accessed = false; spawned = false })) (λ k. Ok k.item)
 
 abbrev pub unless : {A : Type 0} → Option Refusal → Result A Refusal → Result A Refusal
 unless (Some r) x = Err r
@@ -174,22 +175,15 @@ abbrev pub judged_instr : List Named → InstrTree → List (List ℕ) → Resul
 judged_instr names x seen =
     if is_listed seen x.name then refuse twice x.span
     else unless (pieces_fault names x.pieces)
-        (and_then (behaviour B.Instruction (fields names x.pieces).names x.body) (λ k.
-        Ok (record { item = record { span = x.span; name = x.name; pieces = x.pieces; body = k.item }; after = seen ++ x.name ∷ [] })))
+    (and_then (behaviour B.Instruction (fields names x.pieces).names x.body) (λ t.
+    Ok (record { item = record { span = x.span; name = x.name; pieces = x.pieces; body = t }; after = seen ++ x.name ∷ [] })))
 
 abbrev pub judged_block : List Named → BlockTree → List (List ℕ) → Result (Step (List (List ℕ)) TypedBlockTree) Refusal
 judged_block names x seen =
     if is_listed seen x.name then refuse twice x.span
-    else and_then (behaviour B.Always names x.body) (λ k. Ok (record { item = record { span = x.span; name = x.name; body = k.item }; after = seen ++ x.name ∷ [] }))
+    else and_then (behaviour B.Always names x.body) (λ t. Ok (record { item = record { span = x.span; name = x.name; body = t }; after = seen ++ x.name ∷ [] }))
 
 -- ---- sections, of which there is one of a kind at most
-
--- which kinds of sections, and which names of behaviours, there were
-pub record Front : Type 0 where
-  pub states : Bool
-  pub instructions : Bool
-  pub always : Bool
-  pub behaviours : List (List ℕ)
 
 abbrev pub judged_kind : State → Span → SectionKindTree → Front → Result (Step Front TypedSectionKindTree) Refusal
 judged_kind st s (k_states xs) f =

@@ -1,4 +1,5 @@
 use crate::{Names, Targets};
+use ix_bits::{List, Name};
 
 /// What an expression or a statement stands in.
 #[derive(Clone, Copy, Debug, PartialEq, Eq)]
@@ -29,4 +30,13 @@ pub struct State {
     pub accessed: bool,
     /// Whether a `spawn` stands there.
     pub spawned: bool,
+}
+
+/// What stands before a section: whether there was one of each kind, and the names of behaviours.
+#[derive(Drop)]
+pub struct Front {
+    pub states: bool,
+    pub instructions: bool,
+    pub always: bool,
+    pub behaviours: List<Name>,
 }

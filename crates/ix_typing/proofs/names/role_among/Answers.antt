@@ -17,14 +17,14 @@ loop-named-preserved c =
     let rest = names_rest n c.args.all.now c.loop-named.named-index x c.loop-named-test.true c.named-item.is in
     let test = name_test c.eq.result c.as_str.result.now x.name n c.eq.ensures c.as_str.ensures.text in
     elim c.if-eq.branch [
-      then-eq w ↦
-        let t : same_bytes x.name n ≡ true = sym test ∙ w.if-eq.true in
-        let e = c.loop-named.invariant ∙ ap (λ (z : Option Role). or_else z old) (rest ∙ ap (λ (z : Option Role). or_else a z) (cond-true (same_bytes x.name n) (Some x.role) None t)) ∙ later_counts a old x.role in
-        let P : Option Role → Type 0 = λ z. role_of c.args.all.now n ≡ or_else a z in
-        subst P (sym w.role-is) e
+      | then-eq w ↦
+          let t : same_bytes x.name n ≡ true = sym test ∙ w.if-eq.true in
+          let e = c.loop-named.invariant ∙ ap (λ (z : Option Role). or_else z old) (rest ∙ ap (λ (z : Option Role). or_else a z) (cond-true (same_bytes x.name n) (Some x.role) None t)) ∙ later_counts a old x.role in
+          let P : Option Role → Type 0 = λ z. role_of c.args.all.now n ≡ or_else a z in
+          subst P (sym w.role-is) e
       | else-eq w ↦
-        let t : same_bytes x.name n ≡ false = sym test ∙ w.if-eq.false in
-        let e = c.loop-named.invariant ∙ ap (λ (z : Option Role). or_else z old) (rest ∙ ap (λ (z : Option Role). or_else a z) (cond-false (same_bytes x.name n) (Some x.role) None t)) ∙ other_passes a old in
-        let P : Option Role → Type 0 = λ z. role_of c.args.all.now n ≡ or_else a z in
-        subst P (sym w.role-is) e
+          let t : same_bytes x.name n ≡ false = sym test ∙ w.if-eq.false in
+          let e = c.loop-named.invariant ∙ ap (λ (z : Option Role). or_else z old) (rest ∙ ap (λ (z : Option Role). or_else a z) (cond-false (same_bytes x.name n) (Some x.role) None t)) ∙ other_passes a old in
+          let P : Option Role → Type 0 = λ z. role_of c.args.all.now n ≡ or_else a z in
+          subst P (sym w.role-is) e
     ]
