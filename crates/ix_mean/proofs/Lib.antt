@@ -11,3 +11,5 @@ pub mod Effecting
 pub mod Fields
 pub mod Resolvings
 pub mod Steps
+pub mod GraphMeanings
+pub mod Ordering

@@ -9,3 +9,5 @@ pub mod ByName
 pub mod Resolving
 pub mod EffectByName
 pub mod ResolvingStatements
+pub mod GraphValues
+pub mod Order

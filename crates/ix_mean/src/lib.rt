@@ -6,5 +6,5 @@ mod laws;
 mod resolved;
 
 pub use evaluate::{State, Written, execute, holds, number, one, two};
-pub use laws::{effect_laws, resolving_law};
+pub use laws::{effect_laws, graphs_have_meanings, resolving_law};
 pub use resolved::{ResolvedExpr, ResolvedStmt, Types, Writing};

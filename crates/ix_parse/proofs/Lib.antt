@@ -1,11 +1,4 @@
-mod Stacks
+mod Places
 mod Runs
 mod Answering
-mod Settling
-mod Expressions
-mod Deep
-mod Blocks
 mod Deeper
-mod Tops
-mod Places
-mod Powers

@@ -3,28 +3,28 @@ use Rattle.std.proofs.Common.{◌≡◌, ◌∙◌, [], Vec, Global, refl, ap}
 use Rattle.ix_tree.specs.declared.section.Tree.{Tree}
 use Rattle.ix_tree.specs.Machine as M
 use Rattle.ix_tree.specs.Machine.{Stack, State, stuck, finish}
-use Rattle.ix_parse.specs.declared.state.ExprGoal.{ExprGoal}
-use Rattle.ix_parse.specs.declared.state.ExprGoal.TheVariants as E
-use Rattle.ix_parse.specs.declared.state.TypeGoal.{TypeGoal}
-use Rattle.ix_parse.specs.declared.state.TypeGoal.TheVariants as T
-use Rattle.ix_parse.specs.declared.state.AssignGoal.{AssignGoal}
-use Rattle.ix_parse.specs.declared.state.AssignGoal.TheVariants as A
-use Rattle.ix_parse.specs.declared.state.StmtGoal.{StmtGoal}
-use Rattle.ix_parse.specs.declared.state.StmtGoal.TheVariants as S
-use Rattle.ix_parse.specs.declared.state.Goal.{Goal}
-use Rattle.ix_parse.specs.declared.state.Goal.TheVariants as G
-use Rattle.ix_parse.specs.declared.state.TextGoal.{TextGoal}
-use Rattle.ix_parse.specs.declared.state.TextGoal.TheVariants as X
-use Rattle.ix_parse.specs.declared.state.InstrGoal.{InstrGoal}
-use Rattle.ix_parse.specs.declared.state.InstrGoal.TheVariants as I
-use Rattle.ix_parse.specs.declared.state.Place.{Place}
-use Rattle.ix_parse.specs.declared.state.Place.TheVariants as P
-use Rattle.ix_parse.specs.declared.state.Fixed.{Fixed}
-use Rattle.ix_parse.specs.declared.state.Fixed.TheVariants as K
-use Rattle.ix_parse.specs.declared.state.Reader.{Reader}
-use Rattle.ix_parse.specs.declared.frame.Frame.{Frame}
-use Rattle.ix_parse.specs.declared.frame.OpenInstr.{OpenInstr}
-use Rattle.ix_parse.specs.Views.{stack_of, instr_of, reader_of, of_expr, of_type, of_assign, of_stmt, of_goal, of_text, of_instr, of_place, of_fixed}
+use Rattle.ix_parse_state.specs.declared.state.ExprGoal.{ExprGoal}
+use Rattle.ix_parse_state.specs.declared.state.ExprGoal.TheVariants as E
+use Rattle.ix_parse_state.specs.declared.state.TypeGoal.{TypeGoal}
+use Rattle.ix_parse_state.specs.declared.state.TypeGoal.TheVariants as T
+use Rattle.ix_parse_state.specs.declared.state.AssignGoal.{AssignGoal}
+use Rattle.ix_parse_state.specs.declared.state.AssignGoal.TheVariants as A
+use Rattle.ix_parse_state.specs.declared.state.StmtGoal.{StmtGoal}
+use Rattle.ix_parse_state.specs.declared.state.StmtGoal.TheVariants as S
+use Rattle.ix_parse_state.specs.declared.state.Goal.{Goal}
+use Rattle.ix_parse_state.specs.declared.state.Goal.TheVariants as G
+use Rattle.ix_parse_state.specs.declared.state.TextGoal.{TextGoal}
+use Rattle.ix_parse_state.specs.declared.state.TextGoal.TheVariants as X
+use Rattle.ix_parse_state.specs.declared.state.InstrGoal.{InstrGoal}
+use Rattle.ix_parse_state.specs.declared.state.InstrGoal.TheVariants as I
+use Rattle.ix_parse_state.specs.declared.state.Place.{Place}
+use Rattle.ix_parse_state.specs.declared.state.Place.TheVariants as P
+use Rattle.ix_parse_state.specs.declared.state.Fixed.{Fixed}
+use Rattle.ix_parse_state.specs.declared.state.Fixed.TheVariants as K
+use Rattle.ix_parse_state.specs.declared.state.Reader.{Reader}
+use Rattle.ix_parse_state.specs.declared.frame.Frame.{Frame}
+use Rattle.ix_parse_state.specs.declared.frame.OpenInstr.{OpenInstr}
+use Rattle.ix_parse_state.specs.Views.{stack_of, instr_of, reader_of, of_expr, of_type, of_assign, of_stmt, of_goal, of_text, of_instr, of_place, of_fixed}
 
 -- ---- only the end of a text is one
 finish_expr : (g : ExprGoal) (k : Stack) → finish (of_expr g k) ≡ stuck []

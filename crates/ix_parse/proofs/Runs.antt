@@ -11,7 +11,7 @@ use Rattle.ix_tree.specs.Parsing.{IsFlat, IsRefusedAt, IsTooDeepAt}
 use Rattle.ix_tree.proofs.Steps.{one}
 use Rattle.ix_tree.proofs.Walks.{Walks, stands, goes, walked, at_stop, at_end}
 use Rattle.ix_tree.proofs.Verdicts.{tree_is, at_is, deep_is}
-use Rattle.ix_parse.specs.Moves.{GoesTo, GoesDeep}
+use Rattle.ix_parse_state.specs.Moves.{GoesTo, GoesDeep}
 
 -- the first n tokens were read, none of them nests too deep, and the machine stands in this state
 pub record Read (ts : List Token) (n : ℕ) (z : State) : Type 0 where

@@ -1,4 +1,1 @@
-pub mod Parts
-pub mod Views
-pub mod Moves
 pub mod Answers

@@ -1,17 +1,17 @@
 ghost use Rattle.ix_tree.specs.Machine.{step};
-ghost use Rattle.ix_parse.specs.Views.{stack_of, of_goal, of_place, reader_of};
-ghost use Rattle.ix_parse.specs.Moves.{Moves};
+ghost use Rattle.ix_parse_state.specs.Views.{stack_of, of_goal, of_place, reader_of};
+ghost use Rattle.ix_parse_state.specs.Moves.{Moves};
 
-use crate::assign::assign_step;
-use crate::error::Stop;
-use crate::expr::expr_step;
-use crate::fixed::fixed_step;
-use crate::frame::Frame;
-use crate::instr::instr_step;
-use crate::section::text_step;
-use crate::state::{Fixed, Goal, Place, Reader};
 use crate::stmt::stmt_step;
-use crate::types::type_step;
+use ix_parse_expr::assign::assign_step;
+use ix_parse_expr::expr::expr_step;
+use ix_parse_section::fixed::fixed_step;
+use ix_parse_section::instr::instr_step;
+use ix_parse_section::section::text_step;
+use ix_parse_state::frame::Frame;
+use ix_parse_state::state::{Fixed, Goal, Place, Reader};
+use ix_parse_state::stop::Stop;
+use ix_parse_state::types::type_step;
 use ix_tree::Token;
 use std::alloc::Global;
 

@@ -2,27 +2,32 @@ ghost use Rattle.std.specs.Prelude.{◌≡◌, ◌+◌, [], ◌∷◌, ◌++◌,
 ghost use Rattle.ix_tree.specs.View.{view_decl, view_instr, view_block};
 ghost use Rattle.ix_tree.specs.Rows.{view_whole};
 ghost use Rattle.ix_tree.specs.Productions.{instr_tree};
-ghost use Rattle.ix_tree.specs.Machine.{act, settle_stmt, power_stmt, begin_stmt, begin_type, in_block, after_stmt, always_done, naming, named, for_head, for_equals, f_behavior, f_always, step};
-ghost use Rattle.ix_parse.specs.Views.{stack_of, of_stmt, done_of, stmt_frame, body_frame, instr_of, always_of};
-ghost use Rattle.ix_parse.specs.Moves.{Moves};
+ghost use Rattle.ix_tree.specs.Machine.{act, settle_stmt, power_stmt, begin_stmt, begin_type, in_block, after_stmt, always_done, naming, named, if_round, for_round, for_head, for_equals, f_branch, f_behavior, f_always, step};
+ghost use Rattle.ix_parse_state.specs.Parts.{part_of};
+ghost use Rattle.ix_parse_state.specs.Views.{stack_of, of_stmt, done_of, stmt_frame, body_frame, instr_of, always_of};
+ghost use Rattle.ix_parse_state.specs.Moves.{Moves};
 
-use crate::assign::begin_assign;
-use crate::block::{block, empty};
-use crate::decl::after_name;
-use crate::error::Stop;
-use crate::frame::{
+use ix_bits::{List, Memory, Name};
+use ix_parse_expr::assign::begin_assign;
+use ix_parse_expr::decl::after_name;
+use ix_parse_section::section::begin_always;
+use ix_parse_state::block::{block, empty};
+use ix_parse_state::frame::{
     AssignFrame, BodyFrame, ClosingFrame, DeclFrame, Frame, OpenAlways, OpenInstr, OpenLoop,
     StmtFrame, TypeFrame,
 };
-use crate::look::{copy, is_symbol, is_word, level, nest};
-use crate::reader::{in_expr, in_stmt, in_text};
-use crate::section::begin_always;
-use crate::settle::settle_stmt;
-use crate::sign::{CLOSE_BRACE, ELSE, EQUALS, FOR, IF, OPEN_BRACE, OPEN_ROUND, SEMICOLON, SPAWN};
-use crate::stack::{pop, push};
-use crate::state::{ExprGoal, Reader, StmtGoal, TextGoal};
-use crate::types::{begin_type, is_type_word};
-use ix_bits::{List, Memory, Name};
+use ix_parse_state::look::{copy, expect, is_symbol, is_word, level, nest};
+use ix_parse_state::node::between;
+use ix_parse_state::part::Part;
+use ix_parse_state::reader::{in_expr, in_stmt, in_text};
+use ix_parse_state::settle::settle_stmt;
+use ix_parse_state::sign::{
+    CLOSE_BRACE, ELSE, EQUALS, FOR, IF, OPEN_BRACE, OPEN_ROUND, SEMICOLON, SPAWN,
+};
+use ix_parse_state::stack::{pop, push};
+use ix_parse_state::state::{ExprGoal, Reader, StmtGoal, TextGoal};
+use ix_parse_state::stop::Stop;
+use ix_parse_state::types::{begin_type, is_type_word};
 use ix_tree::{BlockText, Decl, Instr, Span, Stmt, Token, TokenKind, TypeText};
 use std::alloc::Global;
 
@@ -93,8 +98,13 @@ fn in_block(
     ensures { Moves result (in_block depth first (map view_whole all) (stack_of stack.items) token.now) }
 {
     if is_symbol(token, CLOSE_BRACE) {
-        level(depth)?;
-        return Ok(in_stmt(StmtGoal::Done(block(&first, all, token)), stack));
+        if let Err(stop) = level(depth) {
+            drop(first);
+            return Err(stop);
+        }
+        let block = block(&first, all, token);
+        drop(first);
+        return Ok(in_stmt(StmtGoal::Done(block), stack));
     }
     let stack = push(stack, Frame::Body(BodyFrame::Block(depth, first, all)))?;
     begin_inner(alloc, depth, stack, token)
@@ -105,7 +115,10 @@ fn after_stmt(alloc: Global, stmt: Stmt, stack: Vec<Frame>, token: &Token) -> Re
     ensures { Moves result (after_stmt (done_of stmt) (stack_of stack.items) token.now) }
 {
     let (frame, stack) = match pop(stack) {
-        None => return Err(Stop::Refused),
+        None => {
+            drop(stmt);
+            return Err(Stop::Refused);
+        }
         Some(top) => top,
     };
     match frame {
@@ -113,6 +126,7 @@ fn after_stmt(alloc: Global, stmt: Stmt, stack: Vec<Frame>, token: &Token) -> Re
         Frame::Body(frame) => after_body(alloc, stmt, frame, stack, token),
         other => {
             drop(other);
+            drop(stmt);
             Err(Stop::Refused)
         }
     }
@@ -129,19 +143,43 @@ fn after_branch(
 {
     match frame {
         StmtFrame::Branch(depth, first, condition) => {
-            if !is_word(token, ELSE) {
-                return Err(Stop::Refused);
-            }
-            let nesting = level(depth)?;
-            let frame = StmtFrame::Other(depth, first, condition, stmt);
-            let stack = push(stack, Frame::Stmt(frame))?;
-            Ok(in_stmt(StmtGoal::Stmt(nesting + 1), stack))
+            begin_other(depth, first, condition, stmt, stack, token)
         }
         other => {
             drop(other);
+            drop(stmt);
             Err(Stop::Refused)
         }
     }
+}
+
+/// The statement behind an `else`.
+fn begin_other(
+    depth: u32,
+    first: Token,
+    condition: Part,
+    branch: Stmt,
+    stack: Vec<Frame>,
+    token: &Token,
+) -> Result<Reader, Stop>
+    ensures { Moves result (after_stmt (done_of branch) (f_branch depth first (part_of condition) ∷ stack_of stack.items) token.now) }
+{
+    if !is_word(token, ELSE) {
+        drop(first);
+        drop(branch);
+        return Err(Stop::Refused);
+    }
+    let nesting = match level(depth) {
+        Ok(nesting) => nesting,
+        Err(stop) => {
+            drop(first);
+            drop(branch);
+            return Err(stop);
+        }
+    };
+    let frame = StmtFrame::Other(depth, first, condition, branch);
+    let stack = push(stack, Frame::Stmt(frame))?;
+    Ok(in_stmt(StmtGoal::Stmt(nesting + 1), stack))
 }
 
 /// What goes on behind a statement of a block, or behind a whole body.
@@ -157,9 +195,14 @@ fn after_body(
     match frame {
         BodyFrame::Block(depth, first, all) => {
             if is_word(token, ELSE) {
+                drop(first);
+                drop(stmt);
                 return Err(Stop::Refused);
             }
-            let all = with_stmt(all, stmt)?;
+            let Ok(all) = with_stmt(all, stmt) else {
+                drop(first);
+                return Err(Stop::Memory);
+            };
             in_block(alloc, depth, first, all, stack, token)
         }
         BodyFrame::Behavior(instr) => after_behavior(instr, stmt, token),
@@ -172,19 +215,32 @@ fn after_behavior(instr: OpenInstr, stmt: Stmt, token: &Token) -> Result<Reader,
     ensures { Moves result (after_stmt (done_of stmt) (f_behavior (instr_of instr) ∷ []) token.now) }
 {
     if !is_symbol(token, CLOSE_BRACE) {
+        drop(instr);
+        drop(stmt);
         return Err(Stop::Refused);
     }
+    let OpenInstr {
+        within,
+        before,
+        first,
+        name,
+        pieces,
+    } = instr;
+    let span = between(&first, token);
+    drop(first);
     let whole = Instr {
-        span: Span {
-            from: instr.first.span.from,
-            to: token.span.to,
-        },
-        name: instr.name,
-        pieces: instr.pieces,
+        span,
+        name,
+        pieces,
         body: stmt,
     };
-    let instrs = with_instr(instr.before, whole)?;
-    Ok(in_text(TextGoal::Instructions(instr.within, instrs)))
+    match with_instr(before, whole) {
+        Ok(instrs) => Ok(in_text(TextGoal::Instructions(within, instrs))),
+        Err(Memory) => {
+            drop(within);
+            Err(Stop::Memory)
+        }
+    }
 }
 
 /// What goes on behind the body of an always-block.
@@ -196,20 +252,33 @@ fn after_always(
 ) -> Result<Reader, Stop>
     ensures { Moves result (after_stmt (done_of stmt) (f_always (always_of always) ∷ []) token.now) }
 {
+    let OpenAlways {
+        within,
+        before,
+        first,
+        name,
+    } = always;
+    let span = Span {
+        from: first.span.from,
+        to: stmt.span.to,
+    };
+    drop(first);
     let whole = BlockText {
-        span: Span {
-            from: always.first.span.from,
-            to: stmt.span.to,
-        },
-        name: always.name,
+        span,
+        name,
         body: stmt,
     };
-    let blocks = with_block(always.before, whole)?;
-    begin_always(alloc, always.within, blocks, token)
+    match with_block(before, whole) {
+        Ok(blocks) => begin_always(alloc, within, blocks, token),
+        Err(Memory) => {
+            drop(within);
+            Err(Stop::Memory)
+        }
+    }
 }
 
 /// The statements and one more.
-#[tactic(auto, using(crate::proofs::Blocks::map_push))]
+#[tactic(auto, using(ix_parse_state::proofs::Blocks::map_push))]
 fn with_stmt(mut all: List<Stmt>, stmt: Stmt) -> Result<List<Stmt>, Memory>
     ensures { IfOk result (λ ss. map view_whole ss ≡ map view_whole all ++ view_whole stmt ∷ []) }
 {
@@ -218,7 +287,7 @@ fn with_stmt(mut all: List<Stmt>, stmt: Stmt) -> Result<List<Stmt>, Memory>
 }
 
 /// The instructions and one more.
-#[tactic(auto, using(crate::proofs::Blocks::map_push))]
+#[tactic(auto, using(ix_parse_state::proofs::Blocks::map_push))]
 fn with_instr(mut instrs: List<Instr>, instr: Instr) -> Result<List<Instr>, Memory>
     ensures { IfOk result (λ is. map view_instr is ≡ map view_instr instrs ++ view_instr instr ∷ []) }
 {
@@ -227,7 +296,7 @@ fn with_instr(mut instrs: List<Instr>, instr: Instr) -> Result<List<Instr>, Memo
 }
 
 /// The always-blocks and one more.
-#[tactic(auto, using(crate::proofs::Blocks::map_push))]
+#[tactic(auto, using(ix_parse_state::proofs::Blocks::map_push))]
 fn with_block(mut blocks: List<BlockText>, block: BlockText) -> Result<List<BlockText>, Memory>
     ensures { IfOk result (λ bs. map view_block bs ≡ map view_block blocks ++ view_block block ∷ []) }
 {
@@ -266,23 +335,39 @@ pub fn stmt_step(
         StmtGoal::Done(stmt) => after_done(alloc, stmt, stack, token),
         StmtGoal::Naming(depth, ty, decls) => at_naming(alloc, depth, ty, decls, stack, token),
         StmtGoal::Named(depth, first, name) => at_named(depth, first, name, stack, token),
-        StmtGoal::IfRound(depth, first) => {
-            if !is_symbol(token, OPEN_ROUND) {
-                return Err(Stop::Refused);
-            }
-            let inner = nest(depth, 1)?;
+        StmtGoal::IfRound(depth, first) => at_if_round(depth, first, stack, token),
+        StmtGoal::ForRound(depth, first) => at_for_round(depth, first, stack, token),
+        StmtGoal::ForHead(depth, first) => at_for_head(alloc, depth, first, stack, token),
+        StmtGoal::ForEquals(head) => at_for_equals(head, stack, token),
+    }
+}
+
+/// What the token leads to behind `if`.
+fn at_if_round(depth: u32, first: Token, stack: Vec<Frame>, token: &Token) -> Result<Reader, Stop>
+    ensures { Moves result (act token.now (if_round depth first (stack_of stack.items))) }
+{
+    match expect(token, OPEN_ROUND, depth, 1) {
+        Ok(inner) => {
             let stack = push(stack, Frame::Closing(ClosingFrame::If(depth, first)))?;
             Ok(in_expr(ExprGoal::Want(inner), stack))
         }
-        StmtGoal::ForRound(depth, first) => {
-            if !is_symbol(token, OPEN_ROUND) {
-                return Err(Stop::Refused);
-            }
-            nest(depth, 1)?;
-            Ok(in_stmt(StmtGoal::ForHead(depth, first), stack))
+        Err(stop) => {
+            drop(first);
+            Err(stop)
         }
-        StmtGoal::ForHead(depth, first) => at_for_head(alloc, depth, first, stack, token),
-        StmtGoal::ForEquals(head) => at_for_equals(head, stack, token),
+    }
+}
+
+/// What the token leads to behind `for`.
+fn at_for_round(depth: u32, first: Token, stack: Vec<Frame>, token: &Token) -> Result<Reader, Stop>
+    ensures { Moves result (act token.now (for_round depth first (stack_of stack.items))) }
+{
+    match expect(token, OPEN_ROUND, depth, 1) {
+        Ok(_) => Ok(in_stmt(StmtGoal::ForHead(depth, first), stack)),
+        Err(stop) => {
+            drop(first);
+            Err(stop)
+        }
     }
 }
 
@@ -343,16 +428,26 @@ fn at_for_head(
     }
     match &token.kind {
         TokenKind::Name(name) => {
-            nest(depth, 1)?;
+            if let Err(stop) = nest(depth, 1) {
+                drop(first);
+                return Err(stop);
+            }
+            let Ok(name) = Name::from_text(alloc, name.as_str()) else {
+                drop(first);
+                return Err(Stop::Memory);
+            };
             let head = OpenLoop {
                 depth,
                 first,
                 ty: None,
-                name: Name::from_text(alloc, name.as_str())?,
+                name,
             };
             Ok(in_stmt(StmtGoal::ForEquals(head), stack))
         }
-        _ => Err(Stop::Refused),
+        _ => {
+            drop(first);
+            Err(Stop::Refused)
+        }
     }
 }
 
@@ -360,10 +455,13 @@ fn at_for_head(
 fn at_for_equals(head: OpenLoop, stack: Vec<Frame>, token: &Token) -> Result<Reader, Stop>
     ensures { Moves result (act token.now (for_equals head.depth head.first head.ty head.name (stack_of stack.items))) }
 {
-    if !is_symbol(token, EQUALS) {
-        return Err(Stop::Refused);
-    }
-    let inner = nest(head.depth, 1)?;
+    let inner = match expect(token, EQUALS, head.depth, 1) {
+        Ok(inner) => inner,
+        Err(stop) => {
+            drop(head);
+            return Err(stop);
+        }
+    };
     let stack = push(stack, Frame::Closing(ClosingFrame::Start(head)))?;
     Ok(in_expr(ExprGoal::Want(inner), stack))
 }

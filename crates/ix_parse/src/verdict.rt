@@ -4,13 +4,14 @@ ghost use Rattle.ix_tree.specs.Grammar.{Derives};
 ghost use Rattle.ix_tree.specs.Parsing.{IsRefusedAt, IsTooDeepAt, is_tree, refused_at, too_deep_at};
 ghost use Rattle.ix_tree.specs.View.{DerivesTree, view_tree};
 ghost use Rattle.ix_tree.specs.Machine.{ended, finish, stuck};
-ghost use Rattle.ix_parse.specs.Views.{of_place, of_text, reader_of};
+ghost use Rattle.ix_parse_state.specs.Views.{of_place, of_text, reader_of};
 ghost use Rattle.ix_parse.specs.Answers.{IsAnswer, IsTold};
 
-use crate::error::{ParseErr, Stop};
-use crate::reader::in_text;
-use crate::state::{Fixed, Place, Reader, TextGoal};
+use crate::error::ParseErr;
 use crate::step::step;
+use ix_parse_state::reader::in_text;
+use ix_parse_state::state::{Fixed, Place, Reader, TextGoal};
+use ix_parse_state::stop::Stop;
 use ix_tree::{Token, Tree};
 use std::alloc::Global;
 

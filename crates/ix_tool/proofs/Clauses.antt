@@ -1,5 +1,5 @@
 -- The clauses of the tool, from the one relation.
-use Rattle.std.proofs.Common.{◌≡◌, ◌≢◌, ℕ, ◌<◌, List, length, Option, None, refl, sym, ◌∙◌, subst, arith, ◌⊎◌, inl, inr}
+use Rattle.std.proofs.Common.{◌≡◌, ◌≢◌, ℕ, ◌<◌, List, length, Option, None, refl, sym, ◌∙◌, subst, arith, ◌⊎◌, inl, inr, Some}
 use Rattle.std.specs.Prelude.{IfSome, codes}
 use Rattle.ix_io.specs.Limits.{most_bytes}
 use Rattle.ix_io.specs.Shelf.{NamedFiles, told_file}
@@ -11,8 +11,8 @@ use Rattle.ix_tool.specs.declared.command.FileKind.{FileKind}
 use Rattle.ix_tool.specs.declared.command.FileKind.TheVariants.{Image, Report}
 use Rattle.ix_tool.specs.declared.value.Value.{Value}
 use Rattle.ix_tool.specs.CommandLine.{command_of, slots_of, behind}
-use Rattle.ix_tool.specs.CommandOutput.{Outcome, RoseIn, NoneRises, file_line, refusal_status, IsRefusedText, IsRefusedFile, not_read, too_long, bad_text, IsFirstRefused, IsAnswer, IsDue, due_usage, due_file, due_answer, UsageAnswer, ReadFaultAnswer, WriteFaultAnswer, TooLongAnswer, IsRefusedWith, TextAnswer, OutputAnswer, IsBuiltAnswer, IsStatusOr, Premises, Completes}
-use Rattle.ix_tool.proofs.Reading.{at_map, at_some}
+use Rattle.ix_tool.specs.CommandOutput.{Outcome, RoseIn, NoneRises, file_line, refusal_status, IsRefusedText, IsRefusedFile, not_read, too_long, bad_text, IsFirstRefused, IsAnswer, IsDue, due_usage, due_file, due_answer, UsageAnswer, ReadFaultAnswer, WriteFaultAnswer, TooLongAnswer, IsFileOf, TextAnswer, OutputAnswer, IsBuiltAnswer, IsStatusOr, Premises, Completes}
+use Rattle.ix_tool.proofs.Reading.{at_found}
 use Rattle.ix_tool.proofs.Due.{all_one, not_refused, own_status, commanded, usage_alone, due_one}
 
 -- ---- statuses are apart
@@ -39,7 +39,7 @@ of_refusal P f l i r files R kind name _ _ (bad_text bytes line file bad) = text
 
 of_first : (P : Status → Type 0) → P ReadFault → P TooLong → P image_status → P Certificate → (files : Option NamedFiles) (R : List ℕ → Type 0) (command : Command) (words : List (List ℕ)) (status : Status) (line : List ℕ) → IsFirstRefused files R (slots_of command) (behind words) status line → P status
 of_first P f l i r files R command words status line h =
-    let found = at_some files (λ kind name. IsRefusedFile files R kind name status line) (slots_of command) (behind words) h in
+    let found = at_found files (λ kind name. IsRefusedFile files R kind name status line) (slots_of command) (behind words) h in
     of_refusal P f l i r files R found.0 found.1 status line found.2
 
 -- the status of a command's answer, by what is so of each
@@ -74,12 +74,10 @@ fault_of files counts counts_now before now kind name _ _ (bad_text bytes line f
 
 read_fault_of : (files : Option NamedFiles) (counts counts_now : List ℕ → ℕ) (words : List (List ℕ)) (before now : Option (List ℕ)) (status : Status) (bytes : List ℕ) → IsDue files (RoseIn counts counts_now) words status bytes → status ≡ ReadFault → Appends before now bytes → ReadFaultAnswer files words counts counts_now before now
 read_fault_of files counts counts_now words before now _ _ (due_usage none) e a = absurd cc
-read_fault_of files counts counts_now words before now _ _ (due_file command status line is first) e a = record {
-  command = command;
-  command_is = is;
-  file = at_map files (λ kind name. IsRefusedFile files (RoseIn counts counts_now) kind name status line) (λ kind name. RoseIn counts counts_now name × Appends before now (file_line (codes "ReadFault") name)) (slots_of command) (behind words)
-      (λ kind name h. fault_of files counts counts_now before now kind name status line h e a) first;
-}
+read_fault_of files counts counts_now words before now _ _ (due_file command status line is first) e a =
+    let found = at_found files (λ kind name. IsRefusedFile files (RoseIn counts counts_now) kind name status line) (slots_of command) (behind words) first in
+    let cause = fault_of files counts counts_now before now found.0 found.1 status line found.2 e a in
+    record { command = command; kind = found.0; name = found.1; command_is = is; file = found.3; rose = cause.0; line = cause.1 }
 read_fault_of files counts counts_now words before now _ _ (due_answer command vs status bytes is read answer) e a = absurd (of_answer (λ s. s ≡ ReadFault → ⊥) (λ q. cc) command vs status bytes answer e)
 
 long_of : (files : Option NamedFiles) (R : List ℕ → Type 0) (before now : Option (List ℕ)) (kind : FileKind) (name : List ℕ) (status : Status) (line : List ℕ) → IsRefusedFile files R kind name status line → status ≡ TooLong → Appends before now line
@@ -90,29 +88,35 @@ long_of files R before now kind name _ _ (bad_text bytes line file bad) e a = ab
 
 too_long_of : (files : Option NamedFiles) (R : List ℕ → Type 0) (words : List (List ℕ)) (before now : Option (List ℕ)) (status : Status) (bytes : List ℕ) → IsDue files R words status bytes → status ≡ TooLong → Appends before now bytes → TooLongAnswer files words before now
 too_long_of files R words before now _ _ (due_usage none) e a = absurd cc
-too_long_of files R words before now _ _ (due_file command status line is first) e a = record {
-  command = command;
-  command_is = is;
-  file = at_map files (λ kind name. IsRefusedFile files R kind name status line) (λ kind name. IfSome (told_file files name) (λ file. most_bytes < length file) × Appends before now (file_line (codes "TooLong") name)) (slots_of command) (behind words)
-      (λ kind name h. long_of files R before now kind name status line h e a) first;
-}
+too_long_of files R words before now _ _ (due_file command status line is first) e a =
+    let found = at_found files (λ kind name. IsRefusedFile files R kind name status line) (slots_of command) (behind words) first in
+    let cause = long_of files R before now found.0 found.1 status line found.2 e a in
+    record { command = command; kind = found.0; name = found.1; command_is = is; file = found.3; long = cause.0; line = cause.1 }
 too_long_of files R words before now _ _ (due_answer command vs status bytes is read answer) e a = absurd (of_answer (λ s. s ≡ TooLong → ⊥) (λ q. cc) command vs status bytes answer e)
 
-bad_of : (files : Option NamedFiles) (R : List ℕ → Type 0) (before now : Option (List ℕ)) (kind found : FileKind) (name : List ℕ) (status : Status) (line : List ℕ) → IsRefusedFile files R found name status line → status ≡ refusal_status kind → Appends before now line → IsRefusedWith files kind before now found name
-bad_of files R before now kind found name _ _ (not_read rose) e a = absurd (no_text ReadFault (λ q. cc) (λ q. cc) kind (sym e))
-bad_of files R before now kind found name _ _ (too_long long) e a = absurd (no_text TooLong (λ q. cc) (λ q. cc) kind (sym e))
-bad_of files R before now kind found name _ _ (bad_text bytes line file bad) e a =
+bad_of : (files : Option NamedFiles) (R : List ℕ → Type 0) (words : List (List ℕ)) (kind : FileKind) (before now : Option (List ℕ)) (command : Command) (found : FileKind) (name : List ℕ) (status : Status) (line : List ℕ) → command_of words ≡ Some command → IsRefusedFile files R found name status line
+    → IsFileOf files found name (slots_of command) (behind words) → status ≡ refusal_status kind → Appends before now line → TextAnswer files words kind before now
+bad_of files R words kind before now command found name _ _ is (not_read rose) at e a = absurd (no_text ReadFault (λ q. cc) (λ q. cc) kind (sym e))
+bad_of files R words kind before now command found name _ _ is (too_long long) at e a = absurd (no_text TooLong (λ q. cc) (λ q. cc) kind (sym e))
+bad_of files R words kind before now command found name _ _ is (bad_text bytes line content bad) at e a =
     let same = one_kind found kind e in
-    record { kind_is = same; bytes = bytes; line = line; file = file; refused = subst (λ k. IsRefusedText k bytes line) same bad; written = a }
+    record {
+      command = command;
+      name = name;
+      bytes = bytes;
+      line = line;
+      command_is = is;
+      file = subst (λ k. IsFileOf files k name (slots_of command) (behind words)) same at;
+      content = content;
+      refused = subst (λ k. IsRefusedText k bytes line) same bad;
+      written = a;
+    }
 
 text_of_kind : (files : Option NamedFiles) (R : List ℕ → Type 0) (words : List (List ℕ)) (kind : FileKind) (before now : Option (List ℕ)) (status : Status) (bytes : List ℕ) → IsDue files R words status bytes → status ≡ refusal_status kind → Appends before now bytes → TextAnswer files words kind before now
 text_of_kind files R words kind before now _ _ (due_usage none) e a = absurd (no_text Usage (λ q. cc) (λ q. cc) kind (sym e))
-text_of_kind files R words kind before now _ _ (due_file command status line is first) e a = record {
-  command = command;
-  command_is = is;
-  file = at_map files (λ found name. IsRefusedFile files R found name status line) (IsRefusedWith files kind before now) (slots_of command) (behind words)
-      (λ found name h. bad_of files R before now kind found name status line h e a) first;
-}
+text_of_kind files R words kind before now _ _ (due_file command status line is first) e a =
+    let found = at_found files (λ other name. IsRefusedFile files R other name status line) (slots_of command) (behind words) first in
+    bad_of files R words kind before now command found.0 found.1 status line is found.2 found.3 e a
 text_of_kind files R words kind before now _ _ (due_answer command vs status bytes is read answer) e a =
     absurd (of_answer (λ s. s ≡ refusal_status kind → ⊥) (λ q. no_text ok_status (λ p. cc) (λ p. cc) kind (sym q)) command vs status bytes answer e)
 
@@ -121,7 +125,7 @@ output_of files R words before now _ _ (due_usage none) e a = absurd cc
 output_of files R words before now _ _ (due_file command status line is first) e a =
     absurd (of_first (λ s. s ≡ ok_status → ⊥) (λ q. cc) (λ q. cc) (λ q. cc) (λ q. cc) files R command words status line first e)
 output_of files R words before now _ _ (due_answer command vs status bytes is read (inl own)) e a = absurd (own_status (λ s. s ≡ ok_status → ⊥) command vs status bytes own e)
-output_of files R words before now _ _ (due_answer command vs status bytes is read (inr out)) e a = record { command = command; vs = vs; text = bytes; command_is = is; read = read; output = out.1; written = a }
+output_of files R words before now _ _ (due_answer command vs status bytes is read (inr out)) e a = record { command = command; values = vs; text = bytes; command_is = is; read = read; output = out.1; written = a }
 
 -- ---- from the outcome
 module _ (files : Option NamedFiles) (counts counts_now : List ℕ → ℕ) (words : List (List ℕ)) (before now : Option (List ℕ)) (faults faults_now : ℕ) (result : Status)

@@ -146,7 +146,7 @@ headline_of files words before now RunImage vs text is read out a told =
     }
 
 pub headline : (files : Option NamedFiles) (words : List (List ℕ)) (before now : Option (List ℕ)) → OutputAnswer files words before now → told_of files words ≢ None → RunAnswer words (told_of files words) before now
-headline files words before now o told = headline_of files words before now o.command o.vs o.text (is_of words o.command o.command_is) o.read o.output o.written told
+headline files words before now o told = headline_of files words before now o.command o.values o.text (is_of words o.command o.command_is) o.read o.output o.written told
 
 -- ---- a report that is certified
 report_words_are : (words : List (List ℕ)) (name report : List ℕ) → is_command Certify words ≡ true → behind words ≡ name ∷ [] → report_of words ≡ Some report → name ≡ report
@@ -180,4 +180,4 @@ certified_of files words before now Certify vs text report is read out a e =
     }
 
 pub certified : (files : Option NamedFiles) (words : List (List ℕ)) (before now : Option (List ℕ)) → OutputAnswer files words before now → (report : List ℕ) → report_of words ≡ Some report → CertifiedAnswer files report before now
-certified files words before now o report e = certified_of files words before now o.command o.vs o.text report (is_of words o.command o.command_is) o.read o.output o.written e
+certified files words before now o report e = certified_of files words before now o.command o.values o.text report (is_of words o.command o.command_is) o.read o.output o.written e

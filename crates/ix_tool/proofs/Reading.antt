@@ -1,5 +1,5 @@
 -- What the words of a command stand for, word after word.
-use Rattle.std.proofs.Common.{◌≡◌, ℕ, zero, suc, ◌+◌, ◌<◌, ◌≤◌, List, [], ◌∷◌, ◌++◌, length, drop, get_or, true, Option, ap, sym, ◌∙◌, subst, arith, add-one, append_assoc, Result, Err, ◌⊎◌, inl, inr}
+use Rattle.std.proofs.Common.{◌≡◌, ℕ, zero, suc, ◌+◌, ◌<◌, ◌≤◌, List, [], ◌∷◌, ◌++◌, length, drop, get_or, true, Option, ap, sym, ◌∙◌, subst, arith, add-one, append_assoc, Result, Err, ◌⊎◌, inl, inr, refl}
 use Rattle.std.specs.Prelude.{String, string_bytes}
 use Rattle.std.specs.declared.alloc.Global.{Global}
 use Rattle.std.proofs.lemmas.Bool.{and_parts, true≢false}
@@ -14,7 +14,7 @@ use Rattle.ix_tool.specs.declared.value.Value.{Value}
 use Rattle.ix_tool.specs.declared.value.Refusal.{Refusal}
 use Rattle.ix_tool.specs.declared.value.Refusal.TheVariants as refusal
 use Rattle.ix_tool.specs.CommandLine.{fits_slot, fits_slots, bytes_of}
-use Rattle.ix_tool.specs.CommandOutput.{IsRead, AreRead, AtFile, IsRefusedFile, not_read, too_long, bad_text, IsFirstRefused, WordRead, WordsRefused, RoseIn}
+use Rattle.ix_tool.specs.CommandOutput.{IsRead, AreRead, AtFile, IsFileOf, IsRefusedFile, not_read, too_long, bad_text, IsFirstRefused, WordRead, WordsRefused, RoseIn}
 use Rattle.ix_tool.proofs.Words.{fit_at, fit_short}
 
 le_or_lt : (a b : ℕ) → (a ≤ b) ⊎ (b < a)
@@ -83,22 +83,14 @@ read_all_of files slots words n front h fits before =
     subst (λ l. AreRead files slots (bytes_of words) l) (append-nil front) (before [] (read_none files slots words n h fits))
 
 -- ---- a word is refused
-pub at_map : (files : Option NamedFiles) (P Q : FileKind → List ℕ → Type 0) (slots : List Slot) (words : List (List ℕ)) → ((kind : FileKind) (name : List ℕ) → P kind name → Q kind name) → AtFile files P slots words → AtFile files Q slots words
-at_map files P Q [] words f h = absurd h
-at_map files P Q (Number most ∷ slots) [] f h = absurd h
-at_map files P Q (File kind ∷ slots) [] f h = absurd h
-at_map files P Q (Number most ∷ slots) (word ∷ words) f h = at_map files P Q slots words f h
-at_map files P Q (File kind ∷ slots) (word ∷ words) f (inl h) = inl (f kind word h)
-at_map files P Q (File kind ∷ slots) (word ∷ words) f (inr h) = inr (h.0, h.1, at_map files P Q slots words f h.2)
-
--- some file is
-pub at_some : (files : Option NamedFiles) (P : FileKind → List ℕ → Type 0) (slots : List Slot) (words : List (List ℕ)) → AtFile files P slots words → (kind : FileKind) × (name : List ℕ) × P kind name
-at_some files P [] words h = absurd h
-at_some files P (Number most ∷ slots) [] h = absurd h
-at_some files P (File kind ∷ slots) [] h = absurd h
-at_some files P (Number most ∷ slots) (word ∷ words) h = at_some files P slots words h
-at_some files P (File kind ∷ slots) (word ∷ words) (inl h) = (kind, word, h)
-at_some files P (File kind ∷ slots) (word ∷ words) (inr h) = at_some files P slots words h.2
+-- the file that it is so of
+pub at_found : (files : Option NamedFiles) (P : FileKind → List ℕ → Type 0) (slots : List Slot) (words : List (List ℕ)) → AtFile files P slots words → (kind : FileKind) × (name : List ℕ) × P kind name × IsFileOf files kind name slots words
+at_found files P [] words h = absurd h
+at_found files P (Number most ∷ slots) [] h = absurd h
+at_found files P (File kind ∷ slots) [] h = absurd h
+at_found files P (Number most ∷ slots) (word ∷ words) h = at_found files P slots words h
+at_found files P (File kind ∷ slots) (word ∷ words) (inl h) = (kind, word, h, inl (refl, refl))
+at_found files P (File kind ∷ slots) (word ∷ words) (inr h) = let later = at_found files P slots words h.2 in (later.0, later.1, later.2, inr (h.0, h.1, later.3))
 
 pub refused_more : (files : Option NamedFiles) (R Q : List ℕ → Type 0) (kind : FileKind) (name : List ℕ) (status : Status) (line : List ℕ) → (R name → Q name) → IsRefusedFile files R kind name status line → IsRefusedFile files Q kind name status line
 refused_more files R Q kind name _ _ f (not_read rose) = not_read (f rose)

@@ -9,6 +9,7 @@ use Rattle.ix_tool.specs.declared.command.FileKind.TheVariants.{Image, Report}
 use Rattle.ix_tool.specs.declared.command.Slot.{Slot}
 use Rattle.ix_tool.specs.declared.command.Slot.TheVariants.{Number, File}
 
+-- the value of a decimal digit
 abbrev pub digit_value : ℕ → Option ℕ
 digit_value b = if nat_le 48 b && nat_le b 57 then Some (b - 48) else None
 
@@ -21,9 +22,11 @@ digits_number front (b ∷ rest) = option_and_then (λ digit. digits_number (10 
 abbrev pub number_of : List ℕ → Option ℕ
 number_of word = if nat_le 1 (length word) && nat_le (length word) 10 then digits_number 0 word else None
 
+-- the number, where it is at most this one
 abbrev pub at_most : ℕ → ℕ → Option ℕ
 at_most most n = if nat_le n most then Some n else None
 
+-- the number that the word writes, where it is in the range
 abbrev pub number_within : ℕ → List ℕ → Option ℕ
 number_within most word = option_and_then (at_most most) (number_of word)
 
@@ -32,6 +35,7 @@ abbrev pub word_of : Command → List ℕ
 word_of RunImage = codes "run"
 word_of Certify = codes "certify"
 
+-- numbers and files, in the order of the words
 abbrev pub slots_of : Command → List Slot
 slots_of RunImage = File Image ∷ Number 200000 ∷ []
 slots_of Certify = File Report ∷ []
@@ -53,10 +57,12 @@ fits_slots [] (word ∷ words) = false
 fits_slots (slot ∷ slots) [] = false
 fits_slots (slot ∷ slots) (word ∷ words) = fits_slot slot word && fits_slots slots words
 
+-- the words are those of this line of the table
 abbrev pub is_command : Command → List (List ℕ) → Bool
 is_command command [] = false
 is_command command (word ∷ rest) = bytes_eq word (word_of command) && fits_slots (slots_of command) rest
 
+-- the first of these commands whose words they are
 abbrev pub first_command : List Command → List (List ℕ) → Option Command
 first_command [] words = None
 first_command (command ∷ rest) words = if is_command command words then Some command else first_command rest words
@@ -74,6 +80,7 @@ pub record RunCommand : Type 0 where
   pub image : List ℕ
   pub cycles : ℕ
 
+-- the run of this image, where the first word and the number are those of one
 abbrev pub run_command : Bool → List ℕ → Option ℕ → Option RunCommand
 run_command is_run image None = None
 run_command is_run image (Some n) = if is_run then Some (record { image = image; cycles = n }) else None

@@ -88,8 +88,8 @@ IsRead files (File kind) word v = (bytes : List ℕ) × IsFile files word bytes 
 -- each of the words does
 abbrev pub AreRead : Option NamedFiles → List Slot → List (List ℕ) → List Value → Type 0
 AreRead files [] [] [] = Unit {0}
-AreRead files (slot ∷ slots) (word ∷ words) (v ∷ vs) = IsRead files slot word v × AreRead files slots words vs
-AreRead files slots words vs = ⊥
+AreRead files (slot ∷ slots) (word ∷ words) (v ∷ values) = IsRead files slot word v × AreRead files slots words values
+AreRead files slots words values = ⊥
 
 -- the file is refused with this status and line: its count of faults rose, it is too long, or its text is refused
 pub data IsRefusedFile (files : Option NamedFiles) (Rises : List ℕ → Type 0) (kind : FileKind) (name : List ℕ) : Status → List ℕ → Type 0 where
@@ -112,21 +112,21 @@ IsFirstRefused files Rises slots words status line = AtFile files (λ kind name.
 abbrev pub IsOutput : Command → List Value → List ℕ → Type 0
 IsOutput RunImage (value.Image image ∷ value.Number cycles ∷ []) text = IsRunOutput image cycles text
 IsOutput Certify (value.Report ∷ []) text = text ≡ codes "yes\n"
-IsOutput command vs text = ⊥
+IsOutput command values text = ⊥
 
 -- a refusal of the command's own, behind those of its files; no command has one yet
 abbrev pub IsOwnRefusal : Command → List Value → Status → List ℕ → Type 0
-IsOwnRefusal command vs status line = ⊥
+IsOwnRefusal command values status line = ⊥
 
 -- what the command answers: its own refusal, or its output
 abbrev pub IsAnswer : Command → List Value → Status → List ℕ → Type 0
-IsAnswer command vs status bytes = IsOwnRefusal command vs status bytes ⊎ ((status ≡ ok_status) × IsOutput command vs bytes)
+IsAnswer command values status bytes = IsOwnRefusal command values status bytes ⊎ ((status ≡ ok_status) × IsOutput command values bytes)
 
 -- ---- the one relation: the status and the bytes that are due, by the words, then the files, then the command itself
 pub data IsDue (files : Option NamedFiles) (Rises : List ℕ → Type 0) (words : List (List ℕ)) : Status → List ℕ → Type 0 where
   due_usage : command_of words ≡ None → IsDue files Rises words Usage (codes "refused Usage\n")
   due_file : (command : Command) (status : Status) (line : List ℕ) → command_of words ≡ Some command → IsFirstRefused files Rises (slots_of command) (behind words) status line → IsDue files Rises words status line
-  due_answer : (command : Command) (vs : List Value) (status : Status) (bytes : List ℕ) → command_of words ≡ Some command → AreRead files (slots_of command) (behind words) vs → IsAnswer command vs status bytes → IsDue files Rises words status bytes
+  due_answer : (command : Command) (values : List Value) (status : Status) (bytes : List ℕ) → command_of words ≡ Some command → AreRead files (slots_of command) (behind words) values → IsAnswer command values status bytes → IsDue files Rises words status bytes
 
 -- ---- what was written
 -- a front of the bytes was written, and the rest is what is left
@@ -183,13 +183,13 @@ WordsRefused files Rises slots words (refusal.Line status text) = IsFirstRefused
 abbrev pub Takes : Command → List Value → Type 0
 Takes RunImage (value.Image image ∷ value.Number cycles ∷ []) = Unit {0}
 Takes Certify (value.Report ∷ []) = Unit {0}
-Takes command vs = ⊥
+Takes command values = ⊥
 
 -- what a command with these values did
 abbrev pub Answered : Command → List Value → Option (List ℕ) → Option (List ℕ) → ℕ → ℕ → Status → Type 0
-Answered command vs before now faults faults_now result =
+Answered command values before now faults faults_now result =
     ((result ≡ Memory) × (now ≡ before))
-    ⊎ ((status : Status) × (bytes : List ℕ) × IsAnswer command vs status bytes × Writes status bytes before now faults faults_now result)
+    ⊎ ((status : Status) × (bytes : List ℕ) × IsAnswer command values status bytes × Writes status bytes before now faults faults_now result)
 
 -- ---- clauses on an answer
 
@@ -219,11 +219,19 @@ told_report files words = report_named files (report_of words)
 abbrev pub UsageAnswer : List (List ℕ) → Option (List ℕ) → Option (List ℕ) → Type 0
 UsageAnswer words before now = (command_of words ≡ None) × Appends before now (codes "refused Usage\n")
 
+-- a word behind the first names this file of this kind, and the words before it are read
+abbrev pub IsFileOf : Option NamedFiles → FileKind → List ℕ → List Slot → List (List ℕ) → Type 0
+IsFileOf files kind name slots words = AtFile files (λ found word. (found ≡ kind) × (word ≡ name)) slots words
+
 -- the count of one of the command's files rose in this call, and the refusal that names it was written
 pub record ReadFaultAnswer (files : Option NamedFiles) (words : List (List ℕ)) (counts counts_now : List ℕ → ℕ) (before now : Option (List ℕ)) : Type 0 where
   pub command : Command
+  pub kind : FileKind
+  pub name : List ℕ
   pub command_is : command_of words ≡ Some command
-  pub file : AtFile files (λ kind name. RoseIn counts counts_now name × Appends before now (file_line (codes "ReadFault") name)) (slots_of command) (behind words)
+  pub file : IsFileOf files kind name (slots_of command) (behind words)
+  pub rose : RoseIn counts counts_now name
+  pub line : Appends before now (file_line (codes "ReadFault") name)
 
 -- the sink's count rose in this call, and a front of the bytes due was written
 pub record WriteFaultAnswer (files : Option NamedFiles) (words : List (List ℕ)) (counts counts_now : List ℕ → ℕ) (before now : Option (List ℕ)) (faults faults_now : ℕ) : Type 0 where
@@ -236,32 +244,33 @@ pub record WriteFaultAnswer (files : Option NamedFiles) (words : List (List ℕ)
 -- one of the command's files has more than 1,048,576 bytes, and the refusal that names it was written
 pub record TooLongAnswer (files : Option NamedFiles) (words : List (List ℕ)) (before now : Option (List ℕ)) : Type 0 where
   pub command : Command
+  pub kind : FileKind
+  pub name : List ℕ
   pub command_is : command_of words ≡ Some command
-  pub file : AtFile files (λ kind name. IfSome (told_file files name) (λ file. most_bytes < length file) × Appends before now (file_line (codes "TooLong") name)) (slots_of command) (behind words)
+  pub file : IsFileOf files kind name (slots_of command) (behind words)
+  pub long : IfSome (told_file files name) (λ bytes. most_bytes < length bytes)
+  pub line : Appends before now (file_line (codes "TooLong") name)
 
--- this text of a file of the command is refused with this line, which was written
-pub record IsRefusedWith (files : Option NamedFiles) (kind : FileKind) (before now : Option (List ℕ)) (found : FileKind) (name : List ℕ) : Type 0 where
-  pub kind_is : found ≡ kind
-  pub bytes : List ℕ
-  pub line : List ℕ
-  pub file : IsFile files name bytes
-  pub refused : IsRefusedText kind bytes line
-  pub written : Appends before now line
-
--- one of the command's files of this kind is refused, and its refusal was written
+-- the text of one of the command's files of this kind is refused with a line, which was written
 pub record TextAnswer (files : Option NamedFiles) (words : List (List ℕ)) (kind : FileKind) (before now : Option (List ℕ)) : Type 0 where
   pub command : Command
+  pub name : List ℕ
+  pub bytes : List ℕ
+  pub line : List ℕ
   pub command_is : command_of words ≡ Some command
-  pub file : AtFile files (IsRefusedWith files kind before now) (slots_of command) (behind words)
+  pub file : IsFileOf files kind name (slots_of command) (behind words)
+  pub content : IsFile files name bytes
+  pub refused : IsRefusedText kind bytes line
+  pub written : Appends before now line
 
 -- the output of the command was written whole
 pub record OutputAnswer (files : Option NamedFiles) (words : List (List ℕ)) (before now : Option (List ℕ)) : Type 0 where
   pub command : Command
-  pub vs : List Value
+  pub values : List Value
   pub text : List ℕ
   pub command_is : command_of words ≡ Some command
-  pub read : AreRead files (slots_of command) (behind words) vs
-  pub output : IsOutput command vs text
+  pub read : AreRead files (slots_of command) (behind words) values
+  pub output : IsOutput command values text
   pub written : Appends before now text
 
 -- the run was written whole: its text is that of one list of rows of which the headline holds
@@ -311,15 +320,15 @@ NoFileRises Rises (File kind ∷ slots) (word ∷ words) = (Rises word → ⊥) 
 NoFileRises Rises slots words = Unit {0}
 
 -- what a complete answer asks: the words of a command, told files that are all read, no refusal of the command's own, and no count that rises
-pub record Premises (files : Option NamedFiles) (words : List (List ℕ)) (counts counts_now : List ℕ → ℕ) (faults faults_now : ℕ) (command : Command) (vs : List Value) : Type 0 where
+pub record Premises (files : Option NamedFiles) (words : List (List ℕ)) (counts counts_now : List ℕ → ℕ) (faults faults_now : ℕ) (command : Command) (values : List Value) : Type 0 where
   pub command_is : command_of words ≡ Some command
   pub told : files ≢ None
-  pub read : AreRead files (slots_of command) (behind words) vs
-  pub no_refusal : (status : Status) (line : List ℕ) → IsOwnRefusal command vs status line → ⊥
+  pub read : AreRead files (slots_of command) (behind words) values
+  pub no_refusal : (status : Status) (line : List ℕ) → IsOwnRefusal command values status line → ⊥
   pub no_read_fault : NoFileRises (RoseIn counts counts_now) (slots_of command) (behind words)
   pub no_write_fault : Rose faults faults_now → ⊥
 
 -- the output is written whole, or memory was not found and nothing was written
 abbrev pub Completes : Command → List Value → Option (List ℕ) → Option (List ℕ) → Status → Type 0
-Completes command vs before now result =
-    ((result ≡ ok_status) × ((text : List ℕ) × IsOutput command vs text × Appends before now text)) ⊎ ((result ≡ Memory) × (now ≡ before))
+Completes command values before now result =
+    ((result ≡ ok_status) × ((text : List ℕ) × IsOutput command values text × Appends before now text)) ⊎ ((result ≡ Memory) × (now ≡ before))

@@ -9,21 +9,6 @@ use std::io::Read;
 /// The byte behind each text.
 const END: u8 = 30;
 
-/// The number of the line that fails, and the kind of the failure.
-fn told(error: CertErr) -> (u32, &'static str) {
-    match error {
-        CertErr::Line { line } => (line, "Line"),
-        CertErr::Dep { line } => (line, "Dep"),
-        CertErr::Window { line } => (line, "Window"),
-        CertErr::Chain { line } => (line, "Chain"),
-        CertErr::Balance { line } => (line, "Balance"),
-        CertErr::Value { line } => (line, "Value"),
-        CertErr::NotPositive { line } => (line, "NotPositive"),
-        CertErr::NotClosed { line } => (line, "NotClosed"),
-        CertErr::Memory => (0, "Memory"),
-    }
-}
-
 fn judge(alloc: Global, text: &[u8]) -> Result<(), CertErr> {
     if text.len() >= 0x1_0000_0000 {
         return Err(CertErr::Memory);
@@ -39,7 +24,8 @@ fn main(rt: HostRuntime) -> io::Result<()> {
         match judge(rt.alloc(), text) {
             Ok(()) => println!(rt; "yes")?,
             Err(error) => {
-                let (line, kind) = told(error);
+                let line = error.line();
+                let kind = error.kind();
                 println!(rt; "{line} {kind}")?;
             }
         }

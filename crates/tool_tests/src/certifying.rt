@@ -1,5 +1,4 @@
-ghost use Rattle.std.specs.Prelude.{◌≢◌};
-
+use crate::sure::run_surely;
 use ix_bits::{List, Memory, Name};
 use ix_io::{MemShelf, MemSink, SureShelf, SureSink};
 use ix_tool::status::Status;
@@ -28,14 +27,6 @@ fn words(alloc: Global, name: &str) -> Result<Vec<String>, Fail> {
     words.push(String::from_str(alloc, "certify")?)?;
     words.push(String::from_str(alloc, name)?)?;
     Ok(words)
-}
-
-// Where no count can rise, no fault is answered.
-fn run_surely(alloc: Global, words: &[String], shelf: &mut SureShelf, sink: &mut SureSink) -> Status
-    ensures no_read_fault { result ≢ Status.ReadFault }
-    ensures no_write_fault { result ≢ Status.WriteFault }
-{
-    run_tool(alloc, words, shelf, sink)
 }
 
 // The status and the bytes of the check of these bytes, where nothing fails.

@@ -5,3 +5,4 @@
 mod certifying;
 #[cfg(test)]
 mod running;
+pub mod sure;

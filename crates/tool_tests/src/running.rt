@@ -1,5 +1,6 @@
-ghost use Rattle.std.specs.Prelude.{◌≢◌, ◌≤◌, length};
+ghost use Rattle.std.specs.Prelude.{◌≤◌, length};
 
+use crate::sure::run_surely;
 use ix_bits::{List, Memory, Name};
 use ix_io::{MemShelf, MemSink, SureShelf, SureSink};
 use ix_tool::status::Status;
@@ -47,14 +48,6 @@ fn shelf_of(alloc: Global, name: &str, bytes: &[u8]) -> Result<List<(Name, List<
         List::from_slice(alloc, bytes)?,
     ))?;
     Ok(files)
-}
-
-// Where no count can rise, no fault is answered.
-fn run_surely(alloc: Global, words: &[String], shelf: &mut SureShelf, sink: &mut SureSink) -> Status
-    ensures no_read_fault { result ≢ Status.ReadFault }
-    ensures no_write_fault { result ≢ Status.WriteFault }
-{
-    run_tool(alloc, words, shelf, sink)
 }
 
 // The status and the bytes of a run of the file `IMAGE`, where nothing fails.

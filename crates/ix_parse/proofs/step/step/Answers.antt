@@ -1,6 +1,6 @@
 use Rattle.std.proofs.Common.{subst, sym}
 use Rattle.ix_tree.specs.Machine.{State, step}
-use Rattle.ix_parse.specs.Moves.{Moves}
+use Rattle.ix_parse_state.specs.Moves.{Moves}
 use Rattle.ix_parse.proofs.Places.{at_place, behind_is}
 use Rattle.ix_parse.proofs.step.step.Goals as goal
 

@@ -1,5 +1,5 @@
 use Rattle.std.proofs.Common.{◌+◌}
-use Rattle.ix_parse.specs.Views.{stack_of}
+use Rattle.ix_parse_state.specs.Views.{stack_of}
 use Rattle.ix_parse.proofs.Deeper.{moves_stmt}
 use Rattle.ix_parse.proofs.stmt.begin_inner.Goals as goal
 

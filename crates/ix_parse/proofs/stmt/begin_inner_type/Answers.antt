@@ -1,5 +1,5 @@
 use Rattle.std.proofs.Common.{◌+◌}
-use Rattle.ix_parse.specs.Views.{stack_of}
+use Rattle.ix_parse_state.specs.Views.{stack_of}
 use Rattle.ix_parse.proofs.Deeper.{moves_type}
 use Rattle.ix_parse.proofs.stmt.begin_inner_type.Goals as goal
 

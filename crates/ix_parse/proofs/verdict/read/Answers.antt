@@ -1,10 +1,10 @@
 use Rattle.std.proofs.Common.{ℕ, suc, ◌≡◌, ◌+◌, Result, Err, ap, sym, ◌∙◌, subst, arith}
 use Rattle.ix_tree.specs.View.{view_tree}
 use Rattle.ix_tree.specs.Machine.{State, step}
-use Rattle.ix_parse.specs.declared.error.Stop.{Stop}
-use Rattle.ix_parse.specs.declared.state.Reader.{Reader}
-use Rattle.ix_parse.specs.Views.{reader_of}
-use Rattle.ix_parse.specs.Moves.{Moves}
+use Rattle.ix_parse_state.specs.declared.stop.Stop.{Stop}
+use Rattle.ix_parse_state.specs.declared.state.Reader.{Reader}
+use Rattle.ix_parse_state.specs.Views.{reader_of}
+use Rattle.ix_parse_state.specs.Moves.{Moves}
 use Rattle.ix_parse.proofs.Runs.{Read, begins, reads, refused_here, deep_here, ends_early, ends_well}
 use Rattle.ix_parse.proofs.verdict.read.Goals as goal
 

@@ -1,5 +1,5 @@
 use Rattle.std.proofs.Common.{length, ◌-◌}
-use Rattle.ix_parse.specs.Views.{reader_of}
+use Rattle.ix_parse_state.specs.Views.{reader_of}
 use Rattle.ix_parse.proofs.Runs.{Read}
 use Rattle.ix_parse.proofs.verdict.read.Given as goal
 

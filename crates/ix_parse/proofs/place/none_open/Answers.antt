@@ -1,8 +1,0 @@
-use Rattle.std.proofs.Common.{List, ap, ◌∙◌}
-use Rattle.ix_parse.specs.declared.frame.Frame.{Frame}
-use Rattle.ix_parse.specs.Views.{stack_of}
-use Rattle.ix_parse.proofs.Stacks.{none_open}
-use Rattle.ix_parse.proofs.place.none_open.Goals as goal
-
-pub returns : goal.returns
-returns c = ap (λ (fs : List Frame). stack_of fs) c.new.ensures.items ∙ none_open

@@ -1,8 +1,0 @@
-use Rattle.std.proofs.Common.{List, ap, ◌∙◌}
-use Rattle.ix_parse.specs.declared.frame.Frame.{Frame}
-use Rattle.ix_parse.specs.Views.{stack_of}
-use Rattle.ix_parse.proofs.Stacks.{pushed}
-use Rattle.ix_parse.proofs.stack.push.Goals as goal
-
-pub returns-in-Ok : goal.returns-in-Ok
-returns-in-Ok c = ap (λ (fs : List Frame). stack_of fs) c.in-Ok.ensures.items ∙ pushed c.args.stack.items c.args.frame

@@ -1,0 +1,3 @@
+mod Tops
+mod Powers
+mod Deep

@@ -1,0 +1,383 @@
+ghost use Rattle.std.specs.Prelude.{◌≡◌, ℕ, [], ◌∷◌, ◌++◌, map, IfOk};
+ghost use Rattle.ix_tree.specs.View.{view, view_place, view_assign};
+ghost use Rattle.ix_tree.specs.Productions.{place_x, place_mem, place_mem_range, assign_set};
+ghost use Rattle.ix_tree.specs.Machine.{go, want, close, f_round, f_index, f_range, f_then, f_x, f_mem, f_mem_range, f_if, f_start, f_test, f_entries};
+ghost use Rattle.ix_parse_state.specs.Parts.{part_of};
+ghost use Rattle.ix_parse_state.specs.Views.{stack_of, closing_frame, named_of};
+ghost use Rattle.ix_parse_state.specs.Moves.{Moves};
+
+use crate::assign::after_assign;
+use crate::decl::after_value;
+use ix_bits::{BinOp, List, Memory};
+use ix_parse_state::chain::Indexed;
+use ix_parse_state::frame::{
+    AssignFrame, ClosingFrame, Frame, NamedState, OpenLoop, OperatorFrame, StmtFrame,
+};
+use ix_parse_state::look::{expect, is_symbol, level, nest};
+use ix_parse_state::node::{between, index, range, round};
+use ix_parse_state::part::Part;
+use ix_parse_state::reader::{in_assign, in_expr, in_stmt, in_text};
+use ix_parse_state::sign::{CLOSE_BRACE, CLOSE_ROUND, CLOSE_SQUARE, COLON, COMMA, SEMICOLON};
+use ix_parse_state::stack::{pop, push};
+use ix_parse_state::state::{AssignGoal, ExprGoal, Reader, StmtGoal, TextGoal};
+use ix_parse_state::stop::Stop;
+use ix_tree::{Assign, Expr, Lvalue, LvalueKind, Span, Token};
+use std::alloc::Global;
+
+/// What goes on behind an expression with a token that is no operator.
+pub fn close(alloc: Global, part: Part, stack: Vec<Frame>, token: &Token) -> Result<Reader, Stop>
+    ensures { (e : ℕ) → Moves result (close e (part_of part) (stack_of stack.items) token.now) }
+{
+    let (frame, stack) = match pop(stack) {
+        None => return Err(Stop::Refused),
+        Some(top) => top,
+    };
+    match frame {
+        Frame::Closing(frame) => close_frame(alloc, part, frame, stack, token),
+        other => {
+            drop(other);
+            Err(Stop::Refused)
+        }
+    }
+}
+
+/// What goes on behind the expression of this production.
+fn close_frame(
+    alloc: Global,
+    part: Part,
+    frame: ClosingFrame,
+    stack: Vec<Frame>,
+    token: &Token,
+) -> Result<Reader, Stop>
+    ensures { (e : ℕ) → Moves result (close e (part_of part) (closing_frame frame ∷ stack_of stack.items) token.now) }
+{
+    match frame {
+        ClosingFrame::Round(depth, first) => {
+            let next = close_round(depth, &first, part, stack, token);
+            drop(first);
+            next
+        }
+        ClosingFrame::Index(x) => close_index(alloc, x, part, stack, token),
+        ClosingFrame::Range(x, high) => close_range(alloc, x, high, part, stack, token),
+        ClosingFrame::Then(depth, condition) => close_then(depth, condition, part, stack, token),
+        ClosingFrame::X(depth, word) => {
+            let next = close_x(depth, &word, part, stack, token);
+            drop(word);
+            next
+        }
+        ClosingFrame::Mem(depth, word) => close_mem(depth, word, part, stack, token),
+        ClosingFrame::MemRange(depth, word, high) => {
+            let next = close_mem_range(depth, &word, high, part, stack, token);
+            drop(word);
+            next
+        }
+        ClosingFrame::Set(_, place, op) => after_assign(alloc, set(place, op, part), stack, token),
+        ClosingFrame::Value(first, name) => after_value(alloc, first, name, part, stack, token),
+        ClosingFrame::If(depth, first) => close_if(depth, first, part, stack, token),
+        ClosingFrame::Start(head) => close_start(head, part, stack, token),
+        ClosingFrame::Test(head, start) => close_test(head, start, part, stack, token),
+        ClosingFrame::Entries(table, length, entries) => {
+            close_entry(table, length, entries, part, stack, token)
+        }
+    }
+}
+
+/// The end of round brackets around an expression.
+fn close_round(
+    depth: u32,
+    first: &Token,
+    part: Part,
+    stack: Vec<Frame>,
+    token: &Token,
+) -> Result<Reader, Stop>
+    ensures { Moves result (close 0 (part_of part) (f_round depth first.now ∷ stack_of stack.items) token.now) }
+{
+    expect(token, CLOSE_ROUND, depth, 1)?;
+    Ok(in_expr(ExprGoal::Have(depth, round(first, part, token)), stack))
+}
+
+/// The end of an index, or the `:` between its two parts.
+fn close_index(
+    alloc: Global,
+    x: Indexed,
+    part: Part,
+    stack: Vec<Frame>,
+    token: &Token,
+) -> Result<Reader, Stop>
+    ensures { Moves result (close 0 (part_of part) (f_index x.depth (part_of x.left) ∷ stack_of stack.items) token.now) }
+{
+    if is_symbol(token, COLON) {
+        let inner = nest(x.depth, x.count)?;
+        let stack = push(stack, Frame::Closing(ClosingFrame::Range(x, part)))?;
+        return Ok(in_expr(ExprGoal::Want(inner), stack));
+    }
+    let depth = x.depth;
+    expect(token, CLOSE_SQUARE, depth, x.count)?;
+    let part = index(alloc, x, part, token)?;
+    Ok(in_expr(ExprGoal::Have(depth, part), stack))
+}
+
+/// The end of an index of two parts.
+fn close_range(
+    alloc: Global,
+    x: Indexed,
+    high: Part,
+    part: Part,
+    stack: Vec<Frame>,
+    token: &Token,
+) -> Result<Reader, Stop>
+    ensures { Moves result (close 0 (part_of part) (f_range x.depth (part_of x.left) (part_of high) ∷ stack_of stack.items) token.now) }
+{
+    let depth = x.depth;
+    expect(token, CLOSE_SQUARE, depth, x.count)?;
+    let part = range(alloc, x, high, part, token)?;
+    Ok(in_expr(ExprGoal::Have(depth, part), stack))
+}
+
+/// The `:` of a choice.
+fn close_then(
+    depth: u32,
+    condition: Part,
+    part: Part,
+    stack: Vec<Frame>,
+    token: &Token,
+) -> Result<Reader, Stop>
+    ensures { Moves result (close 0 (part_of part) (f_then depth (part_of condition) ∷ stack_of stack.items) token.now) }
+{
+    if !is_symbol(token, COLON) {
+        return Err(Stop::Refused);
+    }
+    let inner = level(depth)? + 1;
+    let stack = push(
+        stack,
+        Frame::Operator(OperatorFrame::Else(depth, condition, part)),
+    )?;
+    Ok(in_expr(ExprGoal::Want(inner), stack))
+}
+
+/// The end of the index of a written register.
+fn close_x(
+    depth: u32,
+    word: &Token,
+    part: Part,
+    stack: Vec<Frame>,
+    token: &Token,
+) -> Result<Reader, Stop>
+    ensures { Moves result (close 0 (part_of part) (f_x depth word.now ∷ stack_of stack.items) token.now) }
+{
+    expect(token, CLOSE_SQUARE, depth, 1)?;
+    Ok(in_assign(AssignGoal::Placed(x_place(word, part, token)), stack))
+}
+
+/// The end of the index of written memory, or the `:` between its two parts.
+fn close_mem(
+    depth: u32,
+    word: Token,
+    part: Part,
+    stack: Vec<Frame>,
+    token: &Token,
+) -> Result<Reader, Stop>
+    ensures { Moves result (close 0 (part_of part) (f_mem depth word ∷ stack_of stack.items) token.now) }
+{
+    if is_symbol(token, COLON) {
+        let inner = match nest(depth, 1) {
+            Ok(inner) => inner,
+            Err(stop) => {
+                drop(word);
+                return Err(stop);
+            }
+        };
+        let stack = push(
+            stack,
+            Frame::Closing(ClosingFrame::MemRange(depth, word, part)),
+        )?;
+        return Ok(in_expr(ExprGoal::Want(inner), stack));
+    }
+    if !is_symbol(token, CLOSE_SQUARE) {
+        drop(word);
+        return Err(Stop::Refused);
+    }
+    if let Err(stop) = nest(depth, 1) {
+        drop(word);
+        return Err(stop);
+    }
+    let place = mem_place(&word, part, token);
+    drop(word);
+    Ok(in_assign(AssignGoal::Placed(place), stack))
+}
+
+/// The end of the index of two parts of written memory.
+fn close_mem_range(
+    depth: u32,
+    word: &Token,
+    high: Part,
+    part: Part,
+    stack: Vec<Frame>,
+    token: &Token,
+) -> Result<Reader, Stop>
+    ensures { Moves result (close 0 (part_of part) (f_mem_range depth word.now (part_of high) ∷ stack_of stack.items) token.now) }
+{
+    expect(token, CLOSE_SQUARE, depth, 1)?;
+    let place = mem_range_place(word, high, part, token);
+    Ok(in_assign(AssignGoal::Placed(place), stack))
+}
+
+/// The end of the condition of an `if`.
+fn close_if(
+    depth: u32,
+    first: Token,
+    part: Part,
+    stack: Vec<Frame>,
+    token: &Token,
+) -> Result<Reader, Stop>
+    ensures { Moves result (close 0 (part_of part) (f_if depth first ∷ stack_of stack.items) token.now) }
+{
+    let inner = match expect(token, CLOSE_ROUND, depth, 1) {
+        Ok(inner) => inner,
+        Err(stop) => {
+            drop(first);
+            return Err(stop);
+        }
+    };
+    let stack = push(stack, Frame::Stmt(StmtFrame::Branch(depth, first, part)))?;
+    Ok(in_stmt(StmtGoal::Stmt(inner), stack))
+}
+
+/// The end of the start in a loop's head.
+fn close_start(head: OpenLoop, part: Part, stack: Vec<Frame>, token: &Token) -> Result<Reader, Stop>
+    ensures { Moves result (close 0 (part_of part) (f_start head.depth head.first head.ty head.name ∷ stack_of stack.items) token.now) }
+{
+    let inner = match expect(token, SEMICOLON, head.depth, 1) {
+        Ok(inner) => inner,
+        Err(stop) => {
+            drop(head);
+            return Err(stop);
+        }
+    };
+    let stack = push(stack, Frame::Closing(ClosingFrame::Test(head, part)))?;
+    Ok(in_expr(ExprGoal::Want(inner), stack))
+}
+
+/// The end of the test in a loop's head.
+fn close_test(
+    head: OpenLoop,
+    start: Part,
+    part: Part,
+    stack: Vec<Frame>,
+    token: &Token,
+) -> Result<Reader, Stop>
+    ensures { Moves result (close 0 (part_of part) (f_test head.depth head.first head.ty head.name (part_of start) ∷ stack_of stack.items) token.now) }
+{
+    let inner = match expect(token, SEMICOLON, head.depth, 1) {
+        Ok(inner) => inner,
+        Err(stop) => {
+            drop(head);
+            return Err(stop);
+        }
+    };
+    let stack = push(stack, Frame::Assign(AssignFrame::Last(head, start, part)))?;
+    Ok(in_assign(AssignGoal::Assigning(inner), stack))
+}
+
+/// The end of an entry of a table.
+fn close_entry(
+    table: NamedState,
+    length: u128,
+    entries: List<Expr>,
+    part: Part,
+    stack: Vec<Frame>,
+    token: &Token,
+) -> Result<Reader, Stop>
+    ensures { Moves result (close 0 (part_of part) (f_entries (named_of table) length (map view entries) ∷ stack_of stack.items) token.now) }
+{
+    if is_symbol(token, COMMA) {
+        return next_entry(table, length, entries, part, stack);
+    }
+    if !is_symbol(token, CLOSE_BRACE) {
+        drop(table);
+        return Err(Stop::Refused);
+    }
+    match more(entries, part) {
+        Ok(entries) => Ok(in_text(TextGoal::TableEnd(table, length, entries))),
+        Err(Memory) => {
+            drop(table);
+            Err(Stop::Memory)
+        }
+    }
+}
+
+/// The next entry of a table, behind a `,`.
+fn next_entry(
+    table: NamedState,
+    length: u128,
+    entries: List<Expr>,
+    part: Part,
+    stack: Vec<Frame>,
+) -> Result<Reader, Stop>
+    ensures { Moves result (go 0 (want 0 (f_entries (named_of table) length (map view entries ++ (part_of part).tree ∷ []) ∷ stack_of stack.items))) }
+{
+    match more(entries, part) {
+        Ok(entries) => {
+            let frame = ClosingFrame::Entries(table, length, entries);
+            let stack = push(stack, Frame::Closing(frame))?;
+            Ok(in_expr(ExprGoal::Want(0), stack))
+        }
+        Err(Memory) => {
+            drop(table);
+            Err(Stop::Memory)
+        }
+    }
+}
+
+/// The entries with one more.
+fn more(mut entries: List<Expr>, part: Part) -> Result<List<Expr>, Memory>
+    ensures { IfOk result (λ xs. map view xs ≡ map view entries ++ (part_of part).tree ∷ []) }
+{
+    entries.push(part.tree)?;
+    Ok(entries)
+}
+
+/// A register that is written.
+fn x_place(word: &Token, v: Part, last: &Token) -> Lvalue
+    ensures { view_place result ≡ place_x word.now (part_of v) last.now }
+{
+    Lvalue {
+        span: between(word, last),
+        kind: LvalueKind::X(v.tree),
+    }
+}
+
+/// Memory that is written, at one address.
+fn mem_place(word: &Token, v: Part, last: &Token) -> Lvalue
+    ensures { view_place result ≡ place_mem word.now (part_of v) last.now }
+{
+    Lvalue {
+        span: between(word, last),
+        kind: LvalueKind::Mem(v.tree, None),
+    }
+}
+
+/// Memory that is written, over a range of addresses.
+fn mem_range_place(word: &Token, high: Part, low: Part, last: &Token) -> Lvalue
+    ensures { view_place result ≡ place_mem_range word.now (part_of high) (part_of low) last.now }
+{
+    Lvalue {
+        span: between(word, last),
+        kind: LvalueKind::Mem(high.tree, Some(low.tree)),
+    }
+}
+
+/// An assignment of a value to a place.
+fn set(target: Lvalue, op: Option<BinOp>, v: Part) -> Assign
+    ensures { view_assign result ≡ assign_set (view_place target) op (part_of v) }
+{
+    Assign {
+        span: Span {
+            from: target.span.from,
+            to: v.to,
+        },
+        target,
+        op,
+        value: v.tree,
+    }
+}

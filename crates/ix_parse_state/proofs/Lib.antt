@@ -1,0 +1,5 @@
+pub mod Stacks
+pub mod Settling
+pub mod Expressions
+pub mod Blocks
+pub mod Nestings
