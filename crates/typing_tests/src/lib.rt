@@ -1,0 +1,7 @@
+//! Tests of `ix_typing` and `ix_check`.
+#![tactic(auto)]
+
+#[cfg(test)]
+mod names;
+#[cfg(test)]
+mod statements;
