@@ -15,4 +15,6 @@ mod value;
 pub use error::UnrollErr;
 pub use laws::loop_laws;
 pub use text::unroll;
-pub use value::constant_value;
+pub use value::{
+    binary_value, bits_value, cast_value, choice_value, constant_value, literal_value, unary_value,
+};

@@ -85,7 +85,8 @@ fn cast_type(to: CastTo, from: Ty) -> Option<Ty>
     }
 }
 
-fn literal_value(ty: Ty, bits: Bits) -> Option<Value>
+/// The value of a literal, if its pattern has the width of its type.
+pub fn literal_value(ty: Ty, bits: Bits) -> Option<Value>
     ensures { seen_option result ≡ literal_value ty bits }
 {
     if bits.width == ty.width {
@@ -117,7 +118,8 @@ fn int_value(value: i32) -> Value
     }
 }
 
-fn unary_value(op: UnOp, x: Option<Value>) -> Option<Value>
+/// The value of an operator on one value, if it has a type of at most 128 bits.
+pub fn unary_value(op: UnOp, x: Option<Value>) -> Option<Value>
     ensures { seen_option result ≡ unary_value op (seen_option x) }
 {
     match x {
@@ -132,7 +134,8 @@ fn unary_value(op: UnOp, x: Option<Value>) -> Option<Value>
     }
 }
 
-fn binary_value(op: BinOp, x: Option<Value>, y: Option<Value>) -> Option<Value>
+/// The value of an operator on two values, if it has a type of at most 128 bits.
+pub fn binary_value(op: BinOp, x: Option<Value>, y: Option<Value>) -> Option<Value>
     ensures { seen_option result ≡ binary_value op (seen_option x) (seen_option y) }
 {
     match (x, y) {
@@ -147,7 +150,8 @@ fn binary_value(op: BinOp, x: Option<Value>, y: Option<Value>) -> Option<Value>
     }
 }
 
-fn cast_value(to: CastTo, x: Option<Value>) -> Option<Value>
+/// The value of a cast, if the type that it goes to has 1 to 128 bits.
+pub fn cast_value(to: CastTo, x: Option<Value>) -> Option<Value>
     ensures { seen_option result ≡ cast_value to (seen_option x) }
 {
     match x {
@@ -162,8 +166,8 @@ fn cast_value(to: CastTo, x: Option<Value>) -> Option<Value>
     }
 }
 
-// Bits `high` down to `low` of the pattern of `x`.
-fn bits_value(x: Option<Value>, high: Option<Value>, low: Option<Value>) -> Option<Value>
+/// Bits `high` down to `low` of the pattern of `x`, if `0 <= low <= high` and `high` is below its width.
+pub fn bits_value(x: Option<Value>, high: Option<Value>, low: Option<Value>) -> Option<Value>
     ensures { seen_option result ≡ bits_value (seen_option x) (seen_option high) (seen_option low) }
 {
     match (x, high, low) {
@@ -201,7 +205,8 @@ fn place(x: Value) -> Option<u8>
     }
 }
 
-fn choice_value(c: Option<Value>, x: Option<Value>, y: Option<Value>) -> Option<Value>
+/// The value of `c ? x : y` in the smallest type that holds both, if that has at most 128 bits.
+pub fn choice_value(c: Option<Value>, x: Option<Value>, y: Option<Value>) -> Option<Value>
     ensures { seen_option result ≡ choice_value (seen_option c) (seen_option x) (seen_option y) }
 {
     match (c, x, y) {

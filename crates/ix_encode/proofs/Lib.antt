@@ -1,0 +1,4 @@
+pub mod Encodings
+pub mod Rests
+pub mod Gathered
+pub mod Wholes

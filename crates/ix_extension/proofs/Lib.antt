@@ -1,0 +1,2 @@
+pub mod InWord
+pub mod Apart
