@@ -1,6 +1,6 @@
 -- The balances of a problem, counted edge by edge, and how many edges there are.
-use Rattle.std.proofs.Common.{◌≡◌, ℕ, ℤ, pos, neg_ℤ, ◌+ℤ◌, ◌-ℤ◌, zero, suc, ◌≢◌, ◌+◌, ◌-◌, ◌*◌, ◌≤◌, ◌<◌, ◌==◌, cond, true, false, List, [], ◌∷◌, ◌++◌, length, map, get_or, set, take, replicate, refl, sym, ◌∙◌, ap, arith, ◌⊎◌, inl, inr, length-set, FitsSigned, w64, to_z, of_z}
-use Rattle.std.specs.Prelude.{All, AllPairs, sum, sum_by}
+use Rattle.std.proofs.Common.{◌≡◌, ℕ, ℤ, pos, neg_ℤ, ◌+ℤ◌, ◌-ℤ◌, ◌≢◌, ◌+◌, ◌*◌, ◌≤◌, ◌<◌, ◌==◌, cond, true, false, List, [], ◌∷◌, ◌++◌, length, map, get_or, set, take, refl, sym, ◌∙◌, ap, arith, ◌⊎◌, inl, inr, length-set, FitsSigned, w64, to_z, of_z}
+use Rattle.std.specs.Prelude.{All, AllPairs, sum_by}
 use Rattle.std.specs.List.{range_with_len}
 use Rattle.std.proofs.lemmas.Int.{ints}
 use Rattle.std.proofs.lemmas.Bool.Decides.{nat_tests, Decides-eqb}

@@ -1,10 +1,9 @@
 -- What is left at the ends of a path, and how much moves along it.
-use Rattle.std.proofs.Common.{◌≡◌, ℕ, ℤ, pos, negsuc, ◌+ℤ◌, ◌-ℤ◌, ◌<ℤ◌, ◌≢◌, ◌+◌, ◌-◌, ◌≤◌, ◌<◌, cond, Bool, true, false, min, List, [], ◌∷◌, length, get_or, set, length-set, refl, sym, ◌∙◌, ap, arith, FitsSigned, w64, to_z, of_z}
+use Rattle.std.proofs.Common.{◌≡◌, ℕ, ℤ, pos, negsuc, ◌+ℤ◌, ◌-ℤ◌, ◌≤◌, ◌<◌, cond, Bool, true, false, min, List, [], ◌∷◌, get_or, refl, ap, arith, FitsSigned, w64, to_z, of_z}
 use Rattle.std.specs.Prelude.{All}
 use Rattle.std.proofs.lemmas.Int.{ints}
-use Rattle.std.proofs.lemmas.List.{get_or-set_other}
-use Rattle.std.proofs.lemmas.List.Elements.{All-head, All-tail, All-nil, All-cons}
-use Rattle.ix_residual.specs.Residuals.{Step, need_of, spare_of, room, settled}
+use Rattle.std.proofs.lemmas.List.Elements.{All-head, All-tail, All-cons}
+use Rattle.ix_residual.specs.Residuals.{Step, need_of, spare_of, room}
 
 -- an amount that an end has
 pub need_fits : (x : ℤ) (d : ℕ) → FitsSigned w64 x → d ≤ need_of x → d < 9223372036854775808

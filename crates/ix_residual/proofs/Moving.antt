@@ -1,5 +1,5 @@
 -- An amount that moves along a path, step by step.
-use Rattle.std.proofs.Common.{◌≡◌, ℕ, zero, suc, ◌≢◌, ◌+◌, ◌-◌, ◌≤◌, ◌<◌, cond, true, false, List, [], ◌∷◌, length, get_or, set, drop, length-set, refl, ◌∙◌, sym, ap, arith}
+use Rattle.std.proofs.Common.{◌≡◌, ℕ, ◌≤◌, ◌<◌, List, length, get_or, drop}
 use Rattle.ix_residual.specs.Residuals.{Step, place_at, moved}
 
 -- the amounts after the first i steps

@@ -1,6 +1,6 @@
 -- Flows over the bounds of a problem and residual paths (residual networks of flows; an amount moves along one path at a time).
 -- The operations are nodes by their numbers, and the root is the node after the last operation.
-use Rattle.std.specs.Prelude.{ℕ, ℤ, pos, negsuc, Bool, true, false, zero, suc, ◌≡◌, ◌≢◌, ◌+◌, ◌-◌, ◌≤◌, ◌<◌, ◌^◌, ◌<ℤ◌, ◌+ℤ◌, ◌-ℤ◌, if◌then◌else◌, min, List, [], ◌∷◌, length, slice_index, slice_index_or, slice_set, All}
+use Rattle.std.specs.Prelude.{ℕ, ℤ, pos, negsuc, Bool, true, false, ◌≡◌, ◌≢◌, ◌+◌, ◌-◌, ◌<◌, ◌^◌, ◌<ℤ◌, ◌+ℤ◌, ◌-ℤ◌, if◌then◌else◌, min, List, [], ◌∷◌, length, slice_index, slice_index_or, slice_set, All}
 use Rattle.ix_sheet.specs.declared.problem.Bound.{Bound}
 use Rattle.ix_sheet.specs.declared.problem.Bound.TheVariants.{Early, Late, Dep, Chain}
 use Rattle.ix_sheet.specs.Schedules.{first_of, last_of}

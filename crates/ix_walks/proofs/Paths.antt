@@ -1,5 +1,5 @@
 -- The path of a trail.
-use Rattle.std.proofs.Common.{◌≡◌, ℕ, zero, suc, ◌+◌, ◌-◌, ◌≤◌, ◌<◌, ◌==◌, nat_lt, cond, Bool, true, false, List, [], ◌∷◌, ◌++◌, length, map, get_or, refl, sym, ◌∙◌, ap, arith, ◌⊎◌, inl, inr}
+use Rattle.std.proofs.Common.{◌≡◌, ℕ, zero, suc, ◌+◌, ◌-◌, ◌≤◌, ◌<◌, nat_lt, cond, Bool, true, false, List, [], ◌∷◌, length, map, get_or, refl, sym, ◌∙◌, ap, arith, ◌⊎◌, inl, inr}
 use Rattle.std.specs.Prelude.{All, Contains}
 use Rattle.std.proofs.lemmas.List.Elements.{All-head, All-tail, Contains-get_or}
 use Rattle.std.proofs.lemmas.Bool.Decides.{nat_tests}
@@ -8,7 +8,7 @@ use Rattle.ix_sheet.specs.Bounds.{IsTight}
 use Rattle.ix_residual.specs.Residuals.{place_at}
 use Rattle.ix_walks.specs.declared.network.Network.{Network}
 use Rattle.ix_walks.specs.declared.search.Step.{Step}
-use Rattle.ix_walks.specs.Search.{no_arc, arc_at, step_at, HasReached, Follows, AreApart}
+use Rattle.ix_walks.specs.Search.{arc_at, step_at, HasReached, Follows, AreApart}
 use Rattle.ix_walks.specs.Networks.{step_from, step_to, node_after, IsNetwork, step_of}
 
 -- the steps of a trail, as inequalities

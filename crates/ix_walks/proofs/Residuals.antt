@@ -1,15 +1,15 @@
 -- Networks as inequalities are turned round, and the path of a longest walk over them.
-use Rattle.std.proofs.Common.{◌≡◌, ℕ, ◌+◌, ◌-◌, ◌≤◌, ◌<◌, Bool, false, List, [], ◌∷◌, ◌++◌, length, map, get_or, sym, ◌∙◌, ap, arith, ◌⊎◌, inl, inr}
+use Rattle.std.proofs.Common.{◌≡◌, ℕ, ◌+◌, ◌-◌, ◌≤◌, ◌<◌, List, length, get_or, arith}
 use Rattle.std.specs.Prelude.{All, IfOk}
 use Rattle.std.proofs.Common.{Result, Ok, Err}
-use Rattle.std.proofs.lemmas.List.Elements.{All-from_get_or, All-weaker}
+use Rattle.std.proofs.lemmas.List.Elements.{All-weaker}
 use Rattle.ix_sheet.specs.declared.problem.Arc.{Arc}
-use Rattle.ix_sheet.specs.Bounds.{Meets, IsTight, turned}
+use Rattle.ix_sheet.specs.Bounds.{Meets, IsTight}
 use Rattle.ix_residual.specs.Residuals.{place_at}
 use Rattle.ix_walks.specs.declared.network.Network.{Network}
 use Rattle.ix_walks.specs.declared.search.Step.{Step}
 use Rattle.ix_walks.specs.declared.search.TheConstants.{LIMIT}
-use Rattle.ix_walks.specs.Search.{no_arc, arc_at, step_at, HasReached, IsFramed, IsFeasible, IsInside, Follows, AreApart}
+use Rattle.ix_walks.specs.Search.{no_arc, arc_at, step_at, HasReached, IsFramed, IsFeasible, Follows, AreApart}
 use Rattle.ix_walks.specs.Networks.{IsNetwork, IsLongestPath, step_of}
 use Rattle.ix_walks.proofs.Starts.{above_root}
 use Rattle.ix_walks.proofs.Paths.{at_places, path_joined, path_once, path_end, placed, steps_of, IsPlaced}

@@ -1,12 +1,12 @@
 -- Inequalities that are turned round, one after the other.
-use Rattle.std.proofs.Common.{◌≡◌, ℕ, ◌+◌, ◌-◌, ◌≤◌, ◌<◌, List, [], ◌∷◌, ◌++◌, length, get_or, take, refl, sym, ◌∙◌, ap, arith, ◌⊎◌, inl, inr, length-append}
-use Rattle.std.specs.Prelude.{All, Contains, slice_index}
+use Rattle.std.proofs.Common.{◌≡◌, ℕ, ◌+◌, ◌-◌, ◌≤◌, ◌<◌, List, [], ◌∷◌, ◌++◌, length, get_or, take, refl, sym, ◌∙◌, ap, arith, ◌⊎◌, inl, inr}
+use Rattle.std.specs.Prelude.{All, Contains}
 use Rattle.std.proofs.lemmas.List.{get_or_append_left, get_or_push, get_or-take, length_push, length-take-le, take-append-le, take_all}
 use Rattle.std.proofs.lemmas.List.Elements.{All-push, All-nil, All-from_get_or, Contains-append_left, Contains-get_or}
 use Rattle.ix_sheet.specs.declared.problem.Arc.{Arc}
 use Rattle.ix_sheet.specs.Bounds.{turned}
 use Rattle.ix_walks.specs.declared.network.Network.{Network}
-use Rattle.ix_walks.specs.Search.{no_arc, arc_at, IsFramed, IsInside}
+use Rattle.ix_walks.specs.Search.{no_arc, arc_at, IsInside}
 use Rattle.ix_walks.specs.Networks.{IsNetwork, IsResidual}
 
 -- the first i inequalities are told, and those of them that carry an amount are turned round behind all

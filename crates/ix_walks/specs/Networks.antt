@@ -1,5 +1,5 @@
 -- Networks of inequalities, some of which are turned round too, and longest paths over them (residual networks).
-use Rattle.std.specs.Prelude.{ℕ, Bool, true, false, zero, suc, ◌≡◌, ◌≢◌, ◌+◌, ◌-◌, ◌≤◌, ◌<◌, ◌^◌, nat_lt, if◌then◌else◌, List, length, slice_index, All, Contains}
+use Rattle.std.specs.Prelude.{ℕ, Bool, true, false, zero, suc, ◌≡◌, ◌+◌, ◌-◌, ◌≤◌, ◌<◌, ◌^◌, nat_lt, if◌then◌else◌, List, length, slice_index, All, Contains}
 use Rattle.ix_sheet.specs.declared.problem.Arc.{Arc}
 use Rattle.ix_sheet.specs.Bounds.{Meets, IsTight, turned}
 use Rattle.ix_residual.specs.Residuals.{place_at, IsOnce}

@@ -1,6 +1,6 @@
 -- Longest walks over inequalities, kept as a log of steps (longest paths by relaxation; the log is this project's choice).
 -- Times are functions of a node; the root is the last node, whose time is 0.
-use Rattle.std.specs.Prelude.{ℕ, Bool, true, false, ◌≡◌, ◌≢◌, ◌+◌, ◌≤◌, ◌<◌, ◌⊎◌, List, [], ◌∷◌, length, slice_index, slice_index_or, sum_by, All, sum}
+use Rattle.std.specs.Prelude.{ℕ, ◌≡◌, ◌≢◌, ◌+◌, ◌≤◌, ◌<◌, ◌⊎◌, List, [], ◌∷◌, length, slice_index, slice_index_or, sum_by, All, sum}
 use Rattle.ix_sheet.specs.declared.problem.Arc.{Arc}
 use Rattle.ix_sheet.specs.Bounds.{Meets}
 use Rattle.ix_walks.specs.declared.search.Step.{Step}

@@ -1,4 +1,4 @@
-use Rattle.std.proofs.Common.{◌≡◌, arith, ◌∙◌}
+use Rattle.std.proofs.Common.{arith, ◌∙◌}
 use Rattle.ix_residual.proofs.Counts.{all_counted}
 use Rattle.ix_residual.proofs.balance.balances.Goals as goal
 

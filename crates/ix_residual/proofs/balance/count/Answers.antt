@@ -1,7 +1,7 @@
-use Rattle.std.proofs.Common.{◌≡◌, ◌+◌, ◌<◌, ◌≤◌, ◌+ℤ◌, ◌-ℤ◌, ℤ, pos, arith, get_or, set, length, length-set, refl, sym, ◌∙◌, w64, to_z, of_z}
+use Rattle.std.proofs.Common.{◌≡◌, ◌<◌, ◌≤◌, ◌+ℤ◌, pos, arith, get_or, set, length, length-set, refl, ◌∙◌, w64, to_z, of_z}
 use Rattle.std.proofs.lemmas.List.{get_or_read}
 use Rattle.ix_sheet.specs.Schedules.{node_at, weight_of}
-use Rattle.ix_residual.proofs.Counts.{counted_more, counted_fit, read_other, weight_low}
+use Rattle.ix_residual.proofs.Counts.{counted_more, counted_fit, read_other}
 use Rattle.ix_residual.proofs.balance.count.Goals as goal
 
 pub overflow_add-index_mut : goal.overflow_add-index_mut

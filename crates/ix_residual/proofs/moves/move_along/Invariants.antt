@@ -1,5 +1,3 @@
-use Rattle.std.proofs.Common.{◌≡◌, drop}
-use Rattle.ix_residual.specs.Residuals.{moved}
 use Rattle.ix_residual.proofs.Moving.{IsMoving}
 use Rattle.ix_residual.proofs.moves.move_along.Given as goal
 

@@ -1,8 +1,8 @@
-use Rattle.std.proofs.Common.{◌≡◌, ◌<◌, ◌≤◌, pos, arith, rules, get_or, refl, FitsSigned, w64}
+use Rattle.std.proofs.Common.{◌≤◌, pos, arith, rules, FitsSigned, w64}
 use Rattle.std.proofs.lemmas.Int.{ints}
 use Rattle.std.proofs.lemmas.List.{get_or_read}
-use Rattle.ix_residual.specs.Residuals.{need_of, spare_of}
-use Rattle.ix_residual.proofs.Ends.{need_fits, back_more, back_less}
+use Rattle.ix_residual.specs.Residuals.{need_of}
+use Rattle.ix_residual.proofs.Ends.{need_fits}
 use Rattle.ix_residual.proofs.residual.settle.Goals as goal
 
 pub overflow_cast-amount : goal.overflow_cast-amount

@@ -1,6 +1,5 @@
-use Rattle.std.proofs.Common.{◌≡◌, ◌-◌, ◌<◌, arith, ◌∙◌, get_or, length}
+use Rattle.std.proofs.Common.{◌-◌, ◌<◌, arith, ◌∙◌, length}
 use Rattle.std.proofs.lemmas.List.{get_or_read}
-use Rattle.ix_sheet.specs.Schedules.{last_of}
 use Rattle.ix_sheet.proofs.Paths.{last_at}
 use Rattle.ix_residual.proofs.residual.to_node.Goals as goal
 

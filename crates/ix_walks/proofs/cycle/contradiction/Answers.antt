@@ -1,4 +1,4 @@
-use Rattle.std.proofs.Common.{◌≡◌, get_or, refl}
+use Rattle.std.proofs.Common.{get_or, refl}
 use Rattle.std.specs.Prelude.{All}
 use Rattle.ix_sheet.specs.Bounds.{Meets}
 use Rattle.ix_walks.proofs.Residuals.{feasible}

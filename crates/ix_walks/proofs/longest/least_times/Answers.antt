@@ -1,4 +1,4 @@
-use Rattle.std.proofs.Common.{◌≡◌, ◌+◌, ◌≤◌, ℕ, get_or, length}
+use Rattle.std.proofs.Common.{get_or}
 use Rattle.ix_walks.specs.Search.{HasReached}
 use Rattle.ix_walks.proofs.Starts.{above_root, least_times}
 use Rattle.ix_walks.proofs.longest.least_times.Goals as goal

@@ -1,4 +1,4 @@
-use Rattle.std.proofs.Common.{◌≡◌, ◌≤◌, sym, ◌∙◌, arith, map}
+use Rattle.std.proofs.Common.{◌≡◌}
 use Rattle.std.specs.Prelude.{IfOk}
 use Rattle.ix_walks.specs.Networks.{IsLongestPath}
 use Rattle.ix_walks.proofs.Residuals.{longest, if_ok_same}

@@ -1,4 +1,4 @@
-use Rattle.std.proofs.Common.{◌≡◌, ◌≤◌, sym, ◌∙◌, arith}
+use Rattle.std.proofs.Common.{◌≡◌, ◌≤◌, ◌∙◌}
 use Rattle.ix_walks.specs.Search.{IsOverdue}
 use Rattle.ix_walks.proofs.Lifts.{none_late, settled_all}
 use Rattle.ix_walks.proofs.longest.reached.Goals as goal

@@ -1,4 +1,4 @@
-use Rattle.std.proofs.Common.{◌≡◌, ◌≤◌, ◌∙◌, arith, pos, get_or}
+use Rattle.std.proofs.Common.{◌≡◌, arith}
 use Rattle.ix_residual.proofs.Ends.{room_each, room_most}
 use Rattle.ix_residual.proofs.residual.Residual.augment.Goals as goal
 

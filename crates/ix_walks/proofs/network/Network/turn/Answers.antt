@@ -1,7 +1,6 @@
-use Rattle.std.proofs.Common.{◌≡◌, ◌<◌, refl, sym, ◌∙◌, arith, get_or}
+use Rattle.std.proofs.Common.{◌<◌, refl, arith}
 use Rattle.std.proofs.lemmas.List.{get_or_read}
-use Rattle.ix_sheet.specs.Bounds.{turned}
-use Rattle.ix_walks.specs.Search.{no_arc, arc_at}
+use Rattle.ix_walks.specs.Search.{no_arc}
 use Rattle.ix_walks.proofs.Turning.{turning_none, turning_some, turned_network}
 use Rattle.ix_walks.proofs.network.Network.turn.Goals as goal
 use Rattle.ix_walks.proofs.network.Network.turn.Goals.{then-amounts-place-gt0+in_ok-push+in_ok-push-2, else-amounts-place-gt0}
