@@ -15,12 +15,10 @@ use Rattle.ix_sheet.specs.Schedules.{IsValidProblem, node_at}
 use Rattle.ix_sheet.specs.Bounds.{arc_of, IsBoundOf, Flow, amount_at, IsDualFlow, IsContradiction, Leads as BoundsLead}
 use Rattle.ix_sheet.proofs.BoundLemmas.{ends_inside}
 use Rattle.ix_problem.specs.Constraints.{AreConstraints, bounds_with}
-use Rattle.ix_solve.specs.Answers.{bound_at, used, AreOptimal}
-use Rattle.ix_solve.specs.Balances.{AreBalances}
-use Rattle.ix_solve.specs.State.{IsOptimum}
-use Rattle.ix_solve.specs.declared.balance.Balance.{Balance}
-use Rattle.ix_solve.specs.Residual.{flow_at}
-use Rattle.ix_solve.specs.Search.{no_arc, arc_at, IsFramed, IsInside, IsClosed, Leads}
+use Rattle.ix_residual.specs.Residuals.{bound_at, from_of, to_of}
+use Rattle.ix_solve.specs.Answers.{used, AreOptimal, FitsByte}
+use Rattle.ix_walks.specs.Search.{no_arc, arc_at, IsFramed, IsInside, IsClosed, Leads}
+use Rattle.ix_solve.specs.Flows.{flow_at}
 
 abbrev pub arcs_for : Problem → List Bound → List Arc
 arcs_for p bounds = map (arc_of p) bounds
@@ -63,10 +61,36 @@ long_enough p paths =
     let long2 : length second ≡ n = length-map-range_with_len Late 0 n in
     omega (arith, length-append first (second ++ tail), length-append second tail)
 
+-- the nodes that a bound's inequality is about are those that the bound goes from and to
+pub from_there : (p : Problem) (bound : Bound) → (arc_of p bound).from ≡ from_of (length p.ops) bound
+from_there p (Early k) = refl
+from_there p (Late k) = refl
+from_there p (Dep i j) = refl
+from_there p (Chain path) = refl
+
+pub to_there : (p : Problem) (bound : Bound) → (arc_of p bound).to ≡ to_of (length p.ops) bound
+to_there p (Early k) = refl
+to_there p (Late k) = refl
+to_there p (Dep i j) = refl
+to_there p (Chain path) = refl
+
+-- the windows of a problem whose bounds' inequalities have bytes
+small_windows : (p : Problem) (bounds : List Bound) → AreConstraints p bounds → ((k : ℕ) → k < length bounds → FitsByte (bound_at bounds k) (arc_of p (bound_at bounds k))) →
+    (k : ℕ) → k < length p.ops → ((node_at p k).early ≤ 255) × ((node_at p k).late ≤ 255)
+small_windows p bounds are bytes k b =
+    let n = length p.ops in
+    let long : n + n ≤ length bounds = rw are.are (long_enough p are.paths) in
+    let early : bound_at bounds k ≡ Early k = rw are.are (early_there p are.paths k b) in
+    let late : bound_at bounds (n + k) ≡ Late k = rw are.are (late_there p are.paths k b) in
+    let first = bytes k (omega arith) in
+    let second = bytes (n + k) (omega arith) in
+    (rw early at first, rw late at second)
+
 -- the constraints of a problem begin with its windows, whose times are at most 255
-pub framed : (p : Problem) (bounds : List Bound) → IsValidProblem p → AreConstraints p bounds → ((k : ℕ) → k < length p.ops → ((node_at p k).early ≤ 255) × ((node_at p k).late ≤ 255)) →
+pub framed : (p : Problem) (bounds : List Bound) → IsValidProblem p → AreConstraints p bounds → ((k : ℕ) → k < length bounds → FitsByte (bound_at bounds k) (arc_of p (bound_at bounds k))) →
     IsFramed (length p.ops) (arcs_for p bounds)
-framed p bounds valid are small =
+framed p bounds valid are bytes =
+    let small = small_windows p bounds are bytes in
     let n = length p.ops in
     let long : n + n ≤ length bounds = rw are.are (long_enough p are.paths) in
     let early : (v : ℕ) → v < n → arc_at (arcs_for p bounds) v ≡ arc_of p (Early v)
@@ -213,12 +237,3 @@ pub used_more_some : (bounds : List Bound) (amounts : List ℕ) (k : ℕ) (flow 
     new ≡ used (take (k + 1) bounds) (take (k + 1) amounts)
 used_more_some bounds amounts k flow new bound same b pos is eb en =
     rw (used_more bounds amounts k same b, used_last_some (get_or amounts k 0) (bound_at bounds k) pos, ← is, en, eb) refl
-
--- the balances of the problem
-pub optimal : (p : Problem) (bounds : List Bound) (balance : Balance) (times amounts : List ℕ) → AreBalances p balance →
-    IsOptimum (length p.ops) (arcs_for p bounds) balance.need.items balance.spare.items times amounts → AreOptimal p bounds times amounts
-optimal p bounds balance times amounts h is = record {
-  amounts_len = omega (arith, is.amounts_len, arcs_long p bounds);
-  balanced = λ v b. (let x = is.balanced v b in let y = h.balanced v b in omega arith);
-  least = is.least;
-}

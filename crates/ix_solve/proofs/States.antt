@@ -1,148 +1,172 @@
--- States before and after an amount is moved.
-use Rattle.std.proofs.Common.{◌≡◌, ℕ, zero, suc, ◌≢◌, ◌+◌, ◌-◌, ◌≤◌, ◌<◌, ◌==◌, cond, Bool, true, false, List, [], ◌∷◌, ◌++◌, length, get_or, set, take, drop, refl, ◌∙◌, arith, ◌⊎◌, inl, inr, length-set}
-use Rattle.std.specs.Prelude.{All, sum}
-use Rattle.std.proofs.lemmas.List.{get_or-set_same, get_or-set_other, take-append-le, take_all}
-use Rattle.std.proofs.lemmas.List.Sums.{sum_by-set, sum_by-le, get_or-le-sum_by}
-use Rattle.std.proofs.lemmas.List.Elements.{All-weaker}
-use Rattle.std.proofs.lemmas.Bool.Decides.{nat_tests}
+-- States before and after an amount is moved along a longest path.
+use Rattle.std.proofs.Common.{◌≡◌, ℕ, ℤ, pos, zero, suc, ◌≢◌, ◌+◌, ◌≤◌, ◌<◌, ◌==◌, cond, Bool, true, false, min, List, [], ◌∷◌, ◌++◌, length, get_or, replicate, refl, sym, ◌∙◌, ap, arith, ◌⊎◌, inl, inr}
+use Rattle.std.specs.Prelude.{All, sum_by}
+use Rattle.std.proofs.lemmas.List.{get_or-replicate, length-replicate, get_or_past, length_push, length-set}
+use Rattle.std.proofs.lemmas.List.Sums.{get_or-le-sum_by}
 use Rattle.ix_sheet.specs.declared.problem.Arc.{Arc}
-use Rattle.ix_sheet.specs.Bounds.{IsTight}
-use Rattle.ix_solve.specs.declared.flow.State.{State}
-use Rattle.ix_solve.specs.declared.flow.Longest.{Longest}
-use Rattle.ix_solve.specs.Search.{arc_at, IsFramed, AreLeast}
-use Rattle.ix_solve.specs.Residual.{flow_at, flow_in, flow_out, place_at, HasRoom, HasMoved, GainsAlong}
-use Rattle.ix_solve.specs.State.{IsState, IsLongest, KeepsBalance, AreDue, MeetBalances}
-use Rattle.ix_solve.proofs.Starts.{above_root}
+use Rattle.ix_sheet.specs.declared.problem.Bound.{Bound}
+use Rattle.ix_sheet.specs.declared.problem.Problem.{Problem}
+use Rattle.ix_sheet.specs.Schedules.{IsValidProblem}
+use Rattle.ix_sheet.specs.Bounds.{IsBoundOf, IsTight, Meets, weight_in, weight_out}
+use Rattle.ix_sheet.proofs.BoundLemmas.{ends_inside}
+use Rattle.ix_residual.specs.declared.residual.Path.{Path}
+use Rattle.ix_residual.specs.declared.residual.Residual.{Residual}
+use Rattle.ix_residual.specs.Residuals.{place_at, root_of, left_at, source_of, target_of, need_of, spare_of, room, greatest, moved, settled, augmented, CanAugment, replayed, AreAugmentations}
+use Rattle.ix_residual.specs.Balances.{fresh, IsLongest, AreLongest}
+use Rattle.ix_residual.proofs.Ends.{room_each, room_most, room_some}
+use Rattle.ix_walks.specs.Search.{arc_at}
+use Rattle.ix_solve.specs.Flows.{flow_at, flow_in, flow_out, GainsAlong}
+use Rattle.ix_solve.specs.State.{HasTimes, IsState, IsReplay}
+use Rattle.ix_solve.proofs.Balanced.{settled_at, settled_sums, one_way, below_zero, above_zero, balance_there, balances_long, even_balances, parts_of}
+use Rattle.ix_solve.proofs.Found.{IsFound, residual_path, longest_found}
+use Rattle.ix_solve.proofs.Links.{arcs_for, arcs_long, from_there, to_there}
+use Rattle.ix_solve.proofs.Moves.{pushed_all}
 
-same_or_not : (v w : ℕ) → (v ≡ w) ⊎ (v ≢ w)
-same_or_not v w = grind arith
+-- a path that is found between a node that has to spare and one that needs
+pub record IsWay (p : Problem) (bounds : List Bound) (r : Residual) (a b : ℕ) (path : Path) : Type 0 where
+  pub found : IsFound (length p.ops) (arcs_for p bounds) r.amounts a b path.steps
+  pub source_in : a ≤ length p.ops
+  pub target_in : b ≤ length p.ops
+  pub spare : 0 < spare_of (left_at r a)
+  pub need : 0 < need_of (left_at r b)
 
-same_test : (w : ℕ) → (w == w) ≡ true
-same_test w = grind (arith, nat_tests)
+-- .. can be gone along
+pub record IsTaken (p : Problem) (r : Residual) (a b : ℕ) (path : Path) : Type 0 where
+  pub can : CanAugment r path
+  pub longest : IsLongest p r path
+  pub source : source_of r path ≡ a
+  pub target : target_of r path ≡ b
+  pub apart : a ≢ b
+  pub some : 0 < greatest r path
+  pub need_low : greatest r path ≤ need_of (left_at r b)
+  pub spare_low : greatest r path ≤ spare_of (left_at r a)
+  pub falls : (k : ℕ) → k < length path.steps → (place_at path.steps k).1 ≡ false → greatest r path ≤ get_or r.amounts (place_at path.steps k).0 0
 
-other_test : (w v : ℕ) → v ≢ w → (w == v) ≡ false
-other_test w v ne = grind (arith, nat_tests)
+ends_apart : (left : List ℤ) (a b : ℕ) → 0 < spare_of (get_or left a (pos 0)) → 0 < need_of (get_or left b (pos 0)) → a ≢ b
+ends_apart left a b s n e =
+    let at : need_of (get_or left b (pos 0)) ≡ need_of (get_or left a (pos 0)) = ap (λ v. need_of (get_or left v (pos 0))) (sym e) in
+    one_way (get_or left a (pos 0)) s (omega arith)
 
--- what is written at w, told at any v
-pub lowered : (xs : List ℕ) (w v d : ℕ) → w < length xs → d ≤ get_or xs w 0 → get_or (set xs w (get_or xs w 0 - d)) v 0 + cond (w == v) d 0 ≡ get_or xs v 0
-lowered xs w v d b h =
-    elim (same_or_not v w) [
-      | inl e ↦ rw (e, get_or-set_same xs w (get_or xs w 0 - d) 0 b, same_test w) (omega arith)
-      | inr ne ↦ rw (get_or-set_other xs w v (get_or xs w 0 - d) 0 ne, other_test w v ne) (omega arith)
-    ]
-
-pub lowered_sum : (xs : List ℕ) (w d : ℕ) → w < length xs → d ≤ get_or xs w 0 → sum (set xs w (get_or xs w 0 - d)) + d ≡ sum xs
-lowered_sum xs w d b h =
-    let e = sum_by-set (λ x. x) xs w (get_or xs w 0 - d) 0 b in
-    omega arith
-
--- a bound that has gained was gone along, and is met with equality
-gained : (n : ℕ) (bounds : List Arc) (old new : List ℕ) (source target d : ℕ) (found : Longest) → IsLongest n bounds old source target found →
-    GainsAlong old new d found.path.items (length found.path.items) → (k : ℕ) →
-    (get_or new k 0 ≤ get_or old k 0) ⊎ ((get_or new k 0 ≡ get_or old k 0 + d) × IsTight (λ v. get_or found.times.items v 0) (arc_at bounds k))
-gained n bounds old new source target d found is gains k =
-    elim (gains k) [
-      | inl less ↦ inl less
-      | inr more ↦
-          (let j = more.1.0 in
-          let tight : IsTight (λ v. get_or found.times.items v 0) (arc_at bounds (place_at found.path.items j).at) = is.tight j more.1.1 more.1.3 in
-          inr (more.0, rw more.1.2 at tight))
-    ]
-
-new_used : (n : ℕ) (bounds : List Arc) (old new : List ℕ) (source target d : ℕ) (found : Longest) → IsLongest n bounds old source target found →
-    GainsAlong old new d found.path.items (length found.path.items) → (k : ℕ) → k < length bounds → 0 < get_or new k 0 →
-    IsTight (λ v. get_or found.times.items v 0) (arc_at bounds k)
-new_used n bounds old new source target d found is gains k b pos =
-    elim (gained n bounds old new source target d found is gains k) [
-      | inl less ↦ is.times.used k b (omega arith)
-      | inr more ↦ more.1
-    ]
-
--- the state after d is moved along a longest path
-pub moved_state : (n : ℕ) (bounds : List Arc) (old new : State) (source target d : ℕ) (found : Longest) → IsState n bounds old → IsLongest n bounds old.amounts.items source target found →
-    source ≤ n → target ≤ n → d ≤ get_or old.need.items target 0 → d ≤ get_or old.spare.items source 0 → length new.amounts.items ≡ length old.amounts.items →
-    GainsAlong old.amounts.items new.amounts.items d found.path.items (length found.path.items) →
-    new.need.items ≡ set old.need.items target (get_or old.need.items target 0 - d) → new.spare.items ≡ set old.spare.items source (get_or old.spare.items source 0 - d) →
-    new.times.items ≡ found.times.items → IsState n bounds new
-moved_state n bounds old new source target d found h is source_in target_in d_need d_spare same gains en es et =
-    let tn : target < length old.need.items = omega (arith, h.need_len) in
-    let ss : source < length old.spare.items = omega (arith, h.spare_len) in
-    let need_sum = lowered_sum old.need.items target d tn d_need in
-    let spare_sum = lowered_sum old.spare.items source d ss d_spare in
+pub taken : (p : Problem) (bounds : List Bound) (r : Residual) (a b : ℕ) (path : Path) → IsValidProblem p → All (IsBoundOf p) bounds → IsState p bounds r → IsWay p bounds r a b path → IsTaken p r a b path
+taken p bounds r a b path valid of h w =
+    let n = length p.ops in
+    let ne : a ≢ b = ends_apart r.left a b w.spare w.need in
+    let is = residual_path p bounds r a b path h.bounds_same h.left_len w.found ne in
+    let root : root_of r ≡ n = omega (arith, h.left_len) in
+    let most = min (need_of (left_at r b)) (spare_of (left_at r a)) in
+    let d_is : greatest r path ≡ room r.amounts most path.steps = rw (is.1, is.2) refl in
+    let le = room_most r.amounts most path.steps in
+    let need = w.need in
+    let spare = w.spare in
+    let some = room_some r.amounts most path.steps (omega arith) is.0.carried in
+    let part : need_of (left_at r b) ≤ sum_by need_of r.left = get_or-le-sum_by need_of r.left b (pos 0) (omega (arith, h.left_len, w.target_in)) in
+    let within : All (λ s. s.0 < length bounds) path.steps = rw h.bounds_same at is.0.within in
     record {
-      amounts_len = same ∙ h.amounts_len;
-      need_len = rw en (length-set old.need.items target (get_or old.need.items target 0 - d) ∙ h.need_len);
-      spare_len = rw es (length-set old.spare.items source (get_or old.spare.items source 0 - d) ∙ h.spare_len);
-      times = rw et (record {
-        root = is.times.root;
-        low = is.times.low;
-        met = is.times.met;
-        used = new_used n bounds old.amounts.items new.amounts.items source target d found is gains;
-      });
-      even = rw (en, es) (omega (arith, h.even));
-      room = λ k b. rw en (elim (gained n bounds old.amounts.items new.amounts.items source target d found is gains k) [
-        | inl less ↦ (let r = h.room k b in omega arith)
-        | inr more ↦ (let r = h.room k b in let e = more.0 in omega arith)
-      ]);
+      can = record {
+        amounts_len = rw h.bounds_same h.amounts_len;
+        ends = rw (h.bounds_same, root) (λ k d k_in.
+            (let inside = ends_inside p valid (get_or bounds k d) (of k d k_in) in
+            let f = from_there p (get_or bounds k d) in
+            let t = to_there p (get_or bounds k d) in
+            (omega (arith, h.left_len, inside.0), omega (arith, h.left_len, inside.1))));
+        is = is.0;
+        spare = rw is.1 (below_zero (left_at r a) w.spare);
+        need = rw is.2 (above_zero (left_at r b) w.need);
+        fits = λ k d k_in along. (let r2 = h.room (get_or path.steps k d).0 (within k d k_in) in omega arith);
+      };
+      longest = longest_found p bounds r a b path h.bounds_same h.left_len w.found ne;
+      source = is.1;
+      target = is.2;
+      apart = ne;
+      some = rw d_is some;
+      need_low = omega arith;
+      spare_low = omega arith;
+      falls = λ k k_in against. (let each = room_each r.amounts most path.steps k (0, false) k_in against in rw d_is each);
     }
 
--- .. and what each node needs has changed by what has come to it
-pub moved_balance : (n : ℕ) (bounds : List Arc) (old : State) (amounts need spare : List ℕ) (source target d : ℕ) → IsState n bounds old → source ≤ n → target ≤ n →
-    d ≤ get_or old.need.items target 0 → d ≤ get_or old.spare.items source 0 → HasMoved bounds old.amounts.items amounts source target d →
-    need ≡ set old.need.items target (get_or old.need.items target 0 - d) → spare ≡ set old.spare.items source (get_or old.spare.items source 0 - d) → (v : ℕ) →
-    flow_in bounds amounts v + get_or need v 0 + (flow_out bounds old.amounts.items v + get_or old.spare.items v 0)
-    ≡ flow_out bounds amounts v + get_or spare v 0 + (flow_in bounds old.amounts.items v + get_or old.need.items v 0)
-moved_balance n bounds old amounts need spare source target d h source_in target_in d_need d_spare moved en es v =
-    let m = moved v in
-    let a = lowered old.need.items target v d (omega (arith, h.need_len)) d_need in
-    let c = lowered old.spare.items source v d (omega (arith, h.spare_len)) d_spare in
-    rw (en, es) (omega arith)
+-- a bound that has gained was gone along, and is met with equality
+used_after : (n : ℕ) (arcs : List Arc) (old new : List ℕ) (a b d : ℕ) (steps : List (ℕ × Bool)) (is : IsFound n arcs old a b steps) → GainsAlong old new d steps (length steps) →
+    (k : ℕ) → k < length arcs → 0 < get_or new k 0 → IsTight is.held.times (arc_at arcs k)
+used_after n arcs old new a b d steps is gains k k_in some =
+    elim (gains k) [
+      | inl less ↦ is.held.used k k_in (omega arith)
+      | inr more ↦ (let j = more.1.0 in let t : IsTight is.held.times (arc_at arcs (place_at steps j).0) = is.tight j more.1.1 in rw more.1.2 at t)
+    ]
 
-pub need_falls : (n : ℕ) (bounds : List Arc) (old : State) (new : List ℕ) (target d : ℕ) → IsState n bounds old → target ≤ n → 0 < d → d ≤ get_or old.need.items target 0 →
-    new ≡ set old.need.items target (get_or old.need.items target 0 - d) → sum new < sum old.need.items
-need_falls n bounds old new target d h target_in pos d_need en =
-    let e = lowered_sum old.need.items target d (omega (arith, h.need_len)) d_need in
-    rw en (omega arith)
+-- the state after the greatest amount is moved
+pub state_after : (p : Problem) (bounds : List Bound) (r new : Residual) (a b : ℕ) (path : Path) → IsState p bounds r → IsWay p bounds r a b path → IsTaken p r a b path → new ≡ augmented r path →
+    IsState p bounds new × (sum_by need_of new.left < sum_by need_of r.left)
+state_after p bounds r new a b path h w t en =
+    let arcs = arcs_for p bounds in
+    let d = greatest r path in
+    let same : length r.amounts ≡ length arcs = omega (arith, h.amounts_len, arcs_long p bounds) in
+    let pushed = pushed_all arcs r.amounts a d path.steps w.found.walk same t.falls in
+    let amounts : new.amounts ≡ moved r.amounts d path.steps = ap (λ (x : Residual). x.amounts) en in
+    let left : new.left ≡ settled r.left a b d = ap (λ (x : Residual). x.left) en ∙ rw (t.source, t.target) refl in
+    let a_in : a < length r.left = omega (arith, h.left_len, w.source_in) in
+    let b_in : b < length r.left = omega (arith, h.left_len, w.target_in) in
+    let sums = settled_sums r.left a b d a_in b_in t.apart t.spare_low t.need_low in
+    let some = t.some in (
+      record {
+        bounds_same = ap (λ (x : Residual). x.bounds) en ∙ h.bounds_same;
+        amounts_len = rw amounts (omega (arith, pushed.same_len, arcs_long p bounds));
+        left_len = rw left (settled_len r.left a b d ∙ h.left_len);
+        held = rw amounts (record {
+          times = w.found.held.times;
+          low = w.found.held.low;
+          met = w.found.held.met;
+          used = used_after (length p.ops) arcs r.amounts (moved r.amounts d path.steps) a b d path.steps w.found pushed.gains;
+        });
+        even = rw left (omega (arith, h.even));
+        room = λ k k_in. rw (amounts, left) (
+            let room_k = h.room k k_in in
+            let low = t.need_low in
+            elim (pushed.gains k) [
+              | inl less ↦ omega arith
+              | inr more ↦ (let e = more.0 in omega arith)
+            ]);
+        balanced = λ v v_in. rw (amounts, left) (
+            let m = pushed.moved v in
+            let m2 : flow_in arcs (moved r.amounts d path.steps) v + flow_out arcs r.amounts v + cond (a == v) d 0 ≡ flow_out arcs (moved r.amounts d path.steps) v + flow_in arcs r.amounts v + cond (b == v) d 0 = rw w.found.ends at m in
+            let s = settled_at r.left a b d v a_in b_in t.apart t.spare_low t.need_low in
+            let old = h.balanced v v_in in
+            omega arith);
+      },
+      rw left (omega arith),
+    )
+  where
+    settled_len : (left : List ℤ) (a b d : ℕ) → length (settled left a b d) ≡ length left
+    settled_len left a b d = simp length-set
 
--- no amount can pass 2 ^ 64, since none gains more than what is needed
-pub has_room : (n : ℕ) (bounds : List Arc) (old : State) (source target d : ℕ) (found : Longest) → IsState n bounds old → IsLongest n bounds old.amounts.items source target found → target ≤ n →
-    d ≤ get_or old.need.items target 0 →
-    ((k : ℕ) → k < length found.path.items → (place_at found.path.items k).along ≡ false → d ≤ get_or old.amounts.items (place_at found.path.items k).at 0) →
-    HasRoom old.amounts.items d found.path.items
-has_room n bounds old source target d found h is target_in d_need falls k b =
-    let part : get_or old.need.items target 0 ≤ sum old.need.items = get_or-le-sum_by (λ q. q) old.need.items target 0 (omega (arith, h.need_len)) in
-    let r = h.room (place_at found.path.items k).at (is.path.within k b) in
-    (λ _. omega arith, falls k b)
+-- one more path
+replayed-push : (r : Residual) (xs : List Path) (x : Path) → replayed r (xs ++ x ∷ []) ≡ augmented (replayed r xs) x
+replayed-push r [] x = refl
+replayed-push r (y ∷ ys) x = replayed-push (augmented r y) ys x
 
-pub balance_same : (bounds : List Arc) (old : State) → KeepsBalance bounds old old
-balance_same bounds old v = omega arith
+turns-push : (r : Residual) (xs : List Path) (x : Path) → AreAugmentations r xs → CanAugment (replayed r xs) x → AreAugmentations r (xs ++ x ∷ [])
+turns-push r [] x h c = (c, tt)
+turns-push r (y ∷ ys) x h c = (h.0, turns-push (augmented r y) ys x h.1 c)
 
-pub balance_after : (bounds : List Arc) (first second third : State) → KeepsBalance bounds first second → KeepsBalance bounds second third → KeepsBalance bounds first third
-balance_after bounds first second third a b v =
-    let x = a v in
-    let y = b v in
-    omega arith
+longest-push : (p : Problem) (r : Residual) (xs : List Path) (x : Path) → AreLongest p r xs → IsLongest p (replayed r xs) x → AreLongest p r (xs ++ x ∷ [])
+longest-push p r [] x h c = (c, tt)
+longest-push p r (y ∷ ys) x h c = (h.0, longest-push p (augmented r y) ys x h.1 c)
 
-pub sum_of_none : (xs : List ℕ) → All (λ x. x ≡ 0) xs → sum xs ≡ 0
-sum_of_none xs h =
-    let le : All (λ x. x ≤ 0) xs = All-weaker (λ x. x ≡ 0) (λ x. x ≤ 0) (λ x e. omega arith) xs h in
-    let b = sum_by-le (λ x. x) 0 xs le in
-    omega arith
-
-pub written_back : (old new : List ℕ) (n : ℕ) → n ≡ length old → length new ≡ length old → take n (new ++ drop (length new) old) ≡ new
-written_back old new n e same =
-    let le : n ≤ length new = omega arith in
-    rw take-append-le (take_all n new (omega arith))
-
--- what is needed is 0 where nothing is to spare
-pub none_needed : (n : ℕ) (bounds : List Arc) (state : State) → IsState n bounds state → All (λ x. x ≡ 0) state.spare.items → sum state.need.items ≡ 0
-none_needed n bounds state h none = h.even ∙ sum_of_none state.spare.items none
+pub replay_after : (p : Problem) (bounds : List Bound) (r new : Residual) (paths more : List Path) (a b : ℕ) (path : Path) → IsReplay p bounds r paths → IsTaken p r a b path → new ≡ augmented r path →
+    sum_by need_of new.left < sum_by need_of r.left → more ≡ paths ++ path ∷ [] → IsReplay p bounds new more
+replay_after p bounds r new paths more a b path h t en less em =
+    let first = fresh p bounds in
+    rw em (record {
+      same = replayed-push first paths path ∙ ap (λ q. augmented q path) h.same ∙ sym en;
+      turns = turns-push first paths path h.turns (rw h.same t.can);
+      longest = longest-push p first paths path h.longest (rw h.same t.longest);
+      few = rw (length_push paths path) (omega (arith, h.few));
+    })
 
 nothing : (c : Bool) (x : ℕ) → x ≡ 0 → cond c x 0 ≡ 0
 nothing true x e = e
 nothing false x e = refl
 
-flow_none : (node : Arc → ℕ) (bounds : List Arc) (amounts : List ℕ) (v : ℕ) → ((k : ℕ) → get_or amounts k 0 ≡ 0) → flow_at node bounds amounts v ≡ 0
+flow_none : (node : Arc → ℕ) (arcs : List Arc) (amounts : List ℕ) (v : ℕ) → ((k : ℕ) → get_or amounts k 0 ≡ 0) → flow_at node arcs amounts v ≡ 0
 flow_none node [] xs v h = refl
 flow_none node (b ∷ bs) [] v h = refl
 flow_none node (b ∷ bs) (x ∷ xs) v h =
@@ -150,30 +174,37 @@ flow_none node (b ∷ bs) (x ∷ xs) v h =
     let z = nothing (node b == v) x (h zero) in
     omega arith
 
--- at first nothing is carried
-pub first_state : (n : ℕ) (bounds : List Arc) (state : State) → IsFramed n bounds → AreDue n state.need.items state.spare.items → AreLeast n bounds state.times.items →
-    length state.amounts.items ≡ length bounds → ((k : ℕ) → get_or state.amounts.items k 0 ≡ 0) → IsState n bounds state
-first_state n bounds state framed due least same none = record {
-  amounts_len = same;
-  need_len = due.need_len;
-  spare_len = due.spare_len;
-  times = record {
-    root = least.root;
-    low = λ v b. (let a = above_root n bounds (λ v. get_or state.times.items v 0) framed least.met v b in let z = least.root in omega (arith, a.1));
-    met = least.met;
-    used = λ k b pos. (let z = none k in absurd (omega arith));
-  };
-  even = due.even;
-  room = λ k b. (let z = none k in omega (arith, due.small));
-}
+below_or_not : (k n : ℕ) → (k < n) ⊎ (n ≤ k)
+below_or_not k n = grind arith
 
--- amounts that started at 0 and meet all needs
-pub balances_met : (n : ℕ) (bounds : List Arc) (old new : State) → KeepsBalance bounds old new → ((k : ℕ) → get_or old.amounts.items k 0 ≡ 0) → IsState n bounds new → sum new.need.items ≡ 0 →
-    MeetBalances n bounds old.need.items old.spare.items new.amounts.items
-balances_met n bounds old new kept none h done v b =
-    let i = flow_none (λ a. a.to) bounds old.amounts.items v none in
-    let o = flow_none (λ a. a.from) bounds old.amounts.items v none in
-    let x : get_or new.need.items v 0 ≤ sum new.need.items = get_or-le-sum_by (λ q. q) new.need.items v 0 (omega (arith, h.need_len)) in
-    let y : get_or new.spare.items v 0 ≤ sum new.spare.items = get_or-le-sum_by (λ q. q) new.spare.items v 0 (omega (arith, h.spare_len)) in
-    let k = kept v in
-    omega (arith, h.even)
+zeros : (n k : ℕ) → ◌≡◌ {A = ℕ} (get_or (replicate n 0) k 0) 0
+zeros n k =
+    elim (below_or_not k n) [
+      | inl low ↦ get_or-replicate {A = ℕ} n k 0 0 low
+      | inr high ↦ get_or_past {X = ℕ} (replicate n 0) k 0 (omega (arith, length-replicate {A = ℕ} n 0))
+    ]
+
+-- before anything has moved
+pub first_state : (p : Problem) (bounds : List Bound) → IsValidProblem p → HasTimes (length p.ops) (arcs_for p bounds) (replicate (length bounds) 0) → IsState p bounds (fresh p bounds)
+first_state p bounds valid held =
+    let even = even_balances p valid in
+    let none = zeros (length bounds) in
+    record {
+      bounds_same = refl;
+      amounts_len = length-replicate {A = ℕ} (length bounds) 0;
+      left_len = balances_long p;
+      held = held;
+      even = even.0;
+      room = λ k b. (let z = none k in omega (arith, even.1));
+      balanced = λ v b. rw (balance_there p v b) (
+          let i = flow_none (λ a. a.to) (arcs_for p bounds) (replicate (length bounds) 0) v none in
+          let o = flow_none (λ a. a.from) (arcs_for p bounds) (replicate (length bounds) 0) v none in
+          omega (arith, (parts_of (1 + weight_in p v) (weight_out p v)).1));
+    }
+
+pub first_replay : (p : Problem) (bounds : List Bound) → IsReplay p bounds (fresh p bounds) []
+first_replay p bounds = record { same = refl; turns = tt; longest = tt; few = omega arith }
+
+-- times that meet the bounds are times where nothing is carried
+pub held_at_first : (n : ℕ) (arcs : List Arc) (m : ℕ) (t : ℕ → ℕ) → ((v : ℕ) → v ≤ n → t v ≤ 255) → All (Meets t) arcs → HasTimes n arcs (replicate m 0)
+held_at_first n arcs m t low met = record { times = t; low = low; met = met; used = λ k b some. (let z = zeros m k in absurd (omega arith)) }

@@ -1,25 +1,21 @@
 -- The answers of the solver (Longnail, the scheduling problem; the certificates are this project's choice).
-use Rattle.std.specs.Prelude.{ℕ, ◌≡◌, ◌+◌, ◌<◌, ◌==◌, if◌then◌else◌, List, [], ◌∷◌, length, map, slice_index, slice_index_or}
+use Rattle.std.specs.Prelude.{ℕ, ◌≡◌, ◌+◌, ◌≤◌, ◌<◌, ◌==◌, if◌then◌else◌, List, [], ◌∷◌, length, map, slice_index}
 use Rattle.ix_sheet.specs.declared.problem.Bound.{Bound}
-use Rattle.ix_sheet.specs.declared.problem.Bound.TheVariants.{Early}
-use Rattle.ix_sheet.specs.declared.problem.Node.{Node}
+use Rattle.ix_sheet.specs.declared.problem.Arc.{Arc}
+use Rattle.ix_sheet.specs.declared.problem.Bound.TheVariants.{Early, Late, Dep, Chain}
 use Rattle.ix_sheet.specs.declared.problem.Problem.{Problem}
 use Rattle.ix_sheet.specs.Schedules.{IsSchedule, HasSchedule, IsChosen, cost}
 use Rattle.ix_sheet.specs.Bounds.{arc_of, weight_in, weight_out, Flow, IsDualFlow, HasValue, IsContradiction}
 use Rattle.ix_solve.specs.declared.schedule.Solved.{Solved}
 use Rattle.ix_solve.specs.declared.schedule.SolveErr.{SolveErr}
 use Rattle.ix_solve.specs.declared.schedule.SolveErr.TheVariants.{Cycle, Memory}
-use Rattle.ix_solve.specs.Residual.{flow_in, flow_out}
+use Rattle.ix_solve.specs.Flows.{flow_in, flow_out}
 use Rattle.ix_solve.specs.State.{AreLeastOver}
 
 -- a cycle is a contradiction, and no schedule is legal; memory has no cause
 abbrev pub IsRefusal : Problem → SolveErr → Type 0
 IsRefusal p (Cycle cycle) = IsContradiction p cycle × (HasSchedule p → ⊥)
 IsRefusal p Memory = Unit {0}
-
--- the bound at a place
-abbrev pub bound_at : List Bound → ℕ → Bound
-bound_at bounds k = slice_index_or bounds k (Early 0)
 
 -- the bounds that carry an amount, with their amounts
 abbrev pub used : List Bound → List ℕ → Flow
@@ -42,6 +38,9 @@ pub record IsSolved (p : Problem) (solved : Solved) : Type 0 where
   pub flow : IsDualFlow p solved.flow
   pub value : HasValue p solved.flow solved.cost
 
--- what is read past the end of operations
-abbrev pub no_node : Node
-no_node = record { delay = 0; latency = 0; early = 0; late = 0 }
+-- the end of a window is a byte
+abbrev pub FitsByte : Bound → Arc → Type 0
+FitsByte (Early k) a = a.up ≤ 255
+FitsByte (Late k) a = a.down ≤ 255
+FitsByte (Dep i j) a = Unit {0}
+FitsByte (Chain path) a = Unit {0}

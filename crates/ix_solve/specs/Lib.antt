@@ -1,5 +1,3 @@
 pub mod Answers
-pub mod Balances
-pub mod Residual
-pub mod Search
+pub mod Flows
 pub mod State

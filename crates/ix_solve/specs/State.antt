@@ -1,74 +1,66 @@
 -- A flow on its way (successive longest paths): what each node still needs and what it has to spare.
-use Rattle.std.specs.Prelude.{ℕ, true, ◌≡◌, ◌+◌, ◌≤◌, ◌<◌, ◌^◌, List, length, slice_index, sum, All}
+use Rattle.std.specs.Prelude.{ℕ, pos, ◌≡◌, ◌+◌, ◌≤◌, ◌<◌, ◌^◌, List, length, map, slice_index, sum_by, take, All}
 use Rattle.ix_sheet.specs.declared.problem.Arc.{Arc}
-use Rattle.ix_sheet.specs.Bounds.{Meets, IsTight, turned}
-use Rattle.ix_solve.specs.declared.flow.State.{State}
-use Rattle.ix_solve.specs.declared.flow.Longest.{Longest}
-use Rattle.ix_solve.specs.declared.search.TheConstants.{LIMIT}
-use Rattle.ix_solve.specs.declared.optimum.Found.{Found}
-use Rattle.ix_solve.specs.declared.optimum.Found.TheVariants.{Optimum, Cycle}
-use Rattle.ix_solve.specs.Search.{arc_at, IsClosed}
-use Rattle.ix_solve.specs.Residual.{flow_in, flow_out, place_at, node_after, IsPath}
+use Rattle.ix_sheet.specs.declared.problem.Bound.{Bound}
+use Rattle.ix_sheet.specs.declared.problem.Problem.{Problem}
+use Rattle.ix_sheet.specs.Bounds.{Meets, IsTight, turned, arc_of, weight_in, weight_out}
+use Rattle.ix_residual.specs.declared.residual.Path.{Path}
+use Rattle.ix_residual.specs.declared.residual.Residual.{Residual}
+use Rattle.ix_residual.specs.Residuals.{need_of, spare_of, left_at, replayed, AreAugmentations}
+use Rattle.ix_residual.specs.Balances.{fresh, balances, AreLongest}
+use Rattle.ix_walks.specs.declared.network.Network.{Network}
+use Rattle.ix_walks.specs.declared.search.TheConstants.{LIMIT}
+use Rattle.ix_walks.specs.Search.{arc_at, IsFeasible}
+use Rattle.ix_walks.specs.Networks.{IsNetwork, IsResidual}
+use Rattle.ix_solve.specs.declared.meet.Met.{Met}
+use Rattle.ix_solve.specs.Flows.{flow_in, flow_out}
 
--- the times meet the bounds, and with equality each bound that carries an amount
-pub record AreTimes (n : ℕ) (bounds : List Arc) (amounts times : List ℕ) : Type 0 where
-  pub root : slice_index times n ≡ 0
-  pub low : (v : ℕ) → v ≤ n → slice_index times v ≤ LIMIT
-  pub met : All (Meets (slice_index times)) bounds
-  pub used : (k : ℕ) → k < length bounds → 0 < slice_index amounts k → IsTight (slice_index times) (arc_at bounds k)
+-- times meet the inequalities, and with equality each that carries an amount
+pub record HasTimes (n : ℕ) (arcs : List Arc) (amounts : List ℕ) : Type 0 where
+  pub times : ℕ → ℕ
+  pub low : (v : ℕ) → v ≤ n → times v ≤ LIMIT
+  pub met : All (Meets times) arcs
+  pub used : (k : ℕ) → k < length arcs → 0 < slice_index amounts k → IsTight times (arc_at arcs k)
 
--- what the nodes need is what they have to spare, and no amount can pass 2 ^ 64
-pub record IsState (n : ℕ) (bounds : List Arc) (state : State) : Type 0 where
-  pub amounts_len : length state.amounts.items ≡ length bounds
-  pub need_len : length state.need.items ≡ n + 1
-  pub spare_len : length state.spare.items ≡ n + 1
-  pub times : AreTimes n bounds state.amounts.items state.times.items
-  pub even : sum state.need.items ≡ sum state.spare.items
-  pub room : (k : ℕ) → k < length bounds → slice_index state.amounts.items k + sum state.need.items < 2 ^ 64
+-- what the nodes need is what they have to spare, no amount can pass 2 ^ 64, and amounts and what is left come to the balances
+pub record IsState (p : Problem) (bounds : List Bound) (r : Residual) : Type 0 where
+  pub bounds_same : r.bounds ≡ bounds
+  pub amounts_len : length r.amounts ≡ length bounds
+  pub left_len : length r.left ≡ length p.ops + 1
+  pub held : HasTimes (length p.ops) (map (arc_of p) bounds) r.amounts
+  pub even : sum_by need_of r.left ≡ sum_by spare_of r.left
+  pub room : (k : ℕ) → k < length bounds → slice_index r.amounts k + sum_by need_of r.left < 2 ^ 64
+  pub balanced : (v : ℕ) → v < length p.ops →
+      flow_in (map (arc_of p) bounds) r.amounts v + need_of (left_at r v) + weight_out p v ≡ flow_out (map (arc_of p) bounds) r.amounts v + spare_of (left_at r v) + (1 + weight_in p v)
 
--- a path between two nodes, and times at which its bounds are met with equality
-pub record IsLongest (n : ℕ) (bounds : List Arc) (amounts : List ℕ) (source target : ℕ) (found : Longest) : Type 0 where
-  pub path : IsPath bounds amounts source found.path.items
-  pub ends : node_after bounds source found.path.items (length found.path.items) ≡ target
-  pub times : AreTimes n bounds amounts found.times.items
-  pub tight : (k : ℕ) → k < length found.path.items → (place_at found.path.items k).along ≡ true →
-      IsTight (slice_index found.times.items) (arc_at bounds (place_at found.path.items k).at)
+-- the amounts have moved along these paths, each a longest one at its turn; each path has lowered what is needed
+pub record IsReplay (p : Problem) (bounds : List Bound) (r : Residual) (paths : List Path) : Type 0 where
+  pub same : replayed (fresh p bounds) paths ≡ r
+  pub turns : AreAugmentations (fresh p bounds) paths
+  pub longest : AreLongest p (fresh p bounds) paths
+  pub few : length paths + sum_by need_of r.left ≤ sum_by need_of (balances p)
 
--- what each node needs, less what it has to spare, has changed by what has come to it
-abbrev pub KeepsBalance : List Arc → State → State → Type 0
-KeepsBalance bounds old new = (v : ℕ) →
-    flow_in bounds new.amounts.items v + slice_index new.need.items v + (flow_out bounds old.amounts.items v + slice_index old.spare.items v)
-    ≡ flow_out bounds new.amounts.items v + slice_index new.spare.items v + (flow_in bounds old.amounts.items v + slice_index old.need.items v)
+-- the inequalities of the bounds, not moved
+pub record IsNetworkOf (p : Problem) (bounds : List Bound) (net : Network) : Type 0 where
+  pub is : IsNetwork net
+  pub root : net.root ≡ length p.ops
+  pub count : net.bounds ≡ length bounds
+  pub kept : take net.bounds net.arcs.items ≡ map (arc_of p) bounds
 
--- the times meet the bounds, and turned round those that carry an amount, and none that do so are less anywhere
-pub record AreLeastOver (n : ℕ) (bounds : List Arc) (amounts times : List ℕ) : Type 0 where
+-- all is met, and the network is that of the amounts
+pub record IsMet (p : Problem) (bounds : List Bound) (net : Network) (met : Met) : Type 0 where
+  pub state : IsState p bounds met.residual
+  pub replay : IsReplay p bounds met.residual met.paths
+  pub none_left : All (λ x. x ≡ pos 0) met.residual.left
+  pub network : IsNetworkOf p bounds net
+  pub residual : IsResidual met.residual.amounts net
+  pub feasible : IsFeasible net.root net.arcs.items
+
+-- the times meet the inequalities, and turned round those that carry an amount, and none that do so are less anywhere
+pub record AreLeastOver (n : ℕ) (arcs : List Arc) (amounts times : List ℕ) : Type 0 where
   pub len : length times ≡ n + 1
   pub root : slice_index times n ≡ 0
-  pub low : (v : ℕ) → v ≤ n → slice_index times v ≤ LIMIT
-  pub met : All (Meets (slice_index times)) bounds
-  pub back : (k : ℕ) → k < length bounds → 0 < slice_index amounts k → Meets (slice_index times) (turned (arc_at bounds k))
-  pub least : (t : ℕ → ℕ) → t n ≡ 0 → All (Meets t) bounds → ((k : ℕ) → k < length bounds → 0 < slice_index amounts k → Meets t (turned (arc_at bounds k))) →
+  pub met : All (Meets (slice_index times)) arcs
+  pub back : (k : ℕ) → k < length arcs → 0 < slice_index amounts k → Meets (slice_index times) (turned (arc_at arcs k))
+  pub least : (t : ℕ → ℕ) → t n ≡ 0 → All (Meets t) arcs → ((k : ℕ) → k < length arcs → 0 < slice_index amounts k → Meets t (turned (arc_at arcs k))) →
       (v : ℕ) → v ≤ n → slice_index times v ≤ t v
-
--- what is needed at first is what there is to spare, and it can be counted
-pub record AreDue (n : ℕ) (need spare : List ℕ) : Type 0 where
-  pub need_len : length need ≡ n + 1
-  pub spare_len : length spare ≡ n + 1
-  pub even : sum need ≡ sum spare
-  pub small : sum need < 2 ^ 64
-
--- the amounts bring to each operation what it needs, less what it has to spare
-abbrev pub MeetBalances : ℕ → List Arc → List ℕ → List ℕ → List ℕ → Type 0
-MeetBalances n bounds need spare amounts = (v : ℕ) → v < n →
-    flow_in bounds amounts v + slice_index spare v ≡ flow_out bounds amounts v + slice_index need v
-
--- amounts that meet the balances, and the least times that go with them
-pub record IsOptimum (n : ℕ) (bounds : List Arc) (need spare times amounts : List ℕ) : Type 0 where
-  pub amounts_len : length amounts ≡ length bounds
-  pub balanced : MeetBalances n bounds need spare amounts
-  pub least : AreLeastOver n bounds amounts times
-
--- the least optimal times with their amounts, or a contradiction
-abbrev pub IsFound : ℕ → List Arc → List ℕ → List ℕ → Found → Type 0
-IsFound n bounds need spare (Optimum times amounts) = IsOptimum n bounds need spare times.items amounts.items
-IsFound n bounds need spare (Cycle cycle) = IsClosed bounds cycle.items

@@ -3,7 +3,7 @@
 ghost use Rattle.std.specs.Prelude.{◌≡◌, ◌+◌, ◌*◌, ◌<◌, ◌≤◌, length, slice_index, sum_by, sum, ◌^◌, slice_index_or};
 ghost use Rattle.ix_sheet.specs.Schedules.{IsValidProblem, IsSchedule, cost, kept_along};
 
-use crate::balance::weight;
+use ix_residual::weight;
 use ix_sheet::Problem;
 
 fn total(times: &[u8]) -> u64

@@ -1,17 +1,19 @@
-ghost use Rattle.std.specs.Prelude.{◌≡◌, ℕ, ◌≤◌, ◌<◌, length, map, take, IfOk, IfErr, All, slice_index, slice_index_or};
+ghost use Rattle.std.specs.Prelude.{◌≡◌, ℕ, ◌≤◌, ◌<◌, length, map, take, IfOk, IfErr, All, slice_index, pos};
 ghost use Rattle.ix_sheet.specs.Schedules.{IsValidProblem, IsSchedule, HasSchedule, IsChosen, cost};
-ghost use Rattle.ix_sheet.specs.Bounds.{IsBoundOf, arc_of, IsDualFlow, HasValue, IsContradiction};
-ghost use Rattle.ix_problem.specs.Constraints.{AreConstraints};
-ghost use Rattle.ix_solve.specs.Search.{IsClosed};
-ghost use Rattle.ix_solve.specs.Answers.{no_node, IsRefusal, AreOptimal, IsSolved, bound_at, used};
+ghost use Rattle.ix_sheet.specs.Bounds.{IsDualFlow, HasValue, IsContradiction};
+ghost use Rattle.ix_problem.specs.Constraints.{AreConstraints, MeetWhereLegal};
+ghost use Rattle.ix_residual.specs.Residuals.{AreAugmentations, bound_at, replayed};
+ghost use Rattle.ix_residual.specs.Balances.{AreLongest, fresh, sum_of_needs};
+ghost use Rattle.ix_solve.specs.Answers.{IsRefusal, AreOptimal, IsSolved, used};
 
-use crate::balance::{Balance, balances};
 use crate::cost::cost_of;
-use crate::optimum::{Found, optimum};
-use crate::search::LIMIT;
+use crate::meet::{Met, meet};
+use crate::network::network_of;
 use ix_bits::{List, Memory};
 use ix_problem::constraints;
-use ix_sheet::{Arc, Bound, Node, Problem, arc_of_bound};
+use ix_residual::{Path, Residual};
+use ix_sheet::{Bound, Problem};
+use ix_walks::{contradiction, least_times};
 use std::alloc::{AllocError, Global};
 
 /// A schedule of least cost, and what shows that none costs less.
@@ -23,6 +25,16 @@ pub struct Solved {
     pub flow: List<(Bound, u64)>,
     /// The cost of the times.
     pub cost: u64,
+}
+
+/// A schedule with the augmentations that made its flow.
+#[derive(Debug, Drop)]
+pub struct Traced {
+    pub solved: Solved,
+    /// Bounds of the problem, which times meet exactly where they are a legal schedule.
+    pub bounds: List<Bound>,
+    /// Paths over these bounds. Each is a longest residual path at its turn, and the flow is what has moved along all.
+    pub paths: List<Path>,
 }
 
 /// Why there is no answer.
@@ -56,29 +68,6 @@ impl From<AllocError> for SolveErr {
     }
 }
 
-// What the type of the times says of each operation. It is for its clause: it changes nothing.
-fn windows_fit(ops: &[Node])
-    ensures { (k : ℕ) → k < length ops.now → ((slice_index_or ops.now k no_node).early ≤ LIMIT) × ((slice_index_or ops.now k no_node).late ≤ LIMIT) }
-{
-    for op in 0..ops.len() {
-        let Node { early, late, .. } = ops[op];
-        prove!(early <= 255 && late <= 255);
-    }
-}
-
-// the inequalities that bounds are
-fn arcs_of(alloc: Global, p: &Problem, bounds: &[Bound]) -> Result<Vec<Arc>, AllocError>
-    requires valid { IsValidProblem p.now }
-    requires of { All (IsBoundOf p.now) bounds.now }
-    ensures { IfOk result (λ arcs. arcs.items ≡ map (arc_of p.now) bounds.now) }
-{
-    let mut arcs = Vec::new(alloc);
-    for bound in bounds {
-        arcs.push(arc_of_bound(p, bound))?;
-    }
-    Ok(arcs)
-}
-
 fn copy_of(alloc: Global, bound: &Bound) -> Result<Bound, Memory>
     ensures { IfOk result (λ copy. copy ≡ bound.now) }
 {
@@ -96,7 +85,7 @@ fn cycle_of(alloc: Global, bounds: &[Bound], places: &[usize]) -> Result<List<Bo
     ensures { IfOk result (λ cycle. cycle ≡ map (bound_at bounds.now) places.now) }
 {
     let mut cycle = List::new(alloc);
-    for place in places {
+    'places: for place in places {
         let bound = copy_of(alloc, &bounds[*place])?;
         cycle.push(bound)?;
     }
@@ -109,7 +98,7 @@ fn flow_of(alloc: Global, bounds: &[Bound], amounts: &[u64]) -> Result<List<(Bou
     ensures { IfOk result (λ flow. flow ≡ used bounds.now amounts.now) }
 {
     let mut flow = List::new(alloc);
-    for place in 0..bounds.len() {
+    'places: for place in 0..bounds.len() {
         let amount = amounts[place];
         if amount > 0 {
             let bound = copy_of(alloc, &bounds[place])?;
@@ -119,33 +108,21 @@ fn flow_of(alloc: Global, bounds: &[Bound], amounts: &[u64]) -> Result<List<(Bou
     Ok(flow)
 }
 
-// the times of the operations
-fn times_of(alloc: Global, times: &[u32], ops: usize) -> Result<Vec<u8>, AllocError>
-    requires len { ops ≤ length times.now }
-    requires low { (v : ℕ) → v < ops → slice_index times.now v ≤ 255 }
-    ensures { IfOk result (λ bytes. bytes.items ≡ take ops times.now) }
-{
-    let mut bytes = Vec::new(alloc);
-    for op in 0..ops {
-        bytes.push(times[op] as u8)?;
-    }
-    Ok(bytes)
-}
-
-// the answer for the least optimal times over the bounds
+// the answer for the least optimal times over the bounds, the root's last
 fn answer(
     alloc: Global,
     p: &Problem,
     bounds: &[Bound],
-    times: &[u32],
+    mut times: Vec<u8>,
     amounts: &[u64],
 ) -> Result<Solved, Memory>
     requires valid { IsValidProblem p.now }
     requires constraints { AreConstraints p.now bounds.now }
-    requires optimal { AreOptimal p.now bounds.now times.now amounts.now }
-    ensures { IfOk result (IsSolved p.now) }
+    requires optimal { AreOptimal p.now bounds.now times.items amounts.now }
+    ensures solved { IfOk result (IsSolved p.now) }
+    ensures flow { IfOk result (λ solved. solved.flow ≡ used bounds.now amounts.now) }
 {
-    let times = times_of(alloc, times, p.ops.len())?;
+    times.truncate(p.ops.len());
     let cost = cost_of(p, times.as_slice());
     let flow = flow_of(alloc, bounds, amounts)?;
     Ok(Solved {
@@ -155,8 +132,44 @@ fn answer(
     })
 }
 
-/// The schedule of least cost, of such schedules the one whose times are least, with a flow that shows that none costs less;
-/// or, where there is no legal schedule, a contradiction among the bounds.
+/// The schedule of least cost, of such schedules the one whose times are least, with a flow that shows that none costs less and
+/// the augmentations that make this flow, each along a longest residual path; or, where there is no legal schedule, a
+/// contradiction among the bounds.
+pub fn solve_traced(alloc: Global, p: &Problem) -> Result<Traced, SolveErr>
+    requires { IsValidProblem p.now }
+    ensures times { IfOk result (λ traced. IsSchedule p.now traced.solved.times × IsChosen p.now (slice_index traced.solved.times)) }
+    ensures cost { IfOk result (λ traced. traced.solved.cost ≡ cost p.now (slice_index traced.solved.times)) }
+    ensures flow { IfOk result (λ traced. IsDualFlow p.now traced.solved.flow × HasValue p.now traced.solved.flow traced.solved.cost) }
+    ensures refused { IfErr result (IsRefusal p.now) }
+    ensures exactly { IfOk result (λ _. HasSchedule p.now) }
+    ensures bounds { IfOk result (λ traced. AreConstraints p.now traced.bounds × MeetWhereLegal p.now traced.bounds) }
+    ensures turns { IfOk result (λ traced. AreAugmentations (fresh p.now traced.bounds) traced.paths) }
+    ensures met { IfOk result (λ traced. All (λ x. x ≡ pos 0) (replayed (fresh p.now traced.bounds) traced.paths).left) }
+    ensures replay { IfOk result (λ traced. traced.solved.flow ≡ used traced.bounds (replayed (fresh p.now traced.bounds) traced.paths).amounts) }
+    ensures longest { IfOk result (λ traced. AreLongest p.now (fresh p.now traced.bounds) traced.paths) }
+    ensures few { IfOk result (λ traced. length traced.paths ≤ sum_of_needs p.now) }
+{
+    let bounds = constraints(alloc, p)?;
+    let mut network = network_of(alloc, p, bounds.as_slice())?;
+    if let Some(places) = contradiction(alloc, &network)? {
+        return Err(SolveErr::Cycle(cycle_of(alloc, bounds.as_slice(), places.as_slice())?));
+    }
+    let Met { residual, paths } = meet(alloc, p, bounds, &mut network)?;
+    let times = least_times(alloc, &network)?;
+    let Residual {
+        bounds,
+        amounts,
+        left: _,
+    } = residual;
+    let solved = answer(alloc, p, bounds.as_slice(), times, amounts.as_slice())?;
+    Ok(Traced {
+        solved,
+        bounds,
+        paths,
+    })
+}
+
+/// As `solve_traced`, without the augmentations.
 pub fn solve(alloc: Global, p: &Problem) -> Result<Solved, SolveErr>
     requires { IsValidProblem p.now }
     ensures times { IfOk result (λ solved. IsSchedule p.now solved.times × IsChosen p.now (slice_index solved.times)) }
@@ -165,22 +178,10 @@ pub fn solve(alloc: Global, p: &Problem) -> Result<Solved, SolveErr>
     ensures refused { IfErr result (IsRefusal p.now) }
     ensures exactly { IfOk result (λ _. HasSchedule p.now) }
 {
-    let bounds = constraints(alloc, p)?;
-    let arcs = arcs_of(alloc, p, bounds.as_slice())?;
-    windows_fit(p.ops.as_slice());
-    let Balance { need, spare } = balances(alloc, p)?;
-    match optimum(alloc, p.ops.len() as u32, arcs.as_slice(), need, spare)? {
-        Found::Optimum(times, amounts) => Ok(answer(
-            alloc,
-            p,
-            bounds.as_slice(),
-            times.as_slice(),
-            amounts.as_slice(),
-        )?),
-        Found::Cycle(places) => Err(SolveErr::Cycle(cycle_of(
-            alloc,
-            bounds.as_slice(),
-            places.as_slice(),
-        )?)),
-    }
+    let Traced {
+        solved,
+        bounds: _,
+        paths: _,
+    } = solve_traced(alloc, p)?;
+    Ok(solved)
 }

@@ -3,7 +3,7 @@ ghost use Rattle.ix_sheet.specs.Schedules.{IsValidProblem};
 
 use ix_bits::List;
 use ix_sheet::{Bound, Node, Problem};
-use ix_solve::{SolveErr, solve};
+use ix_solve::{Residual, SolveErr, solve, solve_traced};
 use std::alloc::{AllocError, Global};
 use std::test::Fail;
 
@@ -65,6 +65,30 @@ fn schedule_of_an_addition(rt: HostRuntime) -> Result<(), Fail> {
         }
     }
     assert_eq!(rt; value, 7);
+    Ok(())
+}
+
+#[test]
+fn augmentations_of_an_addition(rt: HostRuntime) -> Result<(), Fail> {
+    let problem = addition(rt.alloc())?;
+    let Ok(traced) = solve_traced(rt.alloc(), &problem) else {
+        return Err(Fail::from("an addition has a schedule"));
+    };
+    let count = traced.paths.len();
+    assert!(rt; 3 <= count && count <= 5);
+    for path in traced.paths.as_slice() {
+        assert!(rt; !path.steps.is_empty());
+    }
+    Ok(())
+}
+
+#[test]
+fn balances_of_an_addition(rt: HostRuntime) -> Result<(), Fail> {
+    let problem = addition(rt.alloc())?;
+    let Ok(residual) = Residual::new(rt.alloc(), &problem, List::new(rt.alloc())) else {
+        return Err(Fail::from("memory"));
+    };
+    assert_eq!(rt; residual.left.as_slice(), [0, 0, 2, 1, 2, -5].as_slice());
     Ok(())
 }
 

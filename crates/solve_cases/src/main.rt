@@ -1,13 +1,18 @@
 //! Reads problems, one a line, and tells of each the cost and the times of its schedule, or `cycle` where
 //! there is none. A line has the period, the count of operations, the delay, latency, first and last time of each, and the edges.
+//! The augmentations of each schedule are replayed: a line `replay differs` follows where they do not make its flow, and
+//! `too many paths` where there are more than the positive balances sum to.
 #![tactic(auto)]
 
 ghost use Rattle.std.specs.Prelude.{◌≡◌, ◌≢◌, ◌≤◌, ◌<◌, ℕ, false, length, slice_index_or, IfOk, IfSome};
 ghost use Rattle.ix_sheet.specs.Schedules.{IsValidProblem};
+ghost use Rattle.ix_residual.specs.Residuals.{AreAugmentations};
+ghost use Rattle.ix_residual.specs.Balances.{fresh};
 
 use ix_bits::{List, Memory};
-use ix_sheet::{Node, Problem};
-use ix_solve::{SolveErr, solve};
+use ix_residual::{Path, Residual};
+use ix_sheet::{Bound, Node, Problem};
+use ix_solve::{SolveErr, Traced, solve_traced};
 use std::alloc::Global;
 use std::io;
 use std::io::Read;
@@ -105,17 +110,87 @@ fn problem(alloc: Global, line: &str) -> Result<Problem, Memory>
     Ok(p)
 }
 
+// the flow that the augmentations make, and what it leaves
+fn replay(
+    alloc: Global,
+    p: &Problem,
+    bounds: List<Bound>,
+    paths: &[Path],
+) -> Result<Residual, Memory>
+    requires valid { IsValidProblem p.now }
+    requires turns { AreAugmentations (fresh p.now bounds) paths.now }
+{
+    let mut residual = Residual::new(alloc, p, bounds)?;
+    'paths: for path in paths {
+        residual.augment(alloc, path);
+    }
+    Ok(residual)
+}
+
+// whether nothing is left, and the amounts above 0 are those of the flow, in order
+fn agrees(residual: &Residual, flow: &[(Bound, u64)]) -> bool {
+    let mut next = 0;
+    for amount in residual.amounts.as_slice() {
+        if *amount > 0 {
+            if next >= flow.len() {
+                return false;
+            }
+            if flow[next].1 != *amount {
+                return false;
+            }
+            next += 1;
+        }
+    }
+    next == flow.len() && residual.left.as_slice().iter().all(|left| *left == 0)
+}
+
+// the sum of the positive balances, of one more than the edges in less the edges out
+fn needs(p: &Problem) -> u64 {
+    let edges = p.edges.as_slice();
+    let mut sum = 0;
+    for op in 0..p.ops.len() {
+        let op = op as u32;
+        let ins = edges.iter().filter(|edge| edge.1 == op).count() as u64;
+        let outs = edges.iter().filter(|edge| edge.0 == op).count() as u64;
+        sum = (1 + ins).saturating_sub(outs).saturating_add(sum);
+    }
+    sum
+}
+
+fn tell_solved(rt: &impl Print, alloc: Global, p: &Problem, traced: Traced) -> io::Result<()>
+    requires valid { IsValidProblem p.now }
+    requires turns { AreAugmentations (fresh p.now traced.bounds) traced.paths }
+{
+    let Traced {
+        solved,
+        bounds,
+        paths,
+    } = traced;
+    print!(rt; "{}:", solved.cost)?;
+    for time in solved.times.as_slice() {
+        print!(rt; " {time}")?;
+    }
+    println!(rt)?;
+    if paths.len() as u64 > needs(p) {
+        println!(rt; "too many paths")?;
+    }
+    match replay(alloc, p, bounds, paths.as_slice()) {
+        Ok(residual) => {
+            if agrees(&residual, solved.flow.as_slice()) {
+                Ok(())
+            } else {
+                println!(rt; "replay differs")
+            }
+        }
+        Err(Memory) => println!(rt; "memory"),
+    }
+}
+
 fn tell(rt: &impl Print, alloc: Global, p: &Problem) -> io::Result<()>
     requires { IsValidProblem p.now }
 {
-    match solve(alloc, p) {
-        Ok(solved) => {
-            print!(rt; "{}:", solved.cost)?;
-            for time in solved.times.as_slice() {
-                print!(rt; " {time}")?;
-            }
-            println!(rt)
-        }
+    match solve_traced(alloc, p) {
+        Ok(traced) => tell_solved(rt, alloc, p, traced),
         Err(SolveErr::Cycle(_)) => println!(rt; "cycle"),
         Err(SolveErr::Memory) => println!(rt; "memory"),
     }

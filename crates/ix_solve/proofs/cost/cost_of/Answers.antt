@@ -1,7 +1,7 @@
 use Rattle.std.proofs.Common.{◌≡◌, arith, get_or, length, sym}
 use Rattle.std.specs.Prelude.{sum}
 use Rattle.ix_sheet.specs.Schedules.{sum_below}
-use Rattle.ix_solve.proofs.Counts.{sum_placed}
+use Rattle.ix_solve.proofs.Sums.{sum_placed}
 use Rattle.ix_solve.proofs.cost.cost_of.Goals as goal
 
 pub returns : goal.returns

@@ -1,5 +1,5 @@
 use Rattle.std.proofs.Common.{arith}
-use Rattle.ix_solve.proofs.Counts.{few_edges}
+use Rattle.ix_residual.proofs.Counts.{few_edges}
 use Rattle.ix_solve.proofs.cost.total_kept.Goals as goal
 
 pub overflow_add-total : goal.overflow_add-total

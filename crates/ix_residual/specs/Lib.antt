@@ -1,0 +1,3 @@
+pub mod Residuals
+pub mod Balances
+pub mod Counts

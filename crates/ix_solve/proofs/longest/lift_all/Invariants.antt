@@ -1,9 +1,0 @@
-use Rattle.ix_solve.specs.Search.{IsSearch}
-use Rattle.ix_solve.proofs.Rounds.{IsRoundSoFar}
-use Rattle.ix_solve.proofs.longest.lift_all.Given as goal
-
-abbrev pub invariant-loop-place : goal.invariant-loop-place
-invariant-loop-place l = record {
-  search : IsSearch l.root l.source l.arcs l.search;
-  so_far : IsRoundSoFar l.arcs l.initial.search.reach.items l.search.reach.items l.grown l.place;
-}

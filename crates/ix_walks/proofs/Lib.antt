@@ -1,0 +1,9 @@
+pub mod Steps
+pub mod Starts
+pub mod Rounds
+pub mod Walks
+pub mod Lifts
+pub mod Trails
+pub mod Paths
+pub mod Residuals
+pub mod Turning
