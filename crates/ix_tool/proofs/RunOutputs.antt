@@ -1,10 +1,10 @@
 -- What a run writes is the text of its rows.
 use Rattle.std.proofs.Common.{◌≡◌, ℕ, ◌≤◌, List, ◌++◌, length, reverse, None, ap, ◌∙◌, subst}
-use Rattle.ix_tool.specs.declared.trace.Row.{Row}
-use Rattle.ix_tool.specs.declared.sequential.Arch.{Arch}
-use Rattle.ix_tool.specs.Trace.{Setting, newest, architecture}
-use Rattle.ix_tool.specs.Headline.{Headline}
-use Rattle.ix_tool.specs.TraceText.{trace_text, state_text}
+use Rattle.rv_trace.specs.declared.row.Row.{Row}
+use Rattle.rv_seq.specs.declared.commit.Arch.{Arch}
+use Rattle.rv_trace.specs.Trace.{Setting, newest, architecture}
+use Rattle.rv_trace.specs.Headline.{Headline}
+use Rattle.rv_trace.specs.TraceText.{trace_text, state_text}
 use Rattle.ix_tool.specs.CommandOutput.{three, IsRunOutput}
 
 pub run_output : (image : List ℕ) (cycles : ℕ) (first last : Setting) (rows kept : List Row) (arch : Arch) → first ≡ three image → last ≡ first → Headline last rows → length rows ≤ cycles → ((newest rows).stop ≡ None → length rows ≡ cycles) → kept ≡ reverse rows → arch ≡ architecture rows → IsRunOutput image cycles (trace_text 3 0 kept ++ state_text arch)

@@ -1,5 +1,5 @@
 use Rattle.std.proofs.Common.{◌++◌, inl, inr, refl}
-use Rattle.ix_tool.specs.TraceText.{trace_text, state_text}
+use Rattle.rv_trace.specs.TraceText.{trace_text, state_text}
 use Rattle.ix_tool.proofs.RunOutputs.{run_output}
 use Rattle.ix_tool.proofs.running.run_image.Goals as goal
 

@@ -1,6 +1,6 @@
 use Rattle.std.proofs.Common.{◌≡◌, ◌+◌, length, None}
-use Rattle.ix_tool.specs.Trace.{newest}
-use Rattle.ix_tool.specs.Headline.{Headline}
+use Rattle.rv_trace.specs.Trace.{newest}
+use Rattle.rv_trace.specs.Headline.{Headline}
 use Rattle.ix_tool.proofs.running.run_machine.Given as goal
 
 abbrev pub invariant-rows : goal.invariant-rows

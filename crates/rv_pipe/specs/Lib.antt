@@ -1,0 +1,4 @@
+pub mod PlainMachine
+pub mod Placed
+pub mod Running
+pub mod Worked
