@@ -14,8 +14,8 @@ use Rattle.rv_pipe.specs.declared.stages.Token.{Token}
 use Rattle.rv_seq.specs.Instructions.{instruction_of}
 use Rattle.rv_seq.specs.SequentialRun.{run, step, answer_to}
 use Rattle.rv_trace.specs.Trace.{Setting, stages_of, Stands, has_serial, is_flushed, is_retired, place, retirements}
-use Rattle.rv_trace.specs.LawfulTrace.{destination_of, reads_of, IsWordOf, IsOlder, IsDue, WaitsForOperand, WaitsToDrain, OwnHold, StopsRun, WaitsBehind, TrueHold, ComesFirst, ShowsHold}
-use Rattle.rv_pipe.specs.PlainMachine.{Slots, or_else, writer, operand, waits_for, operand_hold, word_stop, drain, staying, own_hold, stops_now, is_blocked, shown, cells_of}
+use Rattle.rv_trace.specs.LawfulTrace.{destination_of, reads_of, IsWordOf, IsOlder, IsDueToStop, WaitsForOperand, WaitsToDrain, OwnHold, StopsRun, WaitsBehind, TrueHold, ComesFirst, ShowsHold}
+use Rattle.rv_pipe.specs.PlainMachine.{Slots, or_else, writer, operand, waits_for, operand_hold, stop_of, drain, staying, own_hold, stops_now, is_blocked, shown, cells_of}
 use Rattle.rv_pipe.specs.Placed.{one_more, count, Placed, IsShape}
 use Rattle.rv_pipe.proofs.Runs.{goes_on, step_word, stops_as, stopped_as}
 use Rattle.rv_pipe.proofs.Tokens.{same_test, test_eq, test_ne, Decided}
@@ -164,7 +164,8 @@ writer_is : (k : Setting) (r stage reg : ℕ) (older : Slots) → Placed k r sta
 writer_is k r stage reg [] h = λ j le lt writes. omega arith
 writer_is k r stage reg (None ∷ older) h = writer_is k r (suc stage) reg older h.1
 writer_is k r stage reg (Some t ∷ older) h =
-    writer_more k r (count older) reg t.cell.serial t.cell.word (writer reg older) (writer_is k r (suc stage) reg older h.1) h.0.serial h.0.word
+    subst (λ i. WriterIs k r (suc (count older)) reg (or_else (writer reg older) (if destination_of i == reg then Some t.cell.serial else None))) (sym h.0.decoded)
+    (writer_more k r (count older) reg t.cell.serial t.cell.word (writer reg older) (writer_is k r (suc stage) reg older h.1) h.0.serial h.0.word)
 
 -- what is waited for, of one register
 abbrev pub WaitIs : Setting → ℕ → ℕ → ℕ → Option Hold → Type 0
@@ -235,12 +236,12 @@ staying_is k r stage (Some t ∷ u ∷ rest) h =
     ∙ staying_next r (out_of (u ∷ rest)) (count (u ∷ rest)) t.cell.serial (out_le (u ∷ rest)) h.0.serial
 
 -- past EX every token goes on, so the run comes to the place behind them
-pub on_path : (k : Setting) (shape : IsShape k) (r stage : ℕ) (l : Slots) → Placed k r stage l → k.ex < stage → (run k.image r).pc ≡ 4 * r → (run k.image (r + count l)).pc ≡ 4 * (r + count l)
+pub on_path : (k : Setting) (shape : IsShape k) (r stage : ℕ) (l : Slots) → Placed k r stage l → k.shape.ex < stage → (run k.image r).pc ≡ 4 * r → (run k.image (r + count l)).pc ≡ 4 * (r + count l)
 on_path k shape r stage [] h lt pc = rw add-zero pc
 on_path k shape r stage (None ∷ l) h lt pc = on_path k shape r (suc stage) l h.1 (omega arith) pc
 on_path k shape r stage (Some t ∷ l) h lt pc =
     let ih = on_path k shape r (suc stage) l h.1 (omega arith) pc in
-    rw (add-suc r (count l)) ((goes_on k.image (r + count l) t.cell.word shape.few_words ih h.0.word (h.0.goes lt)).pc)
+    rw (add-suc r (count l)) ((goes_on k.image (r + count l) t.cell.word shape.few_words ih h.0.word (sym (ap stop_of h.0.decoded) ∙ h.0.goes lt)).pc)
 
 pub place_is : (rows : List Row) (s : ℕ) → ((j : ℕ) → is_flushed rows j ≡ false) → place rows s ≡ s
 unfolding place
@@ -286,7 +287,7 @@ module _ (k : Setting) (shape : IsShape k) (earlier : List Row) (row : Row) (see
       let b = waiting j w.older w.unretired in
       (b.0, b.1, (w.writes.0, told.words j w.writes.0 w.writes.1, w.writes.2))
 
-  to_wait : (reg j : ℕ) → stage ≡ k.rd → reads_of (instruction_of t.cell.word) reg ≡ true → retirements earlier ≤ j → j < retirements earlier + count older → Writes k reg j → WaitsForOperand k earlier row stage t.cell reg j
+  to_wait : (reg j : ℕ) → stage ≡ k.shape.rd → reads_of (instruction_of t.cell.word) reg ≡ true → retirements earlier ≤ j → j < retirements earlier + count older → Writes k reg j → WaitsForOperand k earlier row stage t.cell reg j
   to_wait reg j at reads le lt writes =
       record { reading = at; reads = reads; older = is_older j lt; unretired = unretired j le; writes = word_of j le lt reg writes }
 
@@ -328,7 +329,7 @@ module _ (k : Setting) (shape : IsShape k) (earlier : List Row) (row : Row) (see
   most_reads reg a b ne e = grind (arith, nat_tests)
 
   -- one source register
-  one_source : stage ≡ k.rd → (rs : ℕ) → ((reg : ℕ) → reads_of (instruction_of t.cell.word) reg ≡ (not (reg == 0) && (reg == rs))) → (o : Option Hold) → WaitIs k (retirements earlier) (count older) rs o → OperandIs o
+  one_source : stage ≡ k.shape.rd → (rs : ℕ) → ((reg : ℕ) → reads_of (instruction_of t.cell.word) reg ≡ (not (reg == 0) && (reg == rs))) → (o : Option Hold) → WaitIs k (retirements earlier) (count older) rs o → OperandIs o
   one_source at rs reads None (inl zero_rs) = λ reg j w.
       let q = reads_one reg rs (sym (reads reg) ∙ w.reads) in
       q.0 (q.1 ∙ zero_rs)
@@ -357,7 +358,7 @@ module _ (k : Setting) (shape : IsShape k) (earlier : List Row) (row : Row) (see
   least_below reg a b (inr e) = omega (arith, e)
 
   -- two source registers
-  two_sources : stage ≡ k.rd → (a b : ℕ) → ((reg : ℕ) → reads_of (instruction_of t.cell.word) reg ≡ (not (reg == 0) && ((reg == a) || (reg == b)))) → (o p : Option Hold) → WaitIs k (retirements earlier) (count older) (min a b) o → WaitIs k (retirements earlier) (count older) (max a b) p → OperandIs (or_else o p)
+  two_sources : stage ≡ k.shape.rd → (a b : ℕ) → ((reg : ℕ) → reads_of (instruction_of t.cell.word) reg ≡ (not (reg == 0) && ((reg == a) || (reg == b)))) → (o p : Option Hold) → WaitIs k (retirements earlier) (count older) (min a b) o → WaitIs k (retirements earlier) (count older) (max a b) p → OperandIs (or_else o p)
   two_sources at a b reads None None u v = λ reg j w.
       let q = reads_two reg a b (sym (reads reg) ∙ w.reads) in
       elim q.1 [ inl e ↦ none_waits reg (min a b) q.0 e u j (from_wait reg j w) | inr e ↦ none_waits reg (max a b) q.0 e v j (from_wait reg j w) ]
@@ -391,8 +392,8 @@ module _ (k : Setting) (shape : IsShape k) (earlier : List Row) (row : Row) (see
         ],
   )
 
-  operand_first : stage ≡ k.rd → OperandIs (operand_hold older (instruction_of t.cell.word))
-  operand_first at = by_case (instruction_of t.cell.word) refl where
+  operand_first : stage ≡ k.shape.rd → OperandIs (operand_hold older t.instruction)
+  operand_first at = by_case t.instruction (sym placed.0.decoded) where
     nothing_read : (o : Option Instruction) → instruction_of t.cell.word ≡ o → ((reg : ℕ) → reads_of o reg ≡ false) → OperandIs None
     nothing_read o e f = λ reg j w. cc (sym (ap (λ i. reads_of i reg) e) ∙ w.reads, f reg)
 
@@ -405,25 +406,25 @@ module _ (k : Setting) (shape : IsShape k) (earlier : List Row) (row : Row) (see
         two_sources at rs1 rs2 (λ reg. ap (λ i. reads_of i reg) e) (waits_for (min rs1 rs2) older) (waits_for (max rs1 rs2) older)
         (wait_is k (retirements earlier) (suc stage) (min rs1 rs2) older placed.1) (wait_is k (retirements earlier) (suc stage) (max rs1 rs2) older placed.1)
 
-  operand_where : OperandIs (if stage == k.rd then operand_hold older (instruction_of t.cell.word) else None)
-  operand_where = by_case (stage == k.rd) refl where
-    by_case : (b : Bool) → (stage == k.rd) ≡ b → OperandIs (if b then operand_hold older (instruction_of t.cell.word) else None)
-    by_case true e = operand_first (test_eq stage k.rd e)
-    by_case false e = λ reg j w. test_ne stage k.rd e w.reading
+  operand_where : OperandIs (if stage == k.shape.rd then operand_hold older t.instruction else None)
+  operand_where = by_case (stage == k.shape.rd) refl where
+    by_case : (b : Bool) → (stage == k.shape.rd) ≡ b → OperandIs (if b then operand_hold older t.instruction else None)
+    by_case true e = operand_first (test_eq stage k.shape.rd e)
+    by_case false e = λ reg j w. test_ne stage k.shape.rd e w.reading
 
   -- due to stop at EX
 
-  pub at_ex : stage ≡ k.ex → step k.image (run k.image (place (row ∷ earlier) t.cell.serial)) ≡ answer_to (run k.image (retirements earlier + count older)) t.cell.word (instruction_of t.cell.word)
+  pub at_ex : stage ≡ k.shape.ex → step k.image (run k.image (place (row ∷ earlier) t.cell.serial)) ≡ answer_to (run k.image (retirements earlier + count older)) t.cell.word (instruction_of t.cell.word)
   at_ex e =
       let p = place_is (row ∷ earlier) t.cell.serial told.unflushed ∙ placed.0.serial in
       let path = on_path k shape (retirements earlier) (suc stage) older placed.1 (omega (arith, e)) told.pc in
       ap (λ n. step k.image (run k.image n)) p ∙ step_word k.image (run k.image (retirements earlier + count older)) (retirements earlier + count older) t.cell.word path placed.0.word
 
-  due_word : (stop : Stop) → stage ≡ k.ex → IsDue k (row ∷ earlier) t.cell stop → word_stop t.cell.word ≡ Some stop
-  due_word stop e d = stopped_as (run k.image (retirements earlier + count older)) t.cell.word (instruction_of t.cell.word) stop (sym (at_ex e) ∙ d)
+  due_word : (stop : Stop) → stage ≡ k.shape.ex → IsDueToStop k (row ∷ earlier) t.cell stop → stop_of t.instruction ≡ Some stop
+  due_word stop e d = ap stop_of placed.0.decoded ∙ stopped_as (run k.image (retirements earlier + count older)) t.cell.word (instruction_of t.cell.word) stop (sym (at_ex e) ∙ d)
 
-  word_due : (stop : Stop) → stage ≡ k.ex → word_stop t.cell.word ≡ Some stop → IsDue k (row ∷ earlier) t.cell stop
-  word_due stop e w = at_ex e ∙ stops_as (run k.image (retirements earlier + count older)) t.cell.word (instruction_of t.cell.word) stop w
+  word_due : (stop : Stop) → stage ≡ k.shape.ex → stop_of t.instruction ≡ Some stop → IsDueToStop k (row ∷ earlier) t.cell stop
+  word_due stop e w = at_ex e ∙ stops_as (run k.image (retirements earlier + count older)) t.cell.word (instruction_of t.cell.word) stop (sym (ap stop_of placed.0.decoded) ∙ w)
 
   abbrev DrainIs : Option Hold → Type 0
   DrainIs None = (j : ℕ) → WaitsToDrain k earlier row stage t.cell j → ⊥
@@ -443,7 +444,7 @@ module _ (k : Setting) (shape : IsShape k) (earlier : List Row) (row : Row) (see
     not_below : (a b : ℕ) → nat_lt a b ≡ false → b ≤ a
     not_below a b h = grind (arith, nat_tests)
 
-  drain_older : stage ≡ k.ex → (stop : Stop) → word_stop t.cell.word ≡ Some stop → DrainIs (drain (staying older))
+  drain_older : stage ≡ k.shape.ex → (stop : Stop) → stop_of t.instruction ≡ Some stop → DrainIs (drain (staying older))
   drain_older at stop w = subst (λ o. DrainIs (drain o)) (sym (staying_is k (retirements earlier) (suc stage) older placed.1)) (by_case (nat_lt (out_of older) (count older)) refl) where
     below : nat_lt (out_of older) (count older) ≡ true → out_of older < count older
     below q = grind (arith, nat_tests)
@@ -477,12 +478,12 @@ module _ (k : Setting) (shape : IsShape k) (earlier : List Row) (row : Row) (see
         let same = out_older some in
         omega (arith, s, lower, serial, le, same)
 
-  drain_where : DrainIs (if (stage == k.ex) && is_some (word_stop t.cell.word) then drain (staying older) else None)
-  drain_where = by_case (stage == k.ex) (word_stop t.cell.word) refl refl where
-    by_case : (b : Bool) (o : Option Stop) → (stage == k.ex) ≡ b → word_stop t.cell.word ≡ o → DrainIs (if b && is_some o then drain (staying older) else None)
-    by_case true (Some stop) e w = drain_older (test_eq stage k.ex e) stop w
+  drain_where : DrainIs (if (stage == k.shape.ex) && is_some (stop_of t.instruction) then drain (staying older) else None)
+  drain_where = by_case (stage == k.shape.ex) (stop_of t.instruction) refl refl where
+    by_case : (b : Bool) (o : Option Stop) → (stage == k.shape.ex) ≡ b → stop_of t.instruction ≡ o → DrainIs (if b && is_some o then drain (staying older) else None)
+    by_case true (Some stop) e w = drain_older (test_eq stage k.shape.ex e) stop w
     by_case true None e w = λ j d. cc (due_word d.due.0 d.executing d.due.1, w)
-    by_case false o e w = λ j d. test_ne stage k.ex e d.executing
+    by_case false o e w = λ j d. test_ne stage k.shape.ex e d.executing
 
   -- the first of a cell's own holds
 
@@ -529,8 +530,8 @@ module _ (k : Setting) (shape : IsShape k) (earlier : List Row) (row : Row) (see
   no_own n f (Port j) o = o
   no_own n f Behind o = o
 
-  own_is : OwnIs (own_hold k stage t.cell.word older)
-  own_is = by_case (if stage == k.rd then operand_hold older (instruction_of t.cell.word) else None) (if (stage == k.ex) && is_some (word_stop t.cell.word) then drain (staying older) else None) operand_where drain_where where
+  own_is : OwnIs (own_hold k.shape stage t.instruction older)
+  own_is = by_case (if stage == k.shape.rd then operand_hold older t.instruction else None) (if (stage == k.shape.ex) && is_some (stop_of t.instruction) then drain (staying older) else None) operand_where drain_where where
     by_case : (o p : Option Hold) → OperandIs o → DrainIs p → OwnIs (or_else o p)
     by_case None None u v = no_own u v
     by_case None (Some h) u v = (subst (λ x. OwnHold k earlier row stage t.cell x) (sym v.1) v.2, λ g o. subst (λ x. ComesFirst x g) (sym v.1) (first_drain v.0 u v.3 g o))
@@ -538,25 +539,25 @@ module _ (k : Setting) (shape : IsShape k) (earlier : List Row) (row : Row) (see
 
   -- stopping the run
 
-  pub own_free : (h : Hold) → own_hold k stage t.cell.word older ≡ Some h → OwnHold k earlier row stage t.cell h × ((g : Hold) → OwnHold k earlier row stage t.cell g → ComesFirst h g)
+  pub own_free : (h : Hold) → own_hold k.shape stage t.instruction older ≡ Some h → OwnHold k earlier row stage t.cell h × ((g : Hold) → OwnHold k earlier row stage t.cell g → ComesFirst h g)
   own_free h e = subst OwnIs e own_is
 
-  pub own_nothing : own_hold k stage t.cell.word older ≡ None → (h : Hold) → OwnHold k earlier row stage t.cell h → ⊥
+  pub own_nothing : own_hold k.shape stage t.instruction older ≡ None → (h : Hold) → OwnHold k earlier row stage t.cell h → ⊥
   own_nothing e = subst OwnIs e own_is
 
-  pub stops_then : (stop : Stop) → StopsRun k earlier row stage t.cell stop → stops_now k stage t.cell.word older ≡ true
+  pub stops_then : (stop : Stop) → StopsRun k earlier row stage t.cell stop → stops_now k.shape stage t.instruction older ≡ true
   stops_then stop s =
       let w = due_word stop s.executing s.due in
-      let e = same_test stage k.ex s.executing in
-      by_case (own_hold k stage t.cell.word older) refl w e where
-        by_case : (o : Option Hold) → own_hold k stage t.cell.word older ≡ o → word_stop t.cell.word ≡ Some stop → (stage == k.ex) ≡ true → ((stage == k.ex) && is_some (word_stop t.cell.word) && is_none (own_hold k stage t.cell.word older)) ≡ true
-        by_case None q w e = all_three (stage == k.ex) (is_some (word_stop t.cell.word)) (is_none (own_hold k stage t.cell.word older)) e (ap (λ o. is_some o) w) (ap (λ o. is_none o) q)
+      let e = same_test stage k.shape.ex s.executing in
+      by_case (own_hold k.shape stage t.instruction older) refl w e where
+        by_case : (o : Option Hold) → own_hold k.shape stage t.instruction older ≡ o → stop_of t.instruction ≡ Some stop → (stage == k.shape.ex) ≡ true → ((stage == k.shape.ex) && is_some (stop_of t.instruction) && is_none (own_hold k.shape stage t.instruction older)) ≡ true
+        by_case None q w e = all_three (stage == k.shape.ex) (is_some (stop_of t.instruction)) (is_none (own_hold k.shape stage t.instruction older)) e (ap (λ o. is_some o) w) (ap (λ o. is_none o) q)
         by_case (Some h) q w e = absurd (s.free h (own_free h q).0)
 
-  pub then_stops : stops_now k stage t.cell.word older ≡ true → (stop : Stop) × (word_stop t.cell.word ≡ Some stop) × StopsRun k earlier row stage t.cell stop
-  then_stops h = by_case (stage == k.ex) (word_stop t.cell.word) (own_hold k stage t.cell.word older) refl refl refl h where
-    by_case : (b : Bool) (o : Option Stop) (p : Option Hold) → (stage == k.ex) ≡ b → word_stop t.cell.word ≡ o → own_hold k stage t.cell.word older ≡ p → (b && is_some o && is_none p) ≡ true → (stop : Stop) × (word_stop t.cell.word ≡ Some stop) × StopsRun k earlier row stage t.cell stop
-    by_case true (Some stop) None e w q x = (stop, w, record { executing = test_eq stage k.ex e; due = word_due stop (test_eq stage k.ex e) w; free = own_nothing q })
+  pub then_stops : stops_now k.shape stage t.instruction older ≡ true → (stop : Stop) × (stop_of t.instruction ≡ Some stop) × StopsRun k earlier row stage t.cell stop
+  then_stops h = by_case (stage == k.shape.ex) (stop_of t.instruction) (own_hold k.shape stage t.instruction older) refl refl refl h where
+    by_case : (b : Bool) (o : Option Stop) (p : Option Hold) → (stage == k.shape.ex) ≡ b → stop_of t.instruction ≡ o → own_hold k.shape stage t.instruction older ≡ p → (b && is_some o && is_none p) ≡ true → (stop : Stop) × (stop_of t.instruction ≡ Some stop) × StopsRun k earlier row stage t.cell stop
+    by_case true (Some stop) None e w q x = (stop, w, record { executing = test_eq stage k.shape.ex e; due = word_due stop (test_eq stage k.shape.ex e) w; free = own_nothing q })
     by_case true (Some stop) (Some p) e w q x = cc
     by_case true None p e w q x = cc
     by_case false o p e w q x = cc
@@ -564,8 +565,8 @@ module _ (k : Setting) (shape : IsShape k) (earlier : List Row) (row : Row) (see
 -- whether the next stage blocks
 module _ (k : Setting) (shape : IsShape k) (earlier : List Row) (row : Row) (seen : Slots) (told : Told k earlier row seen) (stage : ℕ) where
   behind_stage : (older : Slots) → drop stage seen ≡ older → Placed k (retirements earlier) stage older
-      → (((d : Cell) × Stands k row stage d × ((is_some d.hold ≡ true) ⊎ ((stop : Stop) × StopsRun k earlier row stage d stop))) → is_blocked k stage older ≡ true)
-      × (is_blocked k stage older ≡ true → (d : Cell) × Stands k row stage d × ((is_some d.hold ≡ true) ⊎ ((stop : Stop) × StopsRun k earlier row stage d stop)))
+      → (((d : Cell) × Stands k row stage d × ((is_some d.hold ≡ true) ⊎ ((stop : Stop) × StopsRun k earlier row stage d stop))) → is_blocked k.shape stage older ≡ true)
+      × (is_blocked k.shape stage older ≡ true → (d : Cell) × Stands k row stage d × ((is_some d.hold ≡ true) ⊎ ((stop : Stop) × StopsRun k earlier row stage d stop)))
   behind_stage older rest placed = by_slot older rest placed where
     stands_here : slice_get (stages_of k row) stage ≡ slice_get (cells_of (drop stage seen)) 0
     stands_here =
@@ -573,8 +574,8 @@ module _ (k : Setting) (shape : IsShape k) (earlier : List Row) (row : Row) (see
         ap (λ l. slice_get l stage) told.cells ∙ sym (slice_get-drop (cells_of seen) stage 0 ∙ ap (λ n. slice_get (cells_of seen) n) z) ∙ ap (λ l. slice_get l 0) (cells_drop stage seen)
 
     by_slot : (l : Slots) → drop stage seen ≡ l → Placed k (retirements earlier) stage l
-        → (((d : Cell) × Stands k row stage d × ((is_some d.hold ≡ true) ⊎ ((stop : Stop) × StopsRun k earlier row stage d stop))) → is_blocked k stage l ≡ true)
-        × (is_blocked k stage l ≡ true → (d : Cell) × Stands k row stage d × ((is_some d.hold ≡ true) ⊎ ((stop : Stop) × StopsRun k earlier row stage d stop)))
+        → (((d : Cell) × Stands k row stage d × ((is_some d.hold ≡ true) ⊎ ((stop : Stop) × StopsRun k earlier row stage d stop))) → is_blocked k.shape stage l ≡ true)
+        × (is_blocked k.shape stage l ≡ true → (d : Cell) × Stands k row stage d × ((is_some d.hold ≡ true) ⊎ ((stop : Stop) × StopsRun k earlier row stage d stop)))
     by_slot [] e h =
         let at : slice_get (stages_of k row) stage ≡ None = stands_here ∙ ap (λ l. slice_get (cells_of l) 0) e in
         ((λ w. cc (sym at ∙ w.1)), λ b. cc)
@@ -586,7 +587,7 @@ module _ (k : Setting) (shape : IsShape k) (earlier : List Row) (row : Row) (see
           (λ w. let same : u.cell ≡ w.0 = cc (sym at ∙ w.1) in blocks (sym same) w.2),
           λ b. (u.cell, at, why (is_some u.cell.hold) refl b),
         ) where
-          blocks : {d : Cell} → d ≡ u.cell → (is_some d.hold ≡ true) ⊎ ((stop : Stop) × StopsRun k earlier row stage d stop) → (is_some u.cell.hold || stops_now k stage u.cell.word l) ≡ true
+          blocks : {d : Cell} → d ≡ u.cell → (is_some d.hold ≡ true) ⊎ ((stop : Stop) × StopsRun k earlier row stage d stop) → (is_some u.cell.hold || stops_now k.shape stage u.instruction l) ≡ true
           blocks same (inl held) = let held' = subst (λ (d : Cell). is_some d.hold ≡ true) same held in rw held'
           blocks same (inr s) =
               let s' = subst (λ (d : Cell). StopsRun k earlier row stage d s.0) same s.1 in
@@ -596,7 +597,7 @@ module _ (k : Setting) (shape : IsShape k) (earlier : List Row) (row : Row) (see
                 either true b q = refl
                 either false b q = q
 
-          why : (b : Bool) → is_some u.cell.hold ≡ b → (b || stops_now k stage u.cell.word l) ≡ true → (is_some u.cell.hold ≡ true) ⊎ ((stop : Stop) × StopsRun k earlier row stage u.cell stop)
+          why : (b : Bool) → is_some u.cell.hold ≡ b → (b || stops_now k.shape stage u.instruction l) ≡ true → (is_some u.cell.hold ≡ true) ⊎ ((stop : Stop) × StopsRun k earlier row stage u.cell stop)
           why true held q = inl held
           why false held q = let s = then_stops k shape earlier row seen told stage u l e h q in inr (s.0, s.2)
 
@@ -615,7 +616,7 @@ Chosen k earlier row stage c (Some h) = OwnHold k earlier row stage c h × ((g :
 
 -- the holds of a row
 module _ (k : Setting) (shape : IsShape k) (earlier : List Row) (row : Row) (seen : Slots) (told : Told k earlier row seen) where
-  shows_token : (stage : ℕ) (t : Token) (older : Slots) → drop stage seen ≡ Some t ∷ older → Placed k (retirements earlier) stage (Some t ∷ older) → t.cell.hold ≡ shown k stage t.cell.word older → ShowsHold k earlier row stage t.cell
+  shows_token : (stage : ℕ) (t : Token) (older : Slots) → drop stage seen ≡ Some t ∷ older → Placed k (retirements earlier) stage (Some t ∷ older) → t.cell.hold ≡ shown k.shape stage t.instruction older → ShowsHold k earlier row stage t.cell
   shows_token stage t older rest placed is =
       record {
         flushed = λ f. cc (f, unflushed_cell);
@@ -627,23 +628,23 @@ module _ (k : Setting) (shape : IsShape k) (earlier : List Row) (row : Row) (see
         unflushed_cell : has_serial row.flushed t.cell.serial ≡ false
         unflushed_cell = not_flushed row earlier t.cell.serial (told.unflushed t.cell.serial)
 
-        blocked : (WaitsBehind k earlier row stage → is_blocked k (suc stage) older ≡ true) × (is_blocked k (suc stage) older ≡ true → WaitsBehind k earlier row stage)
+        blocked : (WaitsBehind k earlier row stage → is_blocked k.shape (suc stage) older ≡ true) × (is_blocked k.shape (suc stage) older ≡ true → WaitsBehind k earlier row stage)
         blocked = behind_stage k shape earlier row seen told (suc stage) older (drop_more seen older (Some t) stage rest) placed.1
 
-        own : (o : Option Hold) → own_hold k stage t.cell.word older ≡ o → Chosen k earlier row stage t.cell o
+        own : (o : Option Hold) → own_hold k.shape stage t.instruction older ≡ o → Chosen k earlier row stage t.cell o
         own None e = own_nothing k shape earlier row seen told stage t older rest placed e
         own (Some h) e = own_free k shape earlier row seen told stage t older rest placed h e
 
         -- what is shown, by whether the cell stops the run
-        parts : (h : Hold) → shown k stage t.cell.word older ≡ Some h → (stops_now k stage t.cell.word older ≡ false) × (or_else (own_hold k stage t.cell.word older) (if is_blocked k (suc stage) older then Some Behind else None) ≡ Some h)
-        parts h e = by_case (stops_now k stage t.cell.word older) refl e where
-          by_case : (b : Bool) → stops_now k stage t.cell.word older ≡ b → (if b then None else or_else (own_hold k stage t.cell.word older) (if is_blocked k (suc stage) older then Some Behind else None)) ≡ Some h → (stops_now k stage t.cell.word older ≡ false) × (or_else (own_hold k stage t.cell.word older) (if is_blocked k (suc stage) older then Some Behind else None) ≡ Some h)
+        parts : (h : Hold) → shown k.shape stage t.instruction older ≡ Some h → (stops_now k.shape stage t.instruction older ≡ false) × (or_else (own_hold k.shape stage t.instruction older) (if is_blocked k.shape (suc stage) older then Some Behind else None) ≡ Some h)
+        parts h e = by_case (stops_now k.shape stage t.instruction older) refl e where
+          by_case : (b : Bool) → stops_now k.shape stage t.instruction older ≡ b → (if b then None else or_else (own_hold k.shape stage t.instruction older) (if is_blocked k.shape (suc stage) older then Some Behind else None)) ≡ Some h → (stops_now k.shape stage t.instruction older ≡ false) × (or_else (own_hold k.shape stage t.instruction older) (if is_blocked k.shape (suc stage) older then Some Behind else None) ≡ Some h)
           by_case true q x = cc
           by_case false q x = (q, x)
 
-        shown_true : (h : Hold) → shown k stage t.cell.word older ≡ Some h → TrueHold k earlier row stage t.cell h
-        shown_true h e = by_case (own_hold k stage t.cell.word older) refl (is_blocked k (suc stage) older) refl (parts h e).1 where
-          by_case : (o : Option Hold) → own_hold k stage t.cell.word older ≡ o → (b : Bool) → is_blocked k (suc stage) older ≡ b → or_else o (if b then Some Behind else None) ≡ Some h → TrueHold k earlier row stage t.cell h
+        shown_true : (h : Hold) → shown k.shape stage t.instruction older ≡ Some h → TrueHold k earlier row stage t.cell h
+        shown_true h e = by_case (own_hold k.shape stage t.instruction older) refl (is_blocked k.shape (suc stage) older) refl (parts h e).1 where
+          by_case : (o : Option Hold) → own_hold k.shape stage t.instruction older ≡ o → (b : Bool) → is_blocked k.shape (suc stage) older ≡ b → or_else o (if b then Some Behind else None) ≡ Some h → TrueHold k earlier row stage t.cell h
           by_case (Some g) q b w x = let same : g ≡ h = cc in inl (subst (λ y. OwnHold k earlier row stage t.cell y) same (own (Some g) q).0)
           by_case None q true w x = inr (cc, blocked.1 w)
           by_case None q false w x = cc
@@ -663,18 +664,18 @@ module _ (k : Setting) (shape : IsShape k) (earlier : List Row) (row : Row) (see
         last_kind (Port j) o = absurd o
         last_kind Behind o = absurd o
 
-        first_true : (h g : Hold) → shown k stage t.cell.word older ≡ Some h → TrueHold k earlier row stage t.cell g → ComesFirst h g
-        first_true h g e o = by_case (own_hold k stage t.cell.word older) refl (is_blocked k (suc stage) older) refl (parts h e).1 o where
-          by_case : (p : Option Hold) → own_hold k stage t.cell.word older ≡ p → (b : Bool) → is_blocked k (suc stage) older ≡ b → or_else p (if b then Some Behind else None) ≡ Some h → TrueHold k earlier row stage t.cell g → ComesFirst h g
+        first_true : (h g : Hold) → shown k.shape stage t.instruction older ≡ Some h → TrueHold k earlier row stage t.cell g → ComesFirst h g
+        first_true h g e o = by_case (own_hold k.shape stage t.instruction older) refl (is_blocked k.shape (suc stage) older) refl (parts h e).1 o where
+          by_case : (p : Option Hold) → own_hold k.shape stage t.instruction older ≡ p → (b : Bool) → is_blocked k.shape (suc stage) older ≡ b → or_else p (if b then Some Behind else None) ≡ Some h → TrueHold k earlier row stage t.cell g → ComesFirst h g
           by_case (Some f) q b w x (inl y) = let same : f ≡ h = cc in subst (λ z. ComesFirst z g) same ((own (Some f) q).1 g y)
           by_case (Some f) q b w x (inr y) = let same : f ≡ h = cc in subst (λ z. ComesFirst h z) (sym y.0) (last_kind h (subst (λ z. OwnHold k earlier row stage t.cell z) same (own (Some f) q).0))
           by_case None q true w x (inl y) = absurd (own None q g y)
           by_case None q true w x (inr y) = let same : h ≡ g = cc in subst (λ z. ComesFirst h z) same (inr (refl, inr (refl, omega arith)))
           by_case None q false w x y = cc
 
-        free_true : shown k stage t.cell.word older ≡ None → ((stop : Stop) → StopsRun k earlier row stage t.cell stop → ⊥) → (h : Hold) → TrueHold k earlier row stage t.cell h → ⊥
-        free_true e n h o = by_case (stops_now k stage t.cell.word older) refl (own_hold k stage t.cell.word older) refl (is_blocked k (suc stage) older) refl e o where
-          by_case : (s : Bool) → stops_now k stage t.cell.word older ≡ s → (p : Option Hold) → own_hold k stage t.cell.word older ≡ p → (b : Bool) → is_blocked k (suc stage) older ≡ b → (if s then None else or_else p (if b then Some Behind else None)) ≡ None → TrueHold k earlier row stage t.cell h → ⊥
+        free_true : shown k.shape stage t.instruction older ≡ None → ((stop : Stop) → StopsRun k earlier row stage t.cell stop → ⊥) → (h : Hold) → TrueHold k earlier row stage t.cell h → ⊥
+        free_true e n h o = by_case (stops_now k.shape stage t.instruction older) refl (own_hold k.shape stage t.instruction older) refl (is_blocked k.shape (suc stage) older) refl e o where
+          by_case : (s : Bool) → stops_now k.shape stage t.instruction older ≡ s → (p : Option Hold) → own_hold k.shape stage t.instruction older ≡ p → (b : Bool) → is_blocked k.shape (suc stage) older ≡ b → (if s then None else or_else p (if b then Some Behind else None)) ≡ None → TrueHold k earlier row stage t.cell h → ⊥
           by_case true z p q b w x o = let s = then_stops k shape earlier row seen told stage t older rest placed z in n s.0 s.2
           by_case false z None q true w x o = cc
           by_case false z None q false w x (inl y) = own None q h y

@@ -25,19 +25,19 @@ in_stage row come (Some t) u f = rw (u t.cell.serial) (by_case (is_some t.cell.h
   by_case true f = let e = f refl in rw e
   by_case false f = refl
 
-leaves_going : (k : Setting) (x : List ℕ) (stage : ℕ) (row : Row) (s : Option Token) → FlushesNone row → leaves row (cell_of s) ≡ token_name (going k x stage s)
+leaves_going : (k : Setting) (x : List ℕ) (stage : ℕ) (row : Row) (s : Option Token) → FlushesNone row → leaves row (cell_of s) ≡ token_name (going k.shape x stage s)
 leaves_going k x stage row None u = refl
 leaves_going k x stage row (Some t) u = rw (u t.cell.serial) (by_case (is_some t.cell.hold)) where
-  by_case : (b : Bool) → (if b || false then None else name_of (Some t.cell)) ≡ token_name (if b then None else Some (gone k x stage t))
+  by_case : (b : Bool) → (if b || false then None else name_of (Some t.cell)) ≡ token_name (if b then None else Some (gone k.shape x stage t))
   by_case true = refl
   by_case false = refl
 
-pub moves_on : (k : Setting) (x : List ℕ) (row : Row) (stage : ℕ) (come : Option Token) (seen : Slots) → FlushesNone row → Decided k stage seen → NoStops k stage seen → Free come (first_slot seen) → MovesInto row (token_name come) (cells_of seen) (names_of (cells_of (advanced k x stage come seen)))
+pub moves_on : (k : Setting) (x : List ℕ) (row : Row) (stage : ℕ) (come : Option Token) (seen : Slots) → FlushesNone row → Decided k stage seen → NoStops k stage seen → Free come (first_slot seen) → MovesInto row (token_name come) (cells_of seen) (names_of (cells_of (advanced k.shape x stage come seen)))
 moves_on k x row stage come [] u d n f = tt
 moves_on k x row stage come (s ∷ older) u d n f = (
   in_stage row come s u f,
   rw (leaves_going k x stage row s u)
-      (moves_on k x row (suc stage) (going k x stage s) older u (decided_tail k stage s older d) (no_stops_tail k stage s older n) (free_ahead k x stage s older d n)),
+      (moves_on k x row (suc stage) (going k.shape x stage s) older u (decided_tail k stage s older d) (no_stops_tail k stage s older n) (free_ahead k x stage s older d n)),
 )
 
 fetched_name : (serial at : ℕ) (o : Option ℕ) → token_name (fill None serial at o) ≡ fetched serial at o
@@ -66,7 +66,7 @@ pub record LastSlot (k : Setting) (x : List ℕ) (base n : ℕ) (seen : Slots) :
   pub rest : drop n seen ≡ slot ∷ []
   pub here : slice_get (cells_of seen) n ≡ Some (cell_of slot)
   pub out : out_of seen ≡ out_last slot
-  pub leaving_is : (come : Option Token) → leaving k x base come seen ≡ going k x (base + n) slot
+  pub leaving_is : (come : Option Token) → leaving k.shape x base come seen ≡ going k.shape x (base + n) slot
 
 pub last_slot : (k : Setting) (x : List ℕ) (base n : ℕ) (seen : Slots) → suc n ≡ length seen → LastSlot k x base n seen
 last_slot k x base n [] e = absurd (omega arith)
@@ -81,12 +81,12 @@ last_slot k x base (suc n) (s ∷ u ∷ rest) e =
       rest = ih.rest;
       here = ih.here;
       out = ih.out;
-      leaving_is = λ come. ih.leaving_is (going k x base s) ∙ ap (λ m. going k x m ih.slot) z;
+      leaving_is = λ come. ih.leaving_is (going k.shape x base s) ∙ ap (λ m. going k.shape x m ih.slot) z;
     }
 
-pub out_going : (k : Setting) (x : List ℕ) (stage : ℕ) (s : Option Token) → one_more (going k x stage s) 0 ≡ out_last s
+pub out_going : (k : Setting) (x : List ℕ) (stage : ℕ) (s : Option Token) → one_more (going k.shape x stage s) 0 ≡ out_last s
 out_going k x stage None = refl
 out_going k x stage (Some t) = by_case (is_some t.cell.hold) where
-  by_case : (b : Bool) → one_more (if b then None else Some (gone k x stage t)) 0 ≡ (if b then 0 else 1)
+  by_case : (b : Bool) → one_more (if b then None else Some (gone k.shape x stage t)) 0 ≡ (if b then 0 else 1)
   by_case true = refl
   by_case false = refl

@@ -16,7 +16,7 @@ use Rattle.rv_seq.specs.SequentialRun.{word_at, run, step, after, applied, commi
 use Rattle.rv_trace.specs.Trace.{Setting, stages_of, Stands, has_serial, is_flushed, is_retired, retirements, architecture, with_retired, newest, rows_without}
 use Rattle.rv_trace.specs.LawfulTrace.{name_of, names_of, leaves, front, fetch_address, next_serial, plain_fetch, Moves, MovesInto, Retires, IsWordOf, StopsRun, Settles, successor, IsNextYounger, HasNoYounger, IsMismatch, Successors, IsEmptyAfter, StopsRightly, LawfulRow}
 use Rattle.rv_trace.specs.Headline.{AgreesWithRun}
-use Rattle.rv_pipe.specs.PlainMachine.{Machine, Slots, or_else, word_stop, value_of, own_hold, stops_now, staying, drain, fill_first, next_after, gone, going, advanced, leaving, commit_for, with_serial, retired_of, slot_stop, remains, fetch_after, first_slot, cell_of, cells_of, seen_by, arch_after, IsRowOf, machine_after}
+use Rattle.rv_pipe.specs.PlainMachine.{Machine, Slots, or_else, stop_of, value_of, own_hold, stops_now, staying, drain, fill_first, next_after, gone, going, advanced, leaving, commit_for, with_serial, retired_of, slot_stop, remains, fetch_after, first_slot, cell_of, cells_of, seen_by, arch_after, IsRowOf, machine_after}
 use Rattle.rv_pipe.specs.Placed.{one_more, count, tail, to_go, rank, IsPlaced, IsPlacedSlot, Placed, IsShape, Inv}
 use Rattle.rv_pipe.proofs.Runs.{word_at-four, step_at, run_suc, goes_on, slice_get_below}
 use Rattle.rv_pipe.proofs.Tokens.{or_else_none, or_else_none_b, is_none_of, same_test, Decided, decided_is, decided_length, decided_names, decided_placed, decided_count, NoStops, own_none, not_due, count_advanced, placed_advanced, last_placed, advanced_length}
@@ -49,7 +49,7 @@ module _ (k : Setting) (shape : IsShape k) (earlier : List Row) (m : Machine) (r
   seen_decided : Decided k 0 (seen_by k m)
   seen_decided = decided_is k 0 (fill_first m.slots m.next m.fetch (word_at k.image m.fetch))
 
-  seen_length : length (seen_by k m) ≡ k.stages
+  seen_length : length (seen_by k m) ≡ k.shape.stages
   seen_length = decided_length k 0 (fill_first m.slots m.next m.fetch (word_at k.image m.fetch)) ∙ fill_length m.slots m.next m.fetch (word_at k.image m.fetch) ∙ inv.stages
 
   some_stages : 0 < length (seen_by k m)
@@ -91,21 +91,21 @@ module _ (k : Setting) (shape : IsShape k) (earlier : List Row) (m : Machine) (r
   -- The last stage
 
   abbrev left : Option Token
-  left = leaving k m.arch.x 0 None (seen_by k m)
+  left = leaving k.shape m.arch.x 0 None (seen_by k m)
 
-  left_out : one_more (leaving k m.arch.x 0 None (seen_by k m)) 0 ≡ out_of (seen_by k m)
+  left_out : one_more (leaving k.shape m.arch.x 0 None (seen_by k m)) 0 ≡ out_of (seen_by k m)
   left_out =
       let a = shape.ex_last in
-      let e : suc (k.stages - 1) ≡ length (seen_by k m) = omega (arith, seen_length, a) in
-      let l = last_slot k m.arch.x 0 (k.stages - 1) (seen_by k m) e in
-      ap (λ s. one_more s 0) (l.leaving_is None) ∙ out_going k m.arch.x (0 + (k.stages - 1)) l.slot ∙ sym l.out
+      let e : suc (k.shape.stages - 1) ≡ length (seen_by k m) = omega (arith, seen_length, a) in
+      let l = last_slot k m.arch.x 0 (k.shape.stages - 1) (seen_by k m) e in
+      ap (λ s. one_more s 0) (l.leaving_is None) ∙ out_going k m.arch.x (0 + (k.shape.stages - 1)) l.slot ∙ sym l.out
 
-  left_placed : IsPlacedSlot k (retirements earlier) k.stages (leaving k m.arch.x 0 None (seen_by k m))
+  left_placed : IsPlacedSlot k (retirements earlier) k.shape.stages (leaving k.shape m.arch.x 0 None (seen_by k m))
   left_placed =
       let a = shape.ex_last in
-      let e : 0 + length (seen_by k m) ≡ k.stages = omega (arith, seen_length) in
-      subst (λ n. IsPlacedSlot k (retirements earlier) n (leaving k m.arch.x 0 None (seen_by k m))) e
-      (subst (λ (s : Arch). IsPlacedSlot k (retirements earlier) (0 + length (seen_by k m)) (leaving k s.x 0 None (seen_by k m))) (sym inv.arch)
+      let e : 0 + length (seen_by k m) ≡ k.shape.stages = omega (arith, seen_length) in
+      subst (λ n. IsPlacedSlot k (retirements earlier) n (leaving k.shape m.arch.x 0 None (seen_by k m))) e
+      (subst (λ (s : Arch). IsPlacedSlot k (retirements earlier) (0 + length (seen_by k m)) (leaving k.shape s.x 0 None (seen_by k m))) (sym inv.arch)
       (last_placed k shape (retirements earlier) 0 None (seen_by k m) (omega (arith, seen_length, a)) (omega arith) seen_placed seen_decided))
 
   -- what is retired, where something goes out
@@ -118,14 +118,14 @@ module _ (k : Setting) (shape : IsShape k) (earlier : List Row) (m : Machine) (r
     pub recorded : step k.image (run k.image (retirements earlier)) ≡ Done commit
     pub pc : (run k.image (suc (retirements earlier))).pc ≡ 4 * suc (retirements earlier)
 
-  retirement : (t : Token) → IsPlaced k (retirements earlier) k.stages t → Retirement (Some t) (retired_of (Some t))
+  retirement : (t : Token) → IsPlaced k (retirements earlier) k.shape.stages t → Retirement (Some t) (retired_of (Some t))
   retirement t h =
       let a = shape.ex_last in
       let b = shape.rd_ex in
-      let n = h.goes (omega (arith, a)) in
+      let n = sym (ap stop_of h.decoded) ∙ h.goes (omega (arith, a)) in
       let g = goes_on k.image (retirements earlier) t.cell.word shape.few_words inv.pc h.word n in
-      let v = h.value (omega (arith, a, b)) in
-      let c : commit_for t.cell.at t.cell.word t.value (instruction_of t.cell.word) ≡ Some (commit_of t.cell.at t.cell.word g.instruction t.value) = ap (λ o. commit_for t.cell.at t.cell.word t.value o) g.is in
+      let v = h.value (omega (arith, a, b)) ∙ ap (λ o. value_of o (run k.image (retirements earlier)).x) h.decoded in
+      let c : commit_for t.cell.at t.cell.word t.value t.instruction ≡ Some (commit_of t.cell.at t.cell.word g.instruction t.value) = ap (λ o. commit_for t.cell.at t.cell.word t.value o) (h.decoded ∙ g.is) in
       let same : commit_of (4 * retirements earlier) t.cell.word g.instruction (value_of (instruction_of t.cell.word) (run k.image (retirements earlier)).x) ≡ commit_of t.cell.at t.cell.word g.instruction t.value =
       ap (λ at. commit_of at t.cell.word g.instruction (value_of (instruction_of t.cell.word) (run k.image (retirements earlier)).x)) (sym h.at) ∙ ap (λ v. commit_of t.cell.at t.cell.word g.instruction v) (sym v) in
       record {
@@ -139,9 +139,9 @@ module _ (k : Setting) (shape : IsShape k) (earlier : List Row) (m : Machine) (r
       }
 
   -- either nothing goes out, or a token that retires
-  pub goes_out : ((leaving k m.arch.x 0 None (seen_by k m) ≡ None) × (row.retired ≡ None) × (out_of (seen_by k m) ≡ 0)) ⊎ (Retirement (leaving k m.arch.x 0 None (seen_by k m)) row.retired × (out_of (seen_by k m) ≡ 1))
-  goes_out = by_case (leaving k m.arch.x 0 None (seen_by k m)) refl left_placed where
-    by_case : (o : Option Token) → leaving k m.arch.x 0 None (seen_by k m) ≡ o → IsPlacedSlot k (retirements earlier) k.stages o → ((leaving k m.arch.x 0 None (seen_by k m) ≡ None) × (row.retired ≡ None) × (out_of (seen_by k m) ≡ 0)) ⊎ (Retirement (leaving k m.arch.x 0 None (seen_by k m)) row.retired × (out_of (seen_by k m) ≡ 1))
+  pub goes_out : ((leaving k.shape m.arch.x 0 None (seen_by k m) ≡ None) × (row.retired ≡ None) × (out_of (seen_by k m) ≡ 0)) ⊎ (Retirement (leaving k.shape m.arch.x 0 None (seen_by k m)) row.retired × (out_of (seen_by k m) ≡ 1))
+  goes_out = by_case (leaving k.shape m.arch.x 0 None (seen_by k m)) refl left_placed where
+    by_case : (o : Option Token) → leaving k.shape m.arch.x 0 None (seen_by k m) ≡ o → IsPlacedSlot k (retirements earlier) k.shape.stages o → ((leaving k.shape m.arch.x 0 None (seen_by k m) ≡ None) × (row.retired ≡ None) × (out_of (seen_by k m) ≡ 0)) ⊎ (Retirement (leaving k.shape m.arch.x 0 None (seen_by k m)) row.retired × (out_of (seen_by k m) ≡ 1))
     by_case None e h = inl (e, is.retired ∙ ap retired_of e, sym left_out ∙ ap (λ s. one_more s 0) e)
     by_case (Some t) e h =
         let x = retirement t h in
@@ -209,11 +209,11 @@ module _ (k : Setting) (shape : IsShape k) (earlier : List Row) (m : Machine) (r
   unheld_leaves : (c : Cell) → c.hold ≡ None → leaves row (Some c) ≡ name_of (Some c)
   unheld_leaves c h = let f = flushes_none c.serial in rw (h, f)
 
-  row_retires : (stage : ℕ) → suc stage ≡ k.stages → Retires k row stage
+  row_retires : (stage : ℕ) → suc stage ≡ k.shape.stages → Retires k row stage
   row_retires stage e =
       let l = last_slot k m.arch.x 0 stage (seen_by k m) (e ∙ sym seen_length) in
       by_slot l.slot (l.leaving_is None) l.here where
-        by_slot : (s : Option Token) → leaving k m.arch.x 0 None (seen_by k m) ≡ going k m.arch.x (0 + stage) s → slice_get (cells_of (seen_by k m)) stage ≡ Some (cell_of s) → Retires k row stage
+        by_slot : (s : Option Token) → leaving k.shape m.arch.x 0 None (seen_by k m) ≡ going k.shape m.arch.x (0 + stage) s → slice_get (cells_of (seen_by k m)) stage ≡ Some (cell_of s) → Retires k row stage
         by_slot None g here =
             record {
               leaver = λ s commit q. cc (is.retired ∙ ap retired_of g, q);
@@ -223,7 +223,7 @@ module _ (k : Setting) (shape : IsShape k) (earlier : List Row) (m : Machine) (r
           stands_t : Stands k row stage t.cell
           stands_t = ap (λ l. slice_get l stage) is.cells ∙ here
 
-          by_hold : (b : Bool) → is_some t.cell.hold ≡ b → leaving k m.arch.x 0 None (seen_by k m) ≡ (if b then None else Some (gone k m.arch.x (0 + stage) t)) → Retires k row stage
+          by_hold : (b : Bool) → is_some t.cell.hold ≡ b → leaving k.shape m.arch.x 0 None (seen_by k m) ≡ (if b then None else Some (gone k.shape m.arch.x (0 + stage) t)) → Retires k row stage
           by_hold true q g =
               record {
                 leaver = λ s commit p. cc (is.retired ∙ ap retired_of g, p);
@@ -237,7 +237,7 @@ module _ (k : Setting) (shape : IsShape k) (earlier : List Row) (m : Machine) (r
               elim goes_out [
                 | inl n ↦ absurd (omega (arith, out, n.2))
                 | inr y ↦
-                    let same : gone k m.arch.x (0 + stage) t ≡ y.0.token = cc (sym g ∙ y.0.is_left) in
+                    let same : gone k.shape m.arch.x (0 + stage) t ≡ y.0.token = cc (sym g ∙ y.0.is_left) in
                     let serial : t.cell.serial ≡ retirements earlier = ap (λ (u : Token). u.cell.serial) same ∙ y.0.serial_is in
                     let none = is_none_of t.cell.hold q in
                     record {
@@ -260,18 +260,18 @@ module _ (k : Setting) (shape : IsShape k) (earlier : List Row) (m : Machine) (r
   settled_successor stage c s settles =
       let at = cell_at stage c s in
       let none : at.token.cell.hold ≡ None = ap (λ (d : Cell). d.hold) at.is ∙ not_held c settles.leaves in
-      let stops : stops_now k stage at.token.cell.word at.older ≡ false = free at in
-      let own = own_none k stage at.token.cell.word at.older at.token.cell.hold at.decided.0 (ap (λ o. is_some o) none) stops in
-      let word = not_due k stage at.token.cell.word at.older own stops settles.executing in
+      let stops : stops_now k.shape stage at.token.instruction at.older ≡ false = free at in
+      let own = own_none k stage at.token.instruction at.older at.token.cell.hold at.decided.0 (ap (λ o. is_some o) none) stops in
+      let word = sym (ap stop_of at.placed.0.decoded) ∙ not_due k stage at.token.instruction at.older own stops settles.executing in
       let p = place_is (row ∷ earlier) c.serial unflushed_now ∙ serial_place stage c s in
       let path = path_to stage at.older at.placed.1 settles.executing in
       ap (λ n. (run k.image (suc n)).pc) p ∙ (goes_on k.image (retirements earlier + count at.older) at.token.cell.word shape.few_words path at.placed.0.word word).pc where
-        path_to : (stage : ℕ) (older : Slots) → Placed k (retirements earlier) (suc stage) older → stage ≡ k.ex → (run k.image (retirements earlier + count older)).pc ≡ 4 * (retirements earlier + count older)
+        path_to : (stage : ℕ) (older : Slots) → Placed k (retirements earlier) (suc stage) older → stage ≡ k.shape.ex → (run k.image (retirements earlier + count older)).pc ≡ 4 * (retirements earlier + count older)
         path_to stage older h e = on_path k shape (retirements earlier) (suc stage) older h (omega (arith, e)) inv.pc
 
-        free : (at : At k (retirements earlier) stage c (seen_by k m)) → stops_now k stage at.token.cell.word at.older ≡ false
-        free at = by_case (stops_now k stage at.token.cell.word at.older) refl where
-          by_case : (b : Bool) → stops_now k stage at.token.cell.word at.older ≡ b → b ≡ false
+        free : (at : At k (retirements earlier) stage c (seen_by k m)) → stops_now k.shape stage at.token.instruction at.older ≡ false
+        free at = by_case (stops_now k.shape stage at.token.instruction at.older) refl where
+          by_case : (b : Bool) → stops_now k.shape stage at.token.instruction at.older ≡ b → b ≡ false
           by_case false q = refl
           by_case true q =
               let x = then_stops k shape earlier row (seen_by k m) told stage at.token at.older at.rest at.placed q in
@@ -365,13 +365,13 @@ module _ (k : Setting) (shape : IsShape k) (earlier : List Row) (m : Machine) (r
       let pair : ◌≡◌ {A = Slots} (Some x.token ∷ x.older) (Some at.token ∷ at.older) = sym x.rest ∙ at.rest in
       let token : x.token ≡ at.token = cc in
       let older : x.older ≡ at.older = cc in
-      let stops : stops_now k x.index at.token.cell.word at.older ≡ true = ap (λ (t : Token). stops_now k x.index t.cell.word at.older) (sym token) ∙ ap (λ l. stops_now k x.index x.token.cell.word l) (sym older) ∙ ap (λ n. stops_now k n x.token.cell.word x.older) (sym z) ∙ x.stops in
+      let stops : stops_now k.shape x.index at.token.instruction at.older ≡ true = ap (λ (t : Token). stops_now k.shape x.index t.instruction at.older) (sym token) ∙ ap (λ l. stops_now k.shape x.index x.token.instruction l) (sym older) ∙ ap (λ n. stops_now k.shape n x.token.instruction x.older) (sym z) ∙ x.stops in
       let y = then_stops k shape earlier row (seen_by k m) told x.index at.token at.older at.rest at.placed stops in
-      let word : word_stop at.token.cell.word ≡ Some stop = ap (λ (t : Token). word_stop t.cell.word) (sym token) ∙ x.word in
+      let word : stop_of at.token.instruction ≡ Some stop = ap (λ (t : Token). stop_of t.instruction) (sym token) ∙ x.word in
       let same : y.0 ≡ stop = cc (sym y.1 ∙ word) in
       (stands, subst (λ d. StopsRun k earlier row x.index d stop) at.is (subst (λ q. StopsRun k earlier row x.index at.token.cell q) same y.2))
 
-  cell_stops : (stage : ℕ) (c : Cell) (stop : Stop) → Stands k row stage c → StopsRun k earlier row stage c stop → slot_stop k 0 (seen_by k m) ≡ Some stop
+  cell_stops : (stage : ℕ) (c : Cell) (stop : Stop) → Stands k row stage c → StopsRun k earlier row stage c stop → slot_stop k.shape 0 (seen_by k m) ≡ Some stop
   cell_stops stage c stop stands s =
       let at = cell_at stage c stands in
       let s' = subst (λ d. StopsRun k earlier row stage d stop) (sym at.is) s in
@@ -379,7 +379,7 @@ module _ (k : Setting) (shape : IsShape k) (earlier : List Row) (m : Machine) (r
       let y = then_stops k shape earlier row (seen_by k m) told stage at.token at.older at.rest at.placed n in
       let same : y.0 ≡ stop = cc (sym y.2.due ∙ s'.due) in
       let e = s.executing in
-      slot_stop_at k 0 stage (seen_by k m) at.older at.token stop (omega (arith, e)) at.rest (ap (λ j. stops_now k j at.token.cell.word at.older) (sym e) ∙ n) (y.1 ∙ ap Some same)
+      slot_stop_at k 0 stage (seen_by k m) at.older at.token stop (omega (arith, e)) at.rest (ap (λ j. stops_now k.shape j at.token.instruction at.older) (sym e) ∙ n) (y.1 ∙ ap Some same)
 
   fetch_case : (b : Bool) (o : Option ℕ) (stop : Stop) → (if b || is_some o then None else Some Fetch) ≡ Some stop → (b ≡ false) × (o ≡ None) × (stop ≡ Fetch)
   fetch_case true o stop h = cc
@@ -399,11 +399,11 @@ module _ (k : Setting) (shape : IsShape k) (earlier : List Row) (m : Machine) (r
   row_stops : StopsRightly k earlier row
   row_stops =
       record {
-        cause = λ stop e. why stop (slot_stop k 0 (seen_by k m)) refl (sym is.stop ∙ e);
+        cause = λ stop e. why stop (slot_stop k.shape 0 (seen_by k m)) refl (sym is.stop ∙ e);
         of_cell = λ stage c stop stands s. is.stop ∙ (let n = cell_stops stage c stop stands s in rw n);
-        of_fetch = λ f w. is.stop ∙ nothing_left f w (slot_stop k 0 (seen_by k m)) refl;
+        of_fetch = λ f w. is.stop ∙ nothing_left f w (slot_stop k.shape 0 (seen_by k m)) refl;
       } where
-        why : (stop : Stop) (o : Option Stop) → slot_stop k 0 (seen_by k m) ≡ o → or_else o (if remains (seen_by k m) || is_some (word_at k.image (fetch_after m.fetch (seen_by k m))) then None else Some Fetch) ≡ Some stop → ((stage : ℕ) × (c : Cell) × Stands k row stage c × StopsRun k earlier row stage c stop) ⊎ ((stop ≡ Fetch) × IsEmptyAfter k row × (word_at k.image (fetch_address k (row ∷ earlier)) ≡ None))
+        why : (stop : Stop) (o : Option Stop) → slot_stop k.shape 0 (seen_by k m) ≡ o → or_else o (if remains (seen_by k m) || is_some (word_at k.image (fetch_after m.fetch (seen_by k m))) then None else Some Fetch) ≡ Some stop → ((stage : ℕ) × (c : Cell) × Stands k row stage c × StopsRun k earlier row stage c stop) ⊎ ((stop ≡ Fetch) × IsEmptyAfter k row × (word_at k.image (fetch_address k (row ∷ earlier)) ≡ None))
         why stop (Some s) q e =
             let x = stopper k 0 (seen_by k m) stop (q ∙ e) in
             let y = stopper_stops stop x in
@@ -412,7 +412,7 @@ module _ (k : Setting) (shape : IsShape k) (earlier : List Row) (m : Machine) (r
             let f = fetch_case (remains (seen_by k m)) (word_at k.image (fetch_after m.fetch (seen_by k m))) stop e in
             inr (f.2, empty_after f.0, ap (λ n. word_at k.image n) (sym fetch_now) ∙ f.1)
 
-        nothing_left : IsEmptyAfter k row → word_at k.image (fetch_address k (row ∷ earlier)) ≡ None → (o : Option Stop) → slot_stop k 0 (seen_by k m) ≡ o → or_else o (if remains (seen_by k m) || is_some (word_at k.image (fetch_after m.fetch (seen_by k m))) then None else Some Fetch) ≡ Some Fetch
+        nothing_left : IsEmptyAfter k row → word_at k.image (fetch_address k (row ∷ earlier)) ≡ None → (o : Option Stop) → slot_stop k.shape 0 (seen_by k m) ≡ o → or_else o (if remains (seen_by k m) || is_some (word_at k.image (fetch_after m.fetch (seen_by k m))) then None else Some Fetch) ≡ Some Fetch
         nothing_left f w None q =
             let e = after_empty f in
             let a = ap (λ n. word_at k.image n) fetch_now ∙ w in
@@ -454,10 +454,10 @@ module _ (k : Setting) (shape : IsShape k) (earlier : List Row) (m : Machine) (r
       let s' = subst (λ d. StopsRun k earlier row x.index d stop) (sym at.is) s in
       let n = stops_then k shape earlier row (seen_by k m) told x.index at.token at.older at.rest at.placed stop s' in
       by_older at.older at.token at.rest at.placed n where
-        no_drain : (older : Slots) (word : ℕ) → stops_now k x.index word older ≡ true → staying older ≡ None
-        no_drain older word n = by_case (x.index == k.ex) (is_some (word_stop word)) refl refl (own_hold k x.index word older) refl n where
-          by_case : (b d : Bool) → (x.index == k.ex) ≡ b → is_some (word_stop word) ≡ d → (o : Option Hold) → own_hold k x.index word older ≡ o → (b && d && is_none o) ≡ true → staying older ≡ None
-          by_case true true e w None q y = drain_none (staying older) (if_so _ (drain (staying older)) (all_two (x.index == k.ex) (is_some (word_stop word)) e w) (or_else_none_b _ _ q)) where
+        no_drain : (older : Slots) (i : Option Instruction) → stops_now k.shape x.index i older ≡ true → staying older ≡ None
+        no_drain older i n = by_case (x.index == k.shape.ex) (is_some (stop_of i)) refl refl (own_hold k.shape x.index i older) refl n where
+          by_case : (b d : Bool) → (x.index == k.shape.ex) ≡ b → is_some (stop_of i) ≡ d → (o : Option Hold) → own_hold k.shape x.index i older ≡ o → (b && d && is_none o) ≡ true → staying older ≡ None
+          by_case true true e w None q y = drain_none (staying older) (if_so _ (drain (staying older)) (all_two (x.index == k.shape.ex) (is_some (stop_of i)) e w) (or_else_none_b _ _ q)) where
             if_so : (c : Bool) (z : Option Hold) → c ≡ true → (if c then z else None) ≡ None → z ≡ None
             if_so true z p q = q
             if_so false z p q = cc
@@ -468,13 +468,13 @@ module _ (k : Setting) (shape : IsShape k) (earlier : List Row) (m : Machine) (r
           by_case true false e w o q y = cc
           by_case false d e w o q y = cc
 
-        by_older : (older : Slots) (t : Token) → drop x.index (seen_by k m) ≡ Some t ∷ older → Placed k (retirements earlier) x.index (Some t ∷ older) → stops_now k x.index t.cell.word older ≡ true → retirements earlier + count older ≡ retirements earlier + out_of (seen_by k m)
+        by_older : (older : Slots) (t : Token) → drop x.index (seen_by k m) ≡ Some t ∷ older → Placed k (retirements earlier) x.index (Some t ∷ older) → stops_now k.shape x.index t.instruction older ≡ true → retirements earlier + count older ≡ retirements earlier + out_of (seen_by k m)
         by_older older t rest placed n =
-            let stay = sym (staying_is k (retirements earlier) (suc x.index) older placed.1) ∙ no_drain older t.cell.word n in
+            let stay = sym (staying_is k (retirements earlier) (suc x.index) older placed.1) ∙ no_drain older t.instruction n in
             let le = out_le older in
             let some = longer x.index older t rest s.executing in
             all_out older (nat_lt (out_of older) (count older)) refl stay some rest where
-              longer : (n : ℕ) (older : Slots) (t : Token) → drop n (seen_by k m) ≡ Some t ∷ older → n ≡ k.ex → 0 < length older
+              longer : (n : ℕ) (older : Slots) (t : Token) → drop n (seen_by k m) ≡ Some t ∷ older → n ≡ k.shape.ex → 0 < length older
               longer n older t rest e =
                   let l = ap length rest in
                   let d = length-drop n (seen_by k m) in
@@ -493,8 +493,8 @@ module _ (k : Setting) (shape : IsShape k) (earlier : List Row) (m : Machine) (r
                     above a b q = grind (arith, nat_tests)
 
   stop_agrees : (stop : Stop) → row.stop ≡ Some stop → step k.image (run k.image (retirements (row ∷ earlier))) ≡ Stopped stop
-  stop_agrees stop e = why (slot_stop k 0 (seen_by k m)) refl (sym is.stop ∙ e) where
-    why : (o : Option Stop) → slot_stop k 0 (seen_by k m) ≡ o → or_else o (if remains (seen_by k m) || is_some (word_at k.image (fetch_after m.fetch (seen_by k m))) then None else Some Fetch) ≡ Some stop → step k.image (run k.image (retirements (row ∷ earlier))) ≡ Stopped stop
+  stop_agrees stop e = why (slot_stop k.shape 0 (seen_by k m)) refl (sym is.stop ∙ e) where
+    why : (o : Option Stop) → slot_stop k.shape 0 (seen_by k m) ≡ o → or_else o (if remains (seen_by k m) || is_some (word_at k.image (fetch_after m.fetch (seen_by k m))) then None else Some Fetch) ≡ Some stop → step k.image (run k.image (retirements (row ∷ earlier))) ≡ Stopped stop
     why (Some s) q e =
         let x = stopper k 0 (seen_by k m) stop (q ∙ e) in
         let y = stopper_stops stop x in
@@ -511,7 +511,7 @@ module _ (k : Setting) (shape : IsShape k) (earlier : List Row) (m : Machine) (r
         ∙ ap Stopped (sym f.2) where
           fetch_left : remains (seen_by k m) ≡ false → fetch_after m.fetch (seen_by k m) ≡ 4 * (retirements earlier + count (seen_by k m))
           fetch_left rem = by_slots (seen_by k m) rem seen_length seen_tail where
-            by_slots : (l : Slots) → remains l ≡ false → length l ≡ k.stages → m.fetch ≡ 4 * (retirements earlier + count (tail l)) → fetch_after m.fetch l ≡ 4 * (retirements earlier + count l)
+            by_slots : (l : Slots) → remains l ≡ false → length l ≡ k.shape.stages → m.fetch ≡ 4 * (retirements earlier + count (tail l)) → fetch_after m.fetch l ≡ 4 * (retirements earlier + count l)
             by_slots [] rem len t = t
             by_slots (None ∷ l) rem len t = t
             by_slots (Some u ∷ []) rem len t = let a = shape.ex_last in let b = shape.rd_pos in absurd (omega (arith, a, b, len))
@@ -528,7 +528,7 @@ module _ (k : Setting) (shape : IsShape k) (earlier : List Row) (m : Machine) (r
   -- The next row
 
   no_stop : row.stop ≡ None → NoStops k 0 (seen_by k m)
-  no_stop e = no_stops k 0 (seen_by k m) (or_else_none (slot_stop k 0 (seen_by k m)) _ (sym is.stop ∙ e))
+  no_stop e = no_stops k 0 (seen_by k m) (or_else_none (slot_stop k.shape 0 (seen_by k m)) _ (sym is.stop ∙ e))
 
   next_few : next_after m.next (first_slot m.slots) (word_at k.image m.fetch) ≤ length k.image
   next_few =
@@ -540,40 +540,40 @@ module _ (k : Setting) (shape : IsShape k) (earlier : List Row) (m : Machine) (r
         first_count (None ∷ older) e n = sym n
         first_count (Some t ∷ older) e n = cc
 
-  counted : row.stop ≡ None → count (seen_by k m) ≡ count (advanced k m.arch.x 0 None (seen_by k m)) + out_of (seen_by k m)
+  counted : row.stop ≡ None → count (seen_by k m) ≡ count (advanced k.shape m.arch.x 0 None (seen_by k m)) + out_of (seen_by k m)
   counted e =
       let c = count_advanced k m.arch.x 0 None (seen_by k m) seen_decided (no_stop e) (λ _. refl) in
       omega (arith, c, left_out)
 
-  placed_next : row.stop ≡ None → Placed k (retirements (row ∷ earlier)) 0 (advanced k m.arch.x 0 None (seen_by k m))
+  placed_next : row.stop ≡ None → Placed k (retirements (row ∷ earlier)) 0 (advanced k.shape m.arch.x 0 None (seen_by k m))
   placed_next e =
       let p = placed_advanced k shape (retirements earlier) 0 None (seen_by k m) seen_placed seen_decided (no_stop e) (λ _. refl) tt in
-      let p' = subst (λ (s : Arch). Placed k (retirements earlier + one_more (leaving k s.x 0 None (seen_by k m)) 0) 0 (advanced k s.x 0 None (seen_by k m))) (sym inv.arch) p in
-      subst (λ n. Placed k n 0 (advanced k m.arch.x 0 None (seen_by k m))) (ap (λ n. retirements earlier + n) left_out ∙ sym retired_now) p'
+      let p' = subst (λ (s : Arch). Placed k (retirements earlier + one_more (leaving k.shape s.x 0 None (seen_by k m)) 0) 0 (advanced k.shape s.x 0 None (seen_by k m))) (sym inv.arch) p in
+      subst (λ n. Placed k n 0 (advanced k.shape m.arch.x 0 None (seen_by k m))) (ap (λ n. retirements earlier + n) left_out ∙ sym retired_now) p'
 
-  retired_left : row.retired ≡ retired_of (leaving k m.arch.x 0 None (seen_by k m))
+  retired_left : row.retired ≡ retired_of (leaving k.shape m.arch.x 0 None (seen_by k m))
   retired_left = is.retired
 
-  progress_next : row.stop ≡ None → rows_without (row ∷ earlier) + rank k.stages (advanced k m.arch.x 0 None (seen_by k m)) ≤ k.stages + 1
+  progress_next : row.stop ≡ None → rows_without (row ∷ earlier) + rank k.shape.stages (advanced k.shape m.arch.x 0 None (seen_by k m)) ≤ k.shape.stages + 1
   unfolding rows_without
   progress_next e = elim goes_out [ inr y ↦ after_retirement y.0 | inl n ↦ before_retirement n.0 n.1 ] where
-    fetch_stop : remains (seen_by k m) ≡ false → word_at k.image (fetch_after m.fetch (seen_by k m)) ≡ None → or_else (slot_stop k 0 (seen_by k m)) (if remains (seen_by k m) || is_some (word_at k.image (fetch_after m.fetch (seen_by k m))) then None else Some Fetch) ≡ Some Fetch
-    fetch_stop r w = let n = or_else_none (slot_stop k 0 (seen_by k m)) _ (sym is.stop ∙ e) in rw (n, r, w)
+    fetch_stop : remains (seen_by k m) ≡ false → word_at k.image (fetch_after m.fetch (seen_by k m)) ≡ None → or_else (slot_stop k.shape 0 (seen_by k m)) (if remains (seen_by k m) || is_some (word_at k.image (fetch_after m.fetch (seen_by k m))) then None else Some Fetch) ≡ Some Fetch
+    fetch_stop r w = let n = or_else_none (slot_stop k.shape 0 (seen_by k m)) _ (sym is.stop ∙ e) in rw (n, r, w)
 
-    after_retirement : Retirement (leaving k m.arch.x 0 None (seen_by k m)) row.retired → (if is_some row.retired then 0 else suc (rows_without earlier)) + rank k.stages (advanced k m.arch.x 0 None (seen_by k m)) ≤ k.stages + 1
+    after_retirement : Retirement (leaving k.shape m.arch.x 0 None (seen_by k m)) row.retired → (if is_some row.retired then 0 else suc (rows_without earlier)) + rank k.shape.stages (advanced k.shape m.arch.x 0 None (seen_by k m)) ≤ k.shape.stages + 1
     after_retirement y =
-        let a = to_go-le (advanced k m.arch.x 0 None (seen_by k m)) in
+        let a = to_go-le (advanced k.shape m.arch.x 0 None (seen_by k m)) in
         let b = advanced_length k m.arch.x 0 None (seen_by k m) in
-        let c = first_le (to_go (advanced k m.arch.x 0 None (seen_by k m))) (suc k.stages) (k.stages + 1) (omega (arith, a, b, seen_length)) (omega arith) in
+        let c = first_le (to_go (advanced k.shape m.arch.x 0 None (seen_by k m))) (suc k.shape.stages) (k.shape.stages + 1) (omega (arith, a, b, seen_length)) (omega arith) in
         rw y.is_retired (omega (arith, c))
 
-    before_retirement : leaving k m.arch.x 0 None (seen_by k m) ≡ None → row.retired ≡ None → (if is_some row.retired then 0 else suc (rows_without earlier)) + rank k.stages (advanced k m.arch.x 0 None (seen_by k m)) ≤ k.stages + 1
+    before_retirement : leaving k.shape m.arch.x 0 None (seen_by k m) ≡ None → row.retired ≡ None → (if is_some row.retired then 0 else suc (rows_without earlier)) + rank k.shape.stages (advanced k.shape m.arch.x 0 None (seen_by k m)) ≤ k.shape.stages + 1
     before_retirement l q =
         let a = shape.ex_last in
-        let d = to_go-decided k 0 (fill_first m.slots m.next m.fetch (word_at k.image m.fetch)) in
-        elim (fill_rank m.slots m.next m.fetch (word_at k.image m.fetch) k.stages inv.stages (omega (arith, a))) [
+        let d = to_go-decided k.shape 0 (fill_first m.slots m.next m.fetch (word_at k.image m.fetch)) in
+        elim (fill_rank m.slots m.next m.fetch (word_at k.image m.fetch) k.shape.stages inv.stages (omega (arith, a))) [
           | inl x ↦
-              let f = rank_falls k m.arch.x k.stages x.0 (seen_by k m) seen_decided (no_stop e) l (d ∙ x.1) in
+              let f = rank_falls k m.arch.x k.shape.stages x.0 (seen_by k m) seen_decided (no_stop e) l (d ∙ x.1) in
               let p = inv.progress in
               rw q (omega (arith, f, x.2, p))
           | inr x ↦
@@ -597,7 +597,7 @@ module _ (k : Setting) (shape : IsShape k) (earlier : List Row) (m : Machine) (r
         pc = state_now.1;
         next = seen_count ∙ omega (arith, c, retired_now);
         fetch = fetch_place k m.arch.x (retirements earlier) (out_of (seen_by k m)) m.fetch (seen_by k m) some_stages seen_placed few_seen seen_tail c
-            ∙ ap (λ n. 4 * (n + count (tail (advanced k m.arch.x 0 None (seen_by k m))))) (sym retired_now);
+            ∙ ap (λ n. 4 * (n + count (tail (advanced k.shape m.arch.x 0 None (seen_by k m))))) (sym retired_now);
         few = next_few;
         placed = placed_next e;
         fetch_is = fetch_now;
@@ -612,7 +612,7 @@ module _ (k : Setting) (shape : IsShape k) (earlier : List Row) (m : Machine) (r
         few_seen : retirements earlier + count (seen_by k m) ≤ 65536
         few_seen = let a = shape.few_words in omega (arith, seen_count, next_few, a)
 
-        moves_now : NoStops k 0 (seen_by k m) → MovesInto row None (stages_of k row) (names_of (cells_of (advanced k m.arch.x 0 None (seen_by k m))))
+        moves_now : NoStops k 0 (seen_by k m) → MovesInto row None (stages_of k row) (names_of (cells_of (advanced k.shape m.arch.x 0 None (seen_by k m))))
         moves_now n = rw is.cells (moves_on k m.arch.x row 0 None (seen_by k m) flushes_none seen_decided n (λ _. refl))
 
         serial_now : next_after m.next (first_slot m.slots) (word_at k.image m.fetch) ≡ next_serial k (row ∷ earlier)

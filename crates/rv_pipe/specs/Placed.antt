@@ -10,7 +10,7 @@ use Rattle.rv_seq.specs.SequentialRun.{run}
 use Rattle.rv_trace.specs.Trace.{Setting, stages_of, newest, is_flushed, is_retired, retirements, architecture, rows_without}
 use Rattle.rv_trace.specs.LawfulTrace.{MovesInto, names_of, fetch_address, next_serial, IsWordOf}
 use Rattle.rv_trace.specs.Headline.{Headline}
-use Rattle.rv_pipe.specs.PlainMachine.{Machine, Slots, cells_of, word_stop, value_of, setting, machine_of}
+use Rattle.rv_pipe.specs.PlainMachine.{Machine, Slots, cells_of, stop_of, value_of, setting, machine_of}
 
 abbrev pub one_more : Option Token → ℕ → ℕ
 one_more None n = n
@@ -26,8 +26,9 @@ pub record IsPlaced (k : Setting) (p stage : ℕ) (t : Token) : Type 0 where
   pub serial : t.cell.serial ≡ p
   pub at : t.cell.at ≡ 4 * p
   pub word : slice_get k.image p ≡ Some t.cell.word
-  pub value : k.rd < stage → t.value ≡ value_of (instruction_of t.cell.word) (run k.image p).x
-  pub goes : k.ex < stage → word_stop t.cell.word ≡ None
+  pub decoded : t.instruction ≡ instruction_of t.cell.word
+  pub value : k.shape.rd < stage → t.value ≡ value_of t.instruction (run k.image p).x
+  pub goes : k.shape.ex < stage → stop_of t.instruction ≡ None
 
 abbrev pub IsPlacedSlot : Setting → ℕ → ℕ → Option Token → Type 0
 IsPlacedSlot k p stage None = Unit {0}
@@ -45,9 +46,9 @@ tail (s ∷ older) = older
 
 -- the numbers of a core with an image that fits
 pub record IsShape (k : Setting) : Type 0 where
-  pub rd_pos : 0 < k.rd
-  pub rd_ex : k.rd ≤ k.ex
-  pub ex_last : k.ex + 1 < k.stages
+  pub rd_pos : 0 < k.shape.rd
+  pub rd_ex : k.shape.rd ≤ k.shape.ex
+  pub ex_last : k.shape.ex + 1 < k.shape.stages
   pub few_words : length k.image ≤ 65536
 
 abbrev pub here : Option Token → ℕ → ℕ
@@ -69,7 +70,7 @@ rank stages slots = first_of_two (to_go slots) (suc stages)
 
 -- what ties the machine to the rows before
 pub record Inv (k : Setting) (earlier : List Row) (m : Machine) : Type 0 where
-  pub stages : length m.slots ≡ k.stages
+  pub stages : length m.slots ≡ k.shape.stages
   pub arch : m.arch ≡ run k.image (retirements earlier)
   pub pc : (run k.image (retirements earlier)).pc ≡ 4 * retirements earlier
   pub next : m.next ≡ retirements earlier + count m.slots
@@ -83,7 +84,7 @@ pub record Inv (k : Setting) (earlier : List Row) (m : Machine) : Type 0 where
   pub retired : (s : ℕ) → is_retired earlier s ≡ nat_lt s (retirements earlier)
   pub unflushed : (s : ℕ) → is_flushed earlier s ≡ false
   pub state : architecture earlier ≡ run k.image (retirements earlier)
-  pub progress : rows_without earlier + rank k.stages m.slots ≤ k.stages + 1
+  pub progress : rows_without earlier + rank k.shape.stages m.slots ≤ k.shape.stages + 1
 
 -- a machine over these rows, newest first
 pub record IsSound (shape : Shape) (image : List ℕ) (kept : Kept) (rows : List Row) : Type 0 where

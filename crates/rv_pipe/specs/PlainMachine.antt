@@ -19,7 +19,7 @@ use Rattle.rv_trace.specs.Trace.{Setting, stages_of}
 use Rattle.rv_trace.specs.LawfulTrace.{destination_of}
 
 abbrev pub setting : List ℕ → Shape → Setting
-setting image shape = record { image = image; stages = shape.stages; rd = shape.rd; ex = shape.ex }
+setting image shape = record { image = image; shape = shape }
 
 abbrev pub Slots : Type 0
 Slots = List (Option Token)
@@ -45,7 +45,7 @@ or_else None b = b
 abbrev pub writer : ℕ → Slots → Option ℕ
 writer r [] = None
 writer r (None ∷ older) = writer r older
-writer r (Some t ∷ older) = or_else (writer r older) (if destination_of (instruction_of t.cell.word) == r then Some t.cell.serial else None)
+writer r (Some t ∷ older) = or_else (writer r older) (if destination_of t.instruction == r then Some t.cell.serial else None)
 
 abbrev pub operand : ℕ → Option ℕ → Option Hold
 operand r None = None
@@ -68,9 +68,6 @@ stop_of (Some Break) = Some Ebreak
 stop_of (Some (AddImmediate rd rs1 immediate)) = None
 stop_of (Some (Add rd rs1 rs2)) = None
 
-abbrev pub word_stop : ℕ → Option Stop
-word_stop word = stop_of (instruction_of word)
-
 abbrev pub drain : Option ℕ → Option Hold
 drain None = None
 drain (Some j) = Some (Drain j)
@@ -83,41 +80,41 @@ staying (Some t ∷ []) = if is_some t.cell.hold then Some t.cell.serial else No
 staying (Some t ∷ u ∷ older) = or_else (staying (u ∷ older)) (Some t.cell.serial)
 
 -- the first true hold of a token but Behind
-abbrev pub own_hold : Setting → ℕ → ℕ → Slots → Option Hold
-own_hold k stage word older =
-    or_else (if stage == k.rd then operand_hold older (instruction_of word) else None)
-    (if (stage == k.ex) && is_some (word_stop word) then drain (staying older) else None)
+abbrev pub own_hold : Shape → ℕ → Option Instruction → Slots → Option Hold
+own_hold k stage i older =
+    or_else (if stage == k.rd then operand_hold older i else None)
+    (if (stage == k.ex) && is_some (stop_of i) then drain (staying older) else None)
 
 -- does it stop the run in this row?
-abbrev pub stops_now : Setting → ℕ → ℕ → Slots → Bool
-stops_now k stage word older = (stage == k.ex) && is_some (word_stop word) && is_none (own_hold k stage word older)
+abbrev pub stops_now : Shape → ℕ → Option Instruction → Slots → Bool
+stops_now k stage i older = (stage == k.ex) && is_some (stop_of i) && is_none (own_hold k stage i older)
 
 -- is the token of this stage, the first of these, held, or does it stop the run?
-abbrev pub is_blocked : Setting → ℕ → Slots → Bool
+abbrev pub is_blocked : Shape → ℕ → Slots → Bool
 is_blocked k stage [] = false
 is_blocked k stage (None ∷ older) = false
-is_blocked k stage (Some t ∷ older) = is_some t.cell.hold || stops_now k stage t.cell.word older
+is_blocked k stage (Some t ∷ older) = is_some t.cell.hold || stops_now k stage t.instruction older
 
 -- what a token shows
-abbrev pub shown : Setting → ℕ → ℕ → Slots → Option Hold
-shown k stage word older =
-    if stops_now k stage word older then None
-    else or_else (own_hold k stage word older) (if is_blocked k (suc stage) older then Some Behind else None)
+abbrev pub shown : Shape → ℕ → Option Instruction → Slots → Option Hold
+shown k stage i older =
+    if stops_now k stage i older then None
+    else or_else (own_hold k stage i older) (if is_blocked k (suc stage) older then Some Behind else None)
 
-abbrev pub with_hold : Setting → ℕ → Option Token → Slots → Option Token
+abbrev pub with_hold : Shape → ℕ → Option Token → Slots → Option Token
 with_hold k stage None older = None
 with_hold k stage (Some t) older =
-    Some (record { cell = record { serial = t.cell.serial; at = t.cell.at; word = t.cell.word; hold = shown k stage t.cell.word older }; value = t.value })
+    Some (record { cell = record { serial = t.cell.serial; at = t.cell.at; word = t.cell.word; hold = shown k stage t.instruction older }; instruction = t.instruction; value = t.value })
 
 -- the holds, decided from the oldest down
-abbrev pub decided : Setting → ℕ → Slots → Slots
+abbrev pub decided : Shape → ℕ → Slots → Slots
 decided k stage [] = []
 decided k stage (s ∷ older) = with_hold k stage s (decided k (suc stage) older) ∷ decided k (suc stage) older
 
 -- Fetch
 
 abbrev pub new_token : ℕ → ℕ → ℕ → Token
-new_token serial at word = record { cell = record { serial = serial; at = at; word = word; hold = None }; value = 0 }
+new_token serial at word = record { cell = record { serial = serial; at = at; word = word; hold = None }; instruction = instruction_of word; value = 0 }
 
 -- a free slot takes the fetched word
 abbrev pub fill : Option Token → ℕ → ℕ → Option ℕ → Option Token
@@ -141,10 +138,10 @@ value_of None x = 0
 value_of (Some i) x = result_of i x
 
 -- a token that goes on; it reads its operands as it leaves RD
-abbrev pub gone : Setting → List ℕ → ℕ → Token → Token
-gone k x stage t = record { cell = t.cell; value = if stage == k.rd then value_of (instruction_of t.cell.word) x else t.value }
+abbrev pub gone : Shape → List ℕ → ℕ → Token → Token
+gone k x stage t = record { cell = t.cell; instruction = t.instruction; value = if stage == k.rd then value_of t.instruction x else t.value }
 
-abbrev pub going : Setting → List ℕ → ℕ → Option Token → Option Token
+abbrev pub going : Shape → List ℕ → ℕ → Option Token → Option Token
 going k x stage None = None
 going k x stage (Some t) = if is_some t.cell.hold then None else Some (gone k x stage t)
 
@@ -153,12 +150,12 @@ kept come None = come
 kept come (Some t) = if is_some t.cell.hold then Some t else come
 
 -- the slots after the moves, where `come` comes into the first of them
-abbrev pub advanced : Setting → List ℕ → ℕ → Option Token → Slots → Slots
+abbrev pub advanced : Shape → List ℕ → ℕ → Option Token → Slots → Slots
 advanced k x stage come [] = []
 advanced k x stage come (s ∷ older) = kept come s ∷ advanced k x (suc stage) (going k x stage s) older
 
 -- the token that goes out of the last stage
-abbrev pub leaving : Setting → List ℕ → ℕ → Option Token → Slots → Option Token
+abbrev pub leaving : Shape → List ℕ → ℕ → Option Token → Slots → Option Token
 leaving k x stage come [] = come
 leaving k x stage come (s ∷ older) = leaving k x (suc stage) (going k x stage s) older
 
@@ -173,15 +170,15 @@ with_serial s (Some c) = Some (s, c)
 
 abbrev pub retired_of : Option Token → Option (ℕ × Commit)
 retired_of None = None
-retired_of (Some t) = with_serial t.cell.serial (commit_for t.cell.at t.cell.word t.value (instruction_of t.cell.word))
+retired_of (Some t) = with_serial t.cell.serial (commit_for t.cell.at t.cell.word t.value t.instruction)
 
 -- Stops and the row
 
 -- the stop that a token of these makes
-abbrev pub slot_stop : Setting → ℕ → Slots → Option Stop
+abbrev pub slot_stop : Shape → ℕ → Slots → Option Stop
 slot_stop k stage [] = None
 slot_stop k stage (None ∷ older) = slot_stop k (suc stage) older
-slot_stop k stage (Some t ∷ older) = if stops_now k stage t.cell.word older then word_stop t.cell.word else slot_stop k (suc stage) older
+slot_stop k stage (Some t ∷ older) = if stops_now k stage t.instruction older then stop_of t.instruction else slot_stop k (suc stage) older
 
 -- does a token remain after the row?
 abbrev pub remains : Slots → Bool
@@ -208,11 +205,11 @@ cells_of = map cell_of
 
 -- the slots as the row shows them
 abbrev pub seen_by : Setting → Machine → Slots
-seen_by k m = decided k 0 (fill_first m.slots m.next m.fetch (word_at k.image m.fetch))
+seen_by k m = decided k.shape 0 (fill_first m.slots m.next m.fetch (word_at k.image m.fetch))
 
 abbrev pub stop_after : Setting → Machine → Option Stop
 stop_after k m =
-    or_else (slot_stop k 0 (seen_by k m))
+    or_else (slot_stop k.shape 0 (seen_by k m))
     (if remains (seen_by k m) || is_some (word_at k.image (fetch_after m.fetch (seen_by k m))) then None else Some Fetch)
 
 abbrev pub arch_after : Arch → Option (ℕ × Commit) → Arch
@@ -222,7 +219,7 @@ arch_after s (Some (serial, c)) = applied c s
 -- the row that the machine makes
 pub record IsRowOf (k : Setting) (m : Machine) (row : Row) : Type 0 where
   pub cells : stages_of k row ≡ cells_of (seen_by k m)
-  pub retired : row.retired ≡ retired_of (leaving k m.arch.x 0 None (seen_by k m))
+  pub retired : row.retired ≡ retired_of (leaving k.shape m.arch.x 0 None (seen_by k m))
   pub written : row.written ≡ None
   pub flushed : row.flushed ≡ replicate 5 None
   pub redirect : row.redirect ≡ None
@@ -232,10 +229,10 @@ pub record IsRowOf (k : Setting) (m : Machine) (row : Row) : Type 0 where
 abbrev pub machine_after : Setting → Machine → Machine
 machine_after k m =
     record {
-      slots = advanced k m.arch.x 0 None (seen_by k m);
+      slots = advanced k.shape m.arch.x 0 None (seen_by k m);
       fetch = fetch_after m.fetch (seen_by k m);
       next = next_after m.next (first_slot m.slots) (word_at k.image m.fetch);
-      arch = arch_after m.arch (retired_of (leaving k m.arch.x 0 None (seen_by k m)));
+      arch = arch_after m.arch (retired_of (leaving k.shape m.arch.x 0 None (seen_by k m)));
     }
 
 -- what it keeps before the first row

@@ -8,6 +8,7 @@ use Rattle.rv_seq.specs.declared.commit.Slot.TheVariants.{Absent, Now}
 use Rattle.rv_seq.specs.declared.commit.Commit.{Commit}
 use Rattle.rv_seq.specs.declared.commit.Stop.{Stop}
 use Rattle.rv_seq.specs.declared.commit.Stop.TheVariants.{Ebreak}
+use Rattle.rv_core.specs.Stages.{three_lawful}
 use Rattle.rv_trace.specs.Trace.{Setting}
 use Rattle.rv_trace.specs.Headline.{Headline}
 
@@ -16,7 +17,7 @@ abbrev pub worked_image : List ℕ
 worked_image = 5243027 ∷ 7340307 ∷ 2130355 ∷ 1048691 ∷ []
 
 abbrev pub worked : Setting
-worked = record { image = worked_image; stages = 3; rd = 1; ex = 1 }
+worked = record { image = worked_image; shape = record { stages = 3; rd = 1; ex = 1; mem = 2; lawful = three_lawful } }
 
 abbrev pub cell : ℕ → ℕ → ℕ → Option Hold → Cell
 cell serial at word hold = record { serial = serial; at = at; word = word; hold = hold }

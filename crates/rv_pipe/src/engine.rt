@@ -3,7 +3,7 @@ ghost use Rattle.rv_seq.specs.declared.commit.Stop.TheVariants.{Fetch};
 ghost use Rattle.rv_seq.specs.SequentialRun.{word_at as specified_word_at};
 ghost use Rattle.rv_pipe.specs.PlainMachine.{setting, machine_of, or_else, kept as specified_kept, going, advanced, leaving, fill_first as specified_fill_first, next_after, retired_of, slot_stop, remains, fetch_after, first_slot, cell_of, cells_of, arch_after, IsRowOf, machine_after};
 
-use crate::decide::{decide, does_stop, word_stop};
+use crate::decide::{decide, does_stop, stop_of};
 use crate::stages::{Kept, Token};
 use rv_core::Shape;
 use rv_seq::{Arch, Commit, Stop, apply, commit_of, instruction_of, result_of, word_at};
@@ -20,13 +20,12 @@ fn token_kept(come: Option<Token>, slot: Option<Token>) -> Option<Token>
 
 /// The token that goes on from a stage; it reads its operands as it leaves RD.
 fn token_going(
-    image: &[u32],
     shape: Shape,
     x: &[u32; 32],
     stage: usize,
     slot: Option<Token>,
 ) -> Option<Token>
-    ensures { result ≡ going (setting image.now shape) x.now stage slot }
+    ensures { result ≡ going shape x.now stage slot }
 {
     let token = slot?;
     if token.cell.hold.is_some() {
@@ -35,7 +34,7 @@ fn token_going(
     if stage != usize::from(shape.rd) {
         return Some(token);
     }
-    let value = match instruction_of(token.cell.word) {
+    let value = match token.instruction {
         None => 0,
         Some(instruction) => result_of(instruction, x),
     };
@@ -43,15 +42,15 @@ fn token_going(
 }
 
 /// Moves the tokens, and gives the one that goes out of the last stage.
-fn advance(image: &[u32], shape: Shape, x: &[u32; 32], slots: &mut [Option<Token>]) -> Option<Token>
-    ensures slots { slots.new ≡ advanced (setting image.now shape) x.now 0 None slots.old }
-    ensures left { result ≡ leaving (setting image.now shape) x.now 0 None slots.old }
+fn advance(shape: Shape, x: &[u32; 32], slots: &mut [Option<Token>]) -> Option<Token>
+    ensures slots { slots.new ≡ advanced shape x.now 0 None slots.old }
+    ensures left { result ≡ leaving shape x.now 0 None slots.old }
 {
     let mut come = None;
     for stage in 0..slots.len() {
         let slot = slots[stage];
         slots[stage] = token_kept(come, slot);
-        come = token_going(image, shape, x, stage, slot);
+        come = token_going(shape, x, stage, slot);
     }
     come
 }
@@ -70,6 +69,7 @@ fn fill_first(slots: &mut [Option<Token>], serial: u32, at: u32, word: Option<u3
                     word,
                     hold: None,
                 },
+                instruction: instruction_of(word),
                 value: 0,
             });
         }
@@ -77,13 +77,13 @@ fn fill_first(slots: &mut [Option<Token>], serial: u32, at: u32, word: Option<u3
 }
 
 /// The stop that a token makes in this row.
-fn stop_in(image: &[u32], shape: Shape, slots: &[Option<Token>]) -> Option<Stop>
-    ensures { result ≡ slot_stop (setting image.now shape) 0 slots.now }
+fn stop_in(shape: Shape, slots: &[Option<Token>]) -> Option<Stop>
+    ensures { result ≡ slot_stop shape 0 slots.now }
 {
     for stage in 0..slots.len() {
         if let Some(token) = slots[stage] {
-            if does_stop(image, shape, stage, token.cell.word, &slots[stage + 1..]) {
-                return word_stop(token.cell.word);
+            if does_stop(shape, stage, token.instruction, &slots[stage + 1..]) {
+                return stop_of(token.instruction);
             }
         }
     }
@@ -131,14 +131,16 @@ fn cells_in(slots: &[Option<Token>]) -> [Option<Cell>; 5]
 fn retired_in(slot: Option<Token>) -> Option<(u32, Commit)>
     ensures { result ≡ retired_of slot }
 {
-    let Token { cell, value } = slot?;
-    match instruction_of(cell.word) {
-        None => None,
-        Some(instruction) => Some((
-            cell.serial,
-            commit_of(cell.at, cell.word, instruction, value),
-        )),
-    }
+    let Token {
+        cell,
+        instruction,
+        value,
+    } = slot?;
+    let instruction = instruction?;
+    Some((
+        cell.serial,
+        commit_of(cell.at, cell.word, instruction, value),
+    ))
 }
 
 fn next_serial_of(next: u32, first: Option<Token>, word: Option<u32>) -> u32
@@ -197,12 +199,12 @@ pub fn make_row(image: &[u32], shape: Shape, kept: &mut Kept) -> Row
     let next = next_serial_of(kept.next, kept.slots[0], word);
     let mut slots = kept.slots;
     fill_first(&mut slots[..stages], kept.next, kept.fetch, word);
-    decide(image, shape, &mut slots[..stages]);
+    decide(shape, &mut slots[..stages]);
     let cells = cells_in(&slots[..stages]);
-    let stopped = stop_in(image, shape, &slots[..stages]);
+    let stopped = stop_in(shape, &slots[..stages]);
     let fetch = fetch_following(kept.fetch, &slots[..stages]);
     let stop = stop_of_row(image, stopped, &slots[..stages], fetch);
-    let retired = retired_in(advance(image, shape, &kept.arch.x, &mut slots[..stages]));
+    let retired = retired_in(advance(shape, &kept.arch.x, &mut slots[..stages]));
     let arch = state_after(kept.arch, retired);
     *kept = Kept {
         slots,

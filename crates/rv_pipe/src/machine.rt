@@ -1,4 +1,5 @@
 ghost use Rattle.std.specs.Prelude.{◌≡◌, ◌+◌, ◌<◌, [], ◌∷◌, None, reverse, IfOk};
+ghost use Rattle.rv_core.specs.Kinds.{HasNumbers};
 ghost use Rattle.rv_trace.specs.Trace.{newest, architecture};
 ghost use Rattle.rv_trace.specs.Headline.{Headline};
 ghost use Rattle.rv_pipe.specs.PlainMachine.{first_kept as specified_first_kept};
@@ -16,7 +17,7 @@ use std::marker::{Model, PhantomData};
 /// A pipeline of the core `C` over an image, with the rows that it made. All memory is taken when it is made.
 #[derive(Drop)]
 pub struct Machine<'a, C: Core> {
-    image: &'a Image,
+    words: &'a [u32],
     shape: Shape,
     kept: Kept,
     trace: Trace,
@@ -31,9 +32,9 @@ impl<'a, C: Core> Model for Machine<'a, C> {
 
     ghost Value = { Running };
 
-    ghost view = { λ m. record { setting = setting m.image.now m.shape; rows = reverse m.trace.rows; spare = m.trace.spare } };
+    ghost view = { λ m. record { setting = setting m.words.now m.shape; rows = reverse m.trace.rows; spare = m.trace.spare } };
 
-    ghost invariant = { λ m. IsSound m.shape m.image.now m.kept (reverse m.trace.rows) };
+    ghost invariant = { λ m. IsSound m.shape m.words.now m.kept (reverse m.trace.rows) };
 }
 
 fn first_kept() -> Kept
@@ -50,15 +51,15 @@ fn first_kept() -> Kept
 impl<'a, C: Core> Machine<'a, C> {
     /// A machine before its first row, with room for so many rows.
     pub fn new(alloc: Global, image: &'a Image, cycles: u32) -> Result<Machine<'a, C>, Memory>
-        ensures setting { IfOk result (λ m. m.setting ≡ record { image = image.now; stages = C.STAGES; rd = C.RD; ex = C.EX }) }
+        ensures image { IfOk result (λ m. m.setting.image ≡ image.now) }
+        ensures core { IfOk result (λ m. HasNumbers m.setting.shape C.STAGES C.RD C.EX C.MEM) }
         ensures rows { IfOk result (λ m. m.rows ≡ []) }
         ensures spare { IfOk result (λ m. m.spare ≡ cycles) }
         ensures headline { IfOk result (λ m. Headline m.setting m.rows) }
     {
         let trace = Trace::new(alloc, cycles)?;
-        let _few = image.len();
         Ok(Machine {
-            image,
+            words: image.as_slice(),
             shape: shape_of::<C>(),
             kept: first_kept(),
             trace,
@@ -77,7 +78,7 @@ impl<'a, C: Core> Machine<'a, C> {
         // The rows are lawful, what they retire is a prefix of the sequential run, and they go on.
         ensures headline { Headline self.new.setting self.new.rows }
     {
-        let row = make_row(self.image.as_slice(), self.shape, &mut self.kept);
+        let row = make_row(self.words, self.shape, &mut self.kept);
         self.trace.push(row);
         row
     }

@@ -1,10 +1,11 @@
-use rv_seq::Arch;
+use rv_seq::{Arch, Instruction};
 use rv_trace::Cell;
 
-/// A cell and what it has computed, once it has read its operands.
+/// A cell with its instruction, if the word is one, and what it has computed, once it has read its operands.
 #[derive(Clone, Copy, Debug, PartialEq, Eq)]
 pub struct Token {
     pub cell: Cell,
+    pub instruction: Option<Instruction>,
     pub value: u32,
 }
 

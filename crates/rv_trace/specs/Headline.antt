@@ -33,4 +33,4 @@ Progressing bound (row ∷ earlier) = (rows_without (row ∷ earlier) ≤ bound)
 pub record Headline (k : Setting) (rows : List Row) : Type 0 where
   pub lawful : Lawful k rows
   pub agrees : Agreeing k rows
-  pub progress : Progressing (progress_bound k.stages 0 0) rows
+  pub progress : Progressing (progress_bound k.shape.stages 0 0) rows

@@ -126,12 +126,12 @@ pub record IsOlder (rows : List Row) (s j : ℕ) : Type 0 where
   pub unflushed : is_flushed rows j ≡ false
 
 -- the cell is due to stop: the step at its place in the run is this stop
-abbrev pub IsDue : Setting → List Row → Cell → Stop → Type 0
-IsDue k rows c stop = step k.image (run k.image (place rows c.serial)) ≡ Stopped stop
+abbrev pub IsDueToStop : Setting → List Row → Cell → Stop → Type 0
+IsDueToStop k rows c stop = step k.image (run k.image (place rows c.serial)) ≡ Stopped stop
 
 -- Operand: at RD the cell reads x register r, and an older cell, not retired in an earlier row, has r as target
 pub record WaitsForOperand (k : Setting) (earlier : List Row) (row : Row) (stage : ℕ) (c : Cell) (r j : ℕ) : Type 0 where
-  pub reading : stage ≡ k.rd
+  pub reading : stage ≡ k.shape.rd
   pub reads : reads_of (instruction_of c.word) r ≡ true
   pub older : IsOlder (row ∷ earlier) c.serial j
   pub unretired : is_retired earlier j ≡ false
@@ -139,8 +139,8 @@ pub record WaitsForOperand (k : Setting) (earlier : List Row) (row : Row) (stage
 
 -- Drain: at EX the cell is due to stop, and an older cell is not retired by the end of this row
 pub record WaitsToDrain (k : Setting) (earlier : List Row) (row : Row) (stage : ℕ) (c : Cell) (j : ℕ) : Type 0 where
-  pub executing : stage ≡ k.ex
-  pub due : (stop : Stop) × IsDue k (row ∷ earlier) c stop
+  pub executing : stage ≡ k.shape.ex
+  pub due : (stop : Stop) × IsDueToStop k (row ∷ earlier) c stop
   pub older : IsOlder (row ∷ earlier) c.serial j
   pub unretired : is_retired (row ∷ earlier) j ≡ false
 
@@ -160,8 +160,8 @@ OwnHold k earlier row stage c Behind = ⊥
 
 -- the cell stops the run: at EX it is due to, and no hold of its own is true
 pub record StopsRun (k : Setting) (earlier : List Row) (row : Row) (stage : ℕ) (c : Cell) (stop : Stop) : Type 0 where
-  pub executing : stage ≡ k.ex
-  pub due : IsDue k (row ∷ earlier) c stop
+  pub executing : stage ≡ k.shape.ex
+  pub due : IsDueToStop k (row ∷ earlier) c stop
   pub free : (h : Hold) → OwnHold k earlier row stage c h → ⊥
 
 -- Behind: below the last stage, the next stage has a cell that is held or stops the run
@@ -237,7 +237,7 @@ pub record ShowsHold (k : Setting) (earlier : List Row) (row : Row) (stage : ℕ
 
 -- the cell settles its successor: it leaves EX
 pub record Settles (k : Setting) (earlier : List Row) (row : Row) (stage : ℕ) (c : Cell) : Type 0 where
-  pub executing : stage ≡ k.ex
+  pub executing : stage ≡ k.shape.ex
   pub leaves : leaves row (Some c) ≡ name_of (Some c)
   pub runs : (stop : Stop) → StopsRun k earlier row stage c stop → ⊥
 
@@ -281,7 +281,7 @@ pub record Successors (k : Setting) (earlier : List Row) (row : Row) : Type 0 wh
 -- after the row no stage has a cell
 abbrev pub IsEmptyAfter : Setting → Row → Type 0
 IsEmptyAfter k row =
-    (stage : ℕ) (c : Cell) → Stands k row stage c → (has_serial row.flushed c.serial ≡ true) ⊎ ((suc stage ≡ k.stages) × (c.hold ≡ None))
+    (stage : ℕ) (c : Cell) → Stands k row stage c → (has_serial row.flushed c.serial ≡ true) ⊎ ((suc stage ≡ k.shape.stages) × (c.hold ≡ None))
 
 -- a row has a stop exactly where a cell stops the run, or where nothing is left and the fetch address has no word
 pub record StopsRightly (k : Setting) (earlier : List Row) (row : Row) : Type 0 where
@@ -294,7 +294,7 @@ pub record StopsRightly (k : Setting) (earlier : List Row) (row : Row) : Type 0 
 -- the row is lawful after the earlier ones; no unit is built, so none writes
 pub record LawfulRow (k : Setting) (earlier : List Row) (row : Row) : Type 0 where
   pub moves : Moves k earlier row
-  pub retires : (stage : ℕ) → suc stage ≡ k.stages → Retires k row stage
+  pub retires : (stage : ℕ) → suc stage ≡ k.shape.stages → Retires k row stage
   pub holds : (stage : ℕ) (c : Cell) → Stands k row stage c → ShowsHold k earlier row stage c
   pub successors : Successors k earlier row
   pub units : row.written ≡ None

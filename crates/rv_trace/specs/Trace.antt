@@ -1,21 +1,20 @@
 -- A trace as a history of rows, the newest first, and what is read from it (this project's choice).
 use Rattle.std.specs.Prelude.{◌≡◌, ℕ, zero, suc, List, [], ◌∷◌, take, replicate, Option, Some, None, Bool, false, ◌||◌, if◌then◌else◌, ◌==◌, is_some, slice_get}
+use Rattle.rv_core.specs.declared.Shape.{Shape}
 use Rattle.rv_trace.specs.declared.row.Cell.{Cell}
 use Rattle.rv_trace.specs.declared.row.Row.{Row}
 use Rattle.rv_seq.specs.declared.commit.Commit.{Commit}
 use Rattle.rv_seq.specs.declared.commit.Arch.{Arch}
 use Rattle.rv_seq.specs.SequentialRun.{applied, first}
 
--- what a trace is judged against: the image, and the numbers of the core
+-- what a trace is judged against: the image, and the shape of the core
 pub record Setting : Type 0 where
   pub image : List ℕ
-  pub stages : ℕ
-  pub rd : ℕ
-  pub ex : ℕ
+  pub shape : Shape
 
 -- the cells of the core's stages, stage 0 first
 abbrev pub stages_of : Setting → Row → List (Option Cell)
-stages_of k row = take k.stages row.cells
+stages_of k row = take k.shape.stages row.cells
 
 -- the cell stands in this stage in the row
 abbrev pub Stands : Setting → Row → ℕ → Cell → Type 0

@@ -9,10 +9,10 @@ pub invariant_of-self : goal.invariant_of-self
 invariant_of-self g c =
     let going : (newest (reverse c.self.inside.trace.rows)).stop ≡ None = rw (ap (λ (v : Running). v.rows) c.self.view_is) c.requires.going in
     rw (reverse_push c.self.inside.trace.rows c.make_row-row.result c.push.new.self.rows c.push.ensures.rows)
-    (sound_after c.self.inside.shape c.self.inside.image.now c.self.inside.kept c.make_row-row.new.kept (reverse c.self.inside.trace.rows) c.make_row-row.result c.self.invariant going (rw c.as_slice.ensures.words at c.make_row-row.ensures.row) (rw c.as_slice.ensures.words at c.make_row-row.ensures.after))
+    (sound_after c.self.inside.shape c.self.inside.words.now c.self.inside.kept c.make_row-row.new.kept (reverse c.self.inside.trace.rows) c.make_row-row.result c.self.invariant going c.make_row-row.ensures.row c.make_row-row.ensures.after)
 
 pub returns-clause-headline : goal.returns-clause-headline
 returns-clause-headline g c =
     let going : (newest (reverse c.self.inside.trace.rows)).stop ≡ None = rw (ap (λ (v : Running). v.rows) c.self.view_is) c.requires.going in
     rw (reverse_push c.self.inside.trace.rows c.make_row-row.result c.push.new.self.rows c.push.ensures.rows)
-    (headline_after c.self.inside.shape c.self.inside.image.now c.self.inside.kept c.make_row-row.new.kept (reverse c.self.inside.trace.rows) c.make_row-row.result c.self.invariant going (rw c.as_slice.ensures.words at c.make_row-row.ensures.row) (rw c.as_slice.ensures.words at c.make_row-row.ensures.after))
+    (headline_after c.self.inside.shape c.self.inside.words.now c.self.inside.kept c.make_row-row.new.kept (reverse c.self.inside.trace.rows) c.make_row-row.result c.self.invariant going c.make_row-row.ensures.row c.make_row-row.ensures.after)

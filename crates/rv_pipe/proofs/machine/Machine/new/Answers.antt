@@ -6,6 +6,5 @@ use Rattle.rv_pipe.proofs.machine.Machine.new.Goals as goal
 
 pub invariant_of-result : goal.invariant_of-result
 invariant_of-result g c =
-    let few : length c.args.image.now ≤ 65536 = omega (arith, c.len-few.ensures.value, c.len-few.ensures.most) in
-    rw (c.first_kept.ensures, ap (λ (l : List Row). reverse l) c.in_ok-trace.ensures.rows)
-    (sound_first c.shape_of.result c.args.image.now few)
+    rw (c.first_kept.ensures, c.as_slice.ensures.words, ap (λ (l : List Row). reverse l) c.in_ok-trace.ensures.rows)
+    (sound_first c.shape_of.result c.args.image.now c.as_slice.ensures.most)
