@@ -13,7 +13,10 @@ use Rattle.ix_tool.specs.declared.value.Value.{Value}
 use Rattle.ix_tool.specs.declared.value.Value.TheVariants as value
 use Rattle.ix_tool.specs.declared.value.Refusal.{Refusal}
 use Rattle.ix_tool.specs.declared.value.Refusal.TheVariants as refusal
-use Rattle.rv_trace.specs.Trace.{Setting, newest, architecture}
+use Rattle.rv_core.specs.declared.Shape.{Shape}
+use Rattle.rv_core.specs.declared.cores.CoreKind.TheVariants.{Three}
+use Rattle.rv_core.specs.Kinds.{IsShapeOf}
+use Rattle.rv_trace.specs.Trace.{newest, architecture}
 use Rattle.rv_trace.specs.Headline.{Headline}
 use Rattle.rv_trace.specs.TraceText.{trace_text, state_text}
 use Rattle.rv_asm.specs.ImageText.{IsImageText, IsBadLine}
@@ -28,14 +31,13 @@ use Rattle.ix_io.specs.Shelf.{NamedFiles, told_file}
 use Rattle.ix_io.specs.Sink.{Appends, AppendsFront}
 
 -- ---- the texts of outputs and of refusals
--- the image on the core of three stages
-abbrev pub three : List ℕ → Setting
-three image = record { image = image; stages = 3; rd = 1; ex = 1 }
-
--- the text of a run: that of rows which the headline holds of, as many as the cycles, or fewer where the last one has a stop, and the state after them
+-- the text of a run on the core of three stages: that of rows which the headline holds of, as many as the cycles, or fewer where the last one has a stop,
+-- and the state after them
 pub record IsRunOutput (image : List ℕ) (cycles : ℕ) (text : List ℕ) : Type 0 where
+  pub shape : Shape
+  pub core : IsShapeOf Three shape
   pub rows : List Row
-  pub headline : Headline (three image) rows
+  pub headline : Headline (record { image = image; shape = shape }) rows
   pub few : length rows ≤ cycles
   pub whole : (newest rows).stop ≡ None → length rows ≡ cycles
   pub text_is : text ≡ trace_text 3 0 (reverse rows) ++ state_text (architecture rows)

@@ -1,7 +1,6 @@
 -- The printed text of an image is read as that image.
 use Rattle.std.proofs.Common.{◌≡◌, ℕ, zero, suc, take, get_or, ◌+◌, ◌*◌, ◌/◌, ◌%◌, ◌^◌, ◌<◌, ◌≤◌, List, [], ◌∷◌, ◌++◌, length, Option, Some, None, Bool, true, false, refl, sym, ap, ◌∙◌, subst, arith, append_assoc}
 use Rattle.std.specs.Prelude.{◌&&◌, not, ◌==◌}
-use Rattle.std.specs.List.{slice_split, flat_map}
 use Rattle.std.proofs.lemmas.Bool.{agree_below_at, and_parts}
 use Rattle.std.proofs.lemmas.Bool.Decides.{nat_tests}
 use Rattle.std.proofs.lemmas.Grind.{flat_map-append}
@@ -9,8 +8,8 @@ use Rattle.std.proofs.lemmas.List.{append-nil}
 use Rattle.std.proofs.lemmas.List.Splits.{slice_split-cons_yes, slice_split-cons_no}
 use Rattle.rv_isa.specs.Images.{most_words}
 use Rattle.ix_io.specs.Out.{hex_digit, hex_digits}
-use Rattle.rv_asm.specs.declared.image_text.Line.TheVariants.{Skipped, Word, Bad}
-use Rattle.rv_asm.specs.ImageText.{lines_of, is_blank, hex_value, is_skipped, line_of, with_word, words_in, AllGood, IsImageText, word_text, image_text}
+use Rattle.rv_asm.specs.declared.image_text.Line.TheVariants.{Word}
+use Rattle.rv_asm.specs.ImageText.{lines_of, is_blank, hex_value, line_of, with_word, words_in, AllGood, IsImageText, word_text, image_text}
 
 -- Digits
 

@@ -5,7 +5,6 @@ use Rattle.rv_trace.specs.declared.row.Hold.{Hold}
 use Rattle.rv_seq.specs.declared.instruction.Instruction.{Instruction}
 use Rattle.rv_seq.specs.declared.instruction.Instruction.TheVariants.{AddImmediate, Add, Break}
 use Rattle.rv_pipe.specs.declared.stages.Token.{Token}
-use Rattle.rv_seq.specs.Instructions.{instruction_of}
 use Rattle.rv_trace.specs.Trace.{Setting}
 use Rattle.rv_pipe.specs.PlainMachine.{Slots, or_else, writer, waits_for, operand_hold, stop_of, staying, stops_now, is_blocked, shown, decided, fill_first, gone, going, advanced, leaving, remains, fetch_after}
 use Rattle.rv_pipe.specs.Placed.{first_of_two, here, to_go, rank}
@@ -117,9 +116,9 @@ rank_falls k x stages n seen d ns l e =
 -- What is decided and filled
 
 pub to_go-decided : (k : Setting) (stage : ℕ) (slots : Slots) → to_go (decided k.shape stage slots) ≡ to_go slots
-to_go-decided k.shape stage [] = refl
-to_go-decided k.shape stage (None ∷ older) = rw (to_go-decided k.shape (suc stage) older)
-to_go-decided k.shape stage (Some t ∷ older) = rw (to_go-decided k.shape (suc stage) older, decided_length k (suc stage) older)
+to_go-decided k stage [] = refl
+to_go-decided k stage (None ∷ older) = rw (to_go-decided k (suc stage) older)
+to_go-decided k stage (Some t ∷ older) = rw (to_go-decided k (suc stage) older, decided_length k (suc stage) older)
 
 pub first_le : (m b c : ℕ) → m ≤ c → b ≤ c → first_of_two m b ≤ c
 first_le zero b c p q = q

@@ -8,6 +8,7 @@ use Rattle.rv_trace.specs.declared.row.Hold.{Hold}
 use Rattle.rv_trace.specs.declared.row.Row.{Row}
 use Rattle.rv_seq.specs.declared.commit.Arch.{Arch}
 use Rattle.rv_seq.specs.declared.commit.Commit.{Commit}
+use Rattle.rv_seq.specs.declared.instruction.Instruction.{Instruction}
 use Rattle.rv_seq.specs.declared.commit.Stop.{Stop}
 use Rattle.rv_seq.specs.declared.commit.Stop.TheVariants.{Fetch}
 use Rattle.rv_pipe.specs.declared.stages.Token.{Token}
@@ -570,7 +571,7 @@ module _ (k : Setting) (shape : IsShape k) (earlier : List Row) (m : Machine) (r
     before_retirement : leaving k.shape m.arch.x 0 None (seen_by k m) ≡ None → row.retired ≡ None → (if is_some row.retired then 0 else suc (rows_without earlier)) + rank k.shape.stages (advanced k.shape m.arch.x 0 None (seen_by k m)) ≤ k.shape.stages + 1
     before_retirement l q =
         let a = shape.ex_last in
-        let d = to_go-decided k.shape 0 (fill_first m.slots m.next m.fetch (word_at k.image m.fetch)) in
+        let d = to_go-decided k 0 (fill_first m.slots m.next m.fetch (word_at k.image m.fetch)) in
         elim (fill_rank m.slots m.next m.fetch (word_at k.image m.fetch) k.shape.stages inv.stages (omega (arith, a))) [
           | inl x ↦
               let f = rank_falls k m.arch.x k.shape.stages x.0 (seen_by k m) seen_decided (no_stop e) l (d ∙ x.1) in

@@ -8,7 +8,6 @@ use Rattle.rv_trace.specs.declared.row.Hold.TheVariants.{Behind}
 use Rattle.rv_seq.specs.declared.instruction.Instruction.{Instruction}
 use Rattle.rv_seq.specs.declared.instruction.Instruction.TheVariants.{AddImmediate, Add, Break}
 use Rattle.rv_pipe.specs.declared.stages.Token.{Token}
-use Rattle.rv_seq.specs.Instructions.{instruction_of}
 use Rattle.rv_seq.specs.SequentialRun.{run}
 use Rattle.rv_trace.specs.Trace.{Setting}
 use Rattle.rv_trace.specs.LawfulTrace.{destination_of, name_of, names_of}

@@ -19,12 +19,7 @@ fn token_kept(come: Option<Token>, slot: Option<Token>) -> Option<Token>
 }
 
 /// The token that goes on from a stage; it reads its operands as it leaves RD.
-fn token_going(
-    shape: Shape,
-    x: &[u32; 32],
-    stage: usize,
-    slot: Option<Token>,
-) -> Option<Token>
+fn token_going(shape: Shape, x: &[u32; 32], stage: usize, slot: Option<Token>) -> Option<Token>
     ensures { result ≡ going shape x.now stage slot }
 {
     let token = slot?;

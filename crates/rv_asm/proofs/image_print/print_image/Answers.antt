@@ -1,6 +1,6 @@
 use Rattle.std.proofs.Common.{◌≡◌, ◌∙◌, ap, subst, arith, take}
 use Rattle.std.proofs.lemmas.List.{take_all}
-use Rattle.rv_asm.specs.ImageText.{image_text, IsImageText}
+use Rattle.rv_asm.specs.ImageText.{image_text}
 use Rattle.rv_asm.proofs.Printed.{Fit, text_next, fit_next, printed_is_read}
 use Rattle.rv_asm.proofs.image_print.print_image.Goals as goal
 

@@ -1,5 +1,5 @@
-use Rattle.std.proofs.Common.{◌≡◌, ◌∙◌, ◌+◌, Bor, List, [], ℕ, refl, sym, ap, arith, get_or, take, length}
-use Rattle.rv_asm.specs.ImageText.{lines_of, line_of, words_in}
+use Rattle.std.proofs.Common.{◌∙◌, ◌+◌, Bor, List, [], ℕ, refl, sym, arith, get_or}
+use Rattle.rv_asm.specs.ImageText.{lines_of}
 use Rattle.rv_asm.proofs.ImageLemmas.{line_at, number_fits, passed_word, passed_other, line_of_word}
 use Rattle.rv_asm.proofs.image_text.line_of_word.Goals as goal
 use Rattle.rv_asm.proofs.image_text.line_of_word.Goals.{in-Word+else-before-number, in_default}

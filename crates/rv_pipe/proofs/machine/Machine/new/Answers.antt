@@ -1,4 +1,4 @@
-use Rattle.std.proofs.Common.{◌≤◌, List, length, ap, arith}
+use Rattle.std.proofs.Common.{List, ap}
 use Rattle.std.specs.Prelude.{reverse}
 use Rattle.rv_trace.specs.declared.row.Row.{Row}
 use Rattle.rv_pipe.proofs.Sound.{sound_first}
