@@ -37,7 +37,7 @@ pub record IsRunOutput (image : List ℕ) (cycles : ℕ) (text : List ℕ) : Typ
   pub shape : Shape
   pub core : IsShapeOf Three shape
   pub rows : List Row
-  pub headline : Headline (record { image = image; shape = shape }) rows
+  pub headline : Headline image shape rows
   pub few : length rows ≤ cycles
   pub whole : (newest rows).stop ≡ None → length rows ≡ cycles
   pub text_is : text ≡ trace_text 3 0 (reverse rows) ++ state_text (architecture rows)

@@ -19,9 +19,10 @@ use std::alloc::Global;
 fn run_machine<C: Core>(machine: &mut Machine<'_, C>, cycles: u32)
     requires first { machine.old.rows ≡ [] }
     requires spare { machine.old.spare ≡ cycles }
-    requires headline { Headline machine.old.setting machine.old.rows }
-    ensures setting { machine.new.setting ≡ machine.old.setting }
-    ensures headline { Headline machine.new.setting machine.new.rows }
+    requires headline { Headline machine.old.image machine.old.shape machine.old.rows }
+    ensures image { machine.new.image ≡ machine.old.image }
+    ensures shape { machine.new.shape ≡ machine.old.shape }
+    ensures headline { Headline machine.new.image machine.new.shape machine.new.rows }
     ensures few { length machine.new.rows ≤ cycles }
     ensures whole { (newest machine.new.rows).stop ≡ None → length machine.new.rows ≡ cycles }
 {

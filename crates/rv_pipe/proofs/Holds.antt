@@ -13,7 +13,7 @@ use Rattle.rv_seq.specs.declared.commit.Stop.{Stop}
 use Rattle.rv_pipe.specs.declared.stages.Token.{Token}
 use Rattle.rv_seq.specs.Instructions.{instruction_of}
 use Rattle.rv_seq.specs.SequentialRun.{run, step, answer_to}
-use Rattle.rv_trace.specs.Trace.{Setting, stages_of, Stands, has_serial, is_flushed, is_retired, place, retirements}
+use Rattle.rv_trace.specs.Trace.{Setting, Course, stages_of, Stands, has_serial, is_flushed, is_retired, place, retirements}
 use Rattle.rv_trace.specs.LawfulTrace.{destination_of, reads_of, IsWordOf, IsOlder, IsDueToStop, WaitsForOperand, WaitsToDrain, OwnHold, StopsRun, WaitsBehind, TrueHold, ComesFirst, ShowsHold}
 use Rattle.rv_pipe.specs.PlainMachine.{Slots, or_else, writer, operand, waits_for, operand_hold, stop_of, drain, staying, own_hold, stops_now, is_blocked, shown, cells_of}
 use Rattle.rv_pipe.specs.Placed.{one_more, count, Placed, IsShape}
@@ -414,11 +414,11 @@ module _ (k : Setting) (shape : IsShape k) (earlier : List Row) (row : Row) (see
 
   -- due to stop at EX
 
-  pub at_ex : stage ≡ k.shape.ex → step k.image (run k.image (place (row ∷ earlier) t.cell.serial)) ≡ answer_to (run k.image (retirements earlier + count older)) t.cell.word (instruction_of t.cell.word)
+  pub at_ex : stage ≡ k.shape.ex → k.course.answer (place (row ∷ earlier) t.cell.serial) ≡ answer_to (run k.image (retirements earlier + count older)) t.cell.word (instruction_of t.cell.word)
   at_ex e =
       let p = place_is (row ∷ earlier) t.cell.serial told.unflushed ∙ placed.0.serial in
       let path = on_path k shape (retirements earlier) (suc stage) older placed.1 (omega (arith, e)) told.pc in
-      ap (λ n. step k.image (run k.image n)) p ∙ step_word k.image (run k.image (retirements earlier + count older)) (retirements earlier + count older) t.cell.word path placed.0.word
+      ap (λ (c : Course). c.answer (place (row ∷ earlier) t.cell.serial)) shape.course ∙ ap (λ n. step k.image (run k.image n)) p ∙ step_word k.image (run k.image (retirements earlier + count older)) (retirements earlier + count older) t.cell.word path placed.0.word
 
   due_word : (stop : Stop) → stage ≡ k.shape.ex → IsDueToStop k (row ∷ earlier) t.cell stop → stop_of t.instruction ≡ Some stop
   due_word stop e d = ap stop_of placed.0.decoded ∙ stopped_as (run k.image (retirements earlier + count older)) t.cell.word (instruction_of t.cell.word) stop (sym (at_ex e) ∙ d)

@@ -14,8 +14,8 @@ use Rattle.rv_seq.specs.declared.commit.Stop.TheVariants.{Fetch}
 use Rattle.rv_pipe.specs.declared.stages.Token.{Token}
 use Rattle.rv_seq.specs.Instructions.{instruction_of}
 use Rattle.rv_seq.specs.SequentialRun.{word_at, run, step, after, applied, commit_of, answer_at, Done, Stopped}
-use Rattle.rv_trace.specs.Trace.{Setting, stages_of, Stands, has_serial, is_flushed, is_retired, retirements, architecture, with_retired, newest, rows_without}
-use Rattle.rv_trace.specs.LawfulTrace.{name_of, names_of, leaves, front, fetch_address, next_serial, plain_fetch, Moves, MovesInto, Retires, IsWordOf, StopsRun, Settles, successor, IsNextYounger, HasNoYounger, IsMismatch, Successors, IsEmptyAfter, StopsRightly, LawfulRow}
+use Rattle.rv_trace.specs.Trace.{Setting, Course, place, stages_of, Stands, has_serial, is_flushed, is_retired, retirements, architecture, with_retired, newest, rows_without}
+use Rattle.rv_trace.specs.LawfulTrace.{AreEmpty, AscendFrom, IsInForm, name_of, names_of, leaves, front, fetch_address, next_serial, plain_fetch, Moves, MovesInto, Retires, IsWordOf, StopsRun, Settles, successor, IsNextYounger, HasNoYounger, IsMismatch, Successors, IsEmptyAfter, StopsRightly, LawfulRow}
 use Rattle.rv_trace.specs.Headline.{AgreesWithRun}
 use Rattle.rv_pipe.specs.PlainMachine.{Machine, Slots, or_else, stop_of, value_of, own_hold, stops_now, staying, drain, fill_first, next_after, gone, going, advanced, leaving, commit_for, with_serial, retired_of, slot_stop, remains, fetch_after, first_slot, cell_of, cells_of, seen_by, arch_after, IsRowOf, machine_after}
 use Rattle.rv_pipe.specs.Placed.{one_more, count, tail, to_go, rank, IsPlaced, IsPlacedSlot, Placed, IsShape, Inv}
@@ -263,10 +263,10 @@ module _ (k : Setting) (shape : IsShape k) (earlier : List Row) (m : Machine) (r
       let none : at.token.cell.hold ≡ None = ap (λ (d : Cell). d.hold) at.is ∙ not_held c settles.leaves in
       let stops : stops_now k.shape stage at.token.instruction at.older ≡ false = free at in
       let own = own_none k stage at.token.instruction at.older at.token.cell.hold at.decided.0 (ap (λ o. is_some o) none) stops in
-      let word = sym (ap stop_of at.placed.0.decoded) ∙ not_due k stage at.token.instruction at.older own stops settles.executing in
+      let word = sym (ap stop_of at.placed.0.decoded) ∙ not_due k stage at.token.instruction at.older own stops settles.settling in
       let p = place_is (row ∷ earlier) c.serial unflushed_now ∙ serial_place stage c s in
-      let path = path_to stage at.older at.placed.1 settles.executing in
-      ap (λ n. (run k.image (suc n)).pc) p ∙ (goes_on k.image (retirements earlier + count at.older) at.token.cell.word shape.few_words path at.placed.0.word word).pc where
+      let path = path_to stage at.older at.placed.1 settles.settling in
+      ap (λ (x : Course). x.pc (suc (place (row ∷ earlier) c.serial))) shape.course ∙ ap (λ n. (run k.image (suc n)).pc) p ∙ (goes_on k.image (retirements earlier + count at.older) at.token.cell.word shape.few_words path at.placed.0.word word).pc where
         path_to : (stage : ℕ) (older : Slots) → Placed k (retirements earlier) (suc stage) older → stage ≡ k.shape.ex → (run k.image (retirements earlier + count older)).pc ≡ 4 * (retirements earlier + count older)
         path_to stage older h e = on_path k shape (retirements earlier) (suc stage) older h (omega (arith, e)) inv.pc
 
@@ -320,7 +320,7 @@ module _ (k : Setting) (shape : IsShape k) (earlier : List Row) (m : Machine) (r
   -- with no younger cell the plain fetch address is the successor
   alone_address : (stage : ℕ) (c : Cell) (s : Stands k row stage c) → Settles k earlier row stage c → HasNoYounger k row stage → successor k (row ∷ earlier) c ≡ plain_fetch k (fetch_address k earlier) row
   alone_address stage c s settles alone =
-      let ex = settles.executing in
+      let ex = settles.settling in
       let a = shape.rd_pos in
       let b = shape.rd_ex in
       let all = no_between 0 stage (λ j e le lt stands. alone j e (omega (arith, lt)) stands) in
@@ -425,8 +425,22 @@ module _ (k : Setting) (shape : IsShape k) (earlier : List Row) (m : Machine) (r
             let last = shape.ex_last in
             elim (f x.index x.token.cell y.0) [ inl z ↦ cc (flushes_none x.token.cell.serial, z) | inr z ↦ absurd (omega (arith, ex, last, z.0)) ]
 
+  empty_drop : (n m : ℕ) → AreEmpty (drop n (replicate m None))
+  empty_drop zero zero = tt
+  empty_drop zero (suc m) = empty_drop zero m
+  empty_drop (suc n) zero = tt
+  empty_drop (suc n) (suc m) = empty_drop n m
+
+  row_form : IsInForm k row
+  row_form =
+      record {
+        behind = subst AreEmpty (sym is.behind) (empty_drop k.shape.stages 5);
+        ascending = subst (λ l. AscendFrom None l) (sym is.flushed) tt;
+      }
+
   pub lawful : LawfulRow k earlier row
   lawful = record {
+    form = row_form;
     moves = row_moves;
     retires = row_retires;
     holds = λ stage c stands. shows k shape earlier row (seen_by k m) told stage c stands;
@@ -501,7 +515,7 @@ module _ (k : Setting) (shape : IsShape k) (earlier : List Row) (m : Machine) (r
         let y = stopper_stops stop x in
         let at = cell_at x.index x.token.cell y.0 in
         let p = place_is (row ∷ earlier) x.token.cell.serial unflushed_now ∙ serial_place x.index x.token.cell y.0 ∙ stop_place stop x at y.1 ∙ sym retired_now in
-        ap (λ n. step k.image (run k.image n)) (sym p) ∙ y.1.due
+        ap (λ n. step k.image (run k.image n)) (sym p) ∙ sym (ap (λ (c : Course). c.answer (place (row ∷ earlier) x.token.cell.serial)) shape.course) ∙ y.1.due
     why None q e =
         let f = fetch_case (remains (seen_by k m)) (word_at k.image (fetch_after m.fetch (seen_by k m))) stop e in
         let all = remains_count (seen_by k m) f.0 in

@@ -7,10 +7,10 @@ use Rattle.rv_core.specs.declared.Shape.{Shape}
 use Rattle.rv_trace.specs.declared.row.Row.{Row}
 use Rattle.rv_pipe.specs.declared.stages.Kept.{Kept}
 use Rattle.rv_seq.specs.SequentialRun.{run}
-use Rattle.rv_trace.specs.Trace.{Setting, newest, blank, is_flushed, is_retired, retirements, architecture, rows_without}
+use Rattle.rv_trace.specs.Trace.{Setting, setting, newest, blank, is_flushed, is_retired, retirements, architecture, rows_without}
 use Rattle.rv_trace.specs.LawfulTrace.{MovesInto, names_of, fetch_address, next_serial}
 use Rattle.rv_trace.specs.Headline.{Headline, progress_bound}
-use Rattle.rv_pipe.specs.PlainMachine.{Machine, Slots, setting, machine_of, first_kept, cells_of, IsRowOf, machine_after, arch_after}
+use Rattle.rv_pipe.specs.PlainMachine.{Machine, Slots, machine_of, first_kept, cells_of, IsRowOf, machine_after, arch_after}
 use Rattle.rv_pipe.specs.Placed.{count, tail, to_go, rank, first_of_two, Placed, IsShape, Inv, IsSound}
 use Rattle.rv_pipe.proofs.Rows.{lawful, agrees, goes_next, architecture_now, state_now}
 
@@ -18,7 +18,7 @@ pub the_shape : (shape : Shape) (image : List ℕ) → length image ≤ 65536 �
 the_shape shape image few =
     let a = shape.lawful.memory_late in
     let b = shape.lawful.memory_inside in
-    record { rd_pos = shape.lawful.reads_late; rd_ex = shape.lawful.reads_first; ex_last = omega (arith, a, b); few_words = few }
+    record { course = refl; rd_pos = shape.lawful.reads_late; rd_ex = shape.lawful.reads_first; ex_last = omega (arith, a, b); few_words = few }
 
 abbrev nothing : ℕ → ℕ → Slots
 nothing n m = take n (replicate m None)
@@ -110,7 +110,7 @@ module _ (shape : Shape) (image : List ℕ) (kept kept' : Kept) (rows : List Row
         by_case true p s = omega arith
         by_case false p s = omega (arith, p, s)
 
-  pub headline_after : Headline (setting image shape) (row ∷ rows)
+  pub headline_after : Headline image shape (row ∷ rows)
   headline_after = record {
     lawful = (lawful (setting image shape) shaped rows (machine_of shape kept) row inv is, going, sound.headline.lawful);
     agrees = (agrees (setting image shape) shaped rows (machine_of shape kept) row inv is, sound.headline.agrees);

@@ -21,7 +21,7 @@ use Rattle.rv_trace.specs.LawfulTrace.{Name, WaitsBehind, StopsRun, fetch_addres
 use Rattle.rv_trace.specs.Headline.{Headline}
 use Rattle.rv_pipe.specs.PlainMachine.{Machine, first_kept, IsRowOf, machine_after}
 use Rattle.rv_pipe.specs.Placed.{IsShape, Inv}
-use Rattle.rv_pipe.specs.Worked.{cell, writes, worked_image, worked, worked_rows, row_0, row_1, row_2, row_3, row_4, row_5, untrue_hold, later_hold, skipped_word, wrong_value, wrong_stop, IsRefused}
+use Rattle.rv_pipe.specs.Worked.{cell, writes, worked_image, three, worked, worked_rows, row_0, row_1, row_2, row_3, row_4, row_5, untrue_hold, later_hold, skipped_word, wrong_value, wrong_stop, IsRefused}
 use Rattle.rv_pipe.proofs.Rows.{lawful, agrees, goes_next}
 use Rattle.rv_pipe.proofs.Sound.{the_shape, sound_first}
 
@@ -44,7 +44,7 @@ inv_0 = (sound_first shape worked_image few).going refl
 
 is_0 : IsRowOf worked machine_0 row_0
 unfolding instruction_of decoded row_of base_patterns fields_of format_of base_formats
-is_0 = record { cells = refl; retired = refl; written = refl; flushed = refl; redirect = refl; stop = refl }
+is_0 = record { cells = refl; behind = refl; retired = refl; written = refl; flushed = refl; redirect = refl; stop = refl }
 
 abbrev machine_1 : Machine
 machine_1 = machine_after worked machine_0
@@ -54,7 +54,7 @@ inv_1 = goes_next worked shaped ([]) machine_0 row_0 inv_0 is_0 refl
 
 is_1 : IsRowOf worked machine_1 row_1
 unfolding instruction_of decoded row_of base_patterns fields_of format_of base_formats
-is_1 = record { cells = refl; retired = refl; written = refl; flushed = refl; redirect = refl; stop = refl }
+is_1 = record { cells = refl; behind = refl; retired = refl; written = refl; flushed = refl; redirect = refl; stop = refl }
 
 abbrev machine_2 : Machine
 machine_2 = machine_after worked machine_1
@@ -64,7 +64,7 @@ inv_2 = goes_next worked shaped (row_0 ∷ []) machine_1 row_1 inv_1 is_1 refl
 
 is_2 : IsRowOf worked machine_2 row_2
 unfolding instruction_of decoded row_of base_patterns fields_of format_of base_formats
-is_2 = record { cells = refl; retired = refl; written = refl; flushed = refl; redirect = refl; stop = refl }
+is_2 = record { cells = refl; behind = refl; retired = refl; written = refl; flushed = refl; redirect = refl; stop = refl }
 
 abbrev machine_3 : Machine
 machine_3 = machine_after worked machine_2
@@ -74,7 +74,7 @@ inv_3 = goes_next worked shaped (row_1 ∷ row_0 ∷ []) machine_2 row_2 inv_2 i
 
 is_3 : IsRowOf worked machine_3 row_3
 unfolding instruction_of decoded row_of base_patterns fields_of format_of base_formats
-is_3 = record { cells = refl; retired = refl; written = refl; flushed = refl; redirect = refl; stop = refl }
+is_3 = record { cells = refl; behind = refl; retired = refl; written = refl; flushed = refl; redirect = refl; stop = refl }
 
 abbrev machine_4 : Machine
 machine_4 = machine_after worked machine_3
@@ -84,7 +84,7 @@ inv_4 = goes_next worked shaped (row_2 ∷ row_1 ∷ row_0 ∷ []) machine_3 row
 
 is_4 : IsRowOf worked machine_4 row_4
 unfolding instruction_of decoded row_of base_patterns fields_of format_of base_formats
-is_4 = record { cells = refl; retired = refl; written = refl; flushed = refl; redirect = refl; stop = refl }
+is_4 = record { cells = refl; behind = refl; retired = refl; written = refl; flushed = refl; redirect = refl; stop = refl }
 
 abbrev machine_5 : Machine
 machine_5 = machine_after worked machine_4
@@ -94,9 +94,9 @@ inv_5 = goes_next worked shaped (row_3 ∷ row_2 ∷ row_1 ∷ row_0 ∷ []) mac
 
 is_5 : IsRowOf worked machine_5 row_5
 unfolding instruction_of decoded row_of base_patterns fields_of format_of base_formats
-is_5 = record { cells = refl; retired = refl; written = refl; flushed = refl; redirect = refl; stop = refl }
+is_5 = record { cells = refl; behind = refl; retired = refl; written = refl; flushed = refl; redirect = refl; stop = refl }
 
-pub worked_holds : Headline worked worked_rows
+pub worked_holds : Headline worked_image three worked_rows
 unfolding rows_without
 worked_holds = record {
   lawful = (lawful worked shaped (row_4 ∷ row_3 ∷ row_2 ∷ row_1 ∷ row_0 ∷ []) machine_5 row_5 inv_5 is_5, refl, (lawful worked shaped (row_3 ∷ row_2 ∷ row_1 ∷ row_0 ∷ []) machine_4 row_4 inv_4 is_4, refl, (lawful worked shaped (row_2 ∷ row_1 ∷ row_0 ∷ []) machine_3 row_3 inv_3 is_3, refl, (lawful worked shaped (row_1 ∷ row_0 ∷ []) machine_2 row_2 inv_2 is_2, refl, (lawful worked shaped (row_0 ∷ []) machine_1 row_1 inv_1 is_1, refl, (lawful worked shaped ([]) machine_0 row_0 inv_0 is_0, refl, tt))))));

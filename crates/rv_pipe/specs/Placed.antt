@@ -7,10 +7,10 @@ use Rattle.rv_pipe.specs.declared.stages.Token.{Token}
 use Rattle.rv_pipe.specs.declared.stages.Kept.{Kept}
 use Rattle.rv_seq.specs.Instructions.{instruction_of}
 use Rattle.rv_seq.specs.SequentialRun.{run}
-use Rattle.rv_trace.specs.Trace.{Setting, stages_of, newest, is_flushed, is_retired, retirements, architecture, rows_without}
+use Rattle.rv_trace.specs.Trace.{Setting, course_of, setting, stages_of, newest, is_flushed, is_retired, retirements, architecture, rows_without}
 use Rattle.rv_trace.specs.LawfulTrace.{MovesInto, names_of, fetch_address, next_serial, IsWordOf}
 use Rattle.rv_trace.specs.Headline.{Headline}
-use Rattle.rv_pipe.specs.PlainMachine.{Machine, Slots, cells_of, stop_of, value_of, setting, machine_of}
+use Rattle.rv_pipe.specs.PlainMachine.{Machine, Slots, cells_of, stop_of, value_of, machine_of}
 
 abbrev pub one_more : Option Token → ℕ → ℕ
 one_more None n = n
@@ -44,8 +44,9 @@ abbrev pub tail : Slots → Slots
 tail [] = []
 tail (s ∷ older) = older
 
--- the numbers of a core with an image that fits
+-- the numbers of a core, with an image that fits and its run
 pub record IsShape (k : Setting) : Type 0 where
+  pub course : k.course ≡ course_of k.image
   pub rd_pos : 0 < k.shape.rd
   pub rd_ex : k.shape.rd ≤ k.shape.ex
   pub ex_last : k.shape.ex + 1 < k.shape.stages
@@ -89,6 +90,6 @@ pub record Inv (k : Setting) (earlier : List Row) (m : Machine) : Type 0 where
 -- a machine over these rows, newest first
 pub record IsSound (shape : Shape) (image : List ℕ) (kept : Kept) (rows : List Row) : Type 0 where
   pub few_words : length image ≤ 65536
-  pub headline : Headline (setting image shape) rows
+  pub headline : Headline image shape rows
   pub going : (newest rows).stop ≡ None → Inv (setting image shape) rows (machine_of shape kept)
   pub state : architecture rows ≡ kept.arch

@@ -1,5 +1,5 @@
 -- The machine over lists: what it keeps between rows, the row that it makes, and what it keeps then. A slot's older ones are those of the later stages.
-use Rattle.std.specs.Prelude.{◌≡◌, ℕ, suc, ◌+◌, ◌%◌, ◌^◌, List, [], ◌∷◌, map, Option, Some, None, Bool, true, false, ◌&&◌, ◌||◌, if◌then◌else◌, ◌==◌, is_some, is_none, replicate, take, min, max}
+use Rattle.std.specs.Prelude.{◌≡◌, ℕ, suc, ◌+◌, ◌%◌, ◌^◌, List, [], ◌∷◌, map, Option, Some, None, Bool, true, false, ◌&&◌, ◌||◌, if◌then◌else◌, ◌==◌, is_some, is_none, replicate, take, drop, min, max}
 use Rattle.rv_core.specs.declared.Shape.{Shape}
 use Rattle.rv_trace.specs.declared.row.Cell.{Cell}
 use Rattle.rv_trace.specs.declared.row.Row.{Row}
@@ -17,9 +17,6 @@ use Rattle.rv_seq.specs.Instructions.{instruction_of}
 use Rattle.rv_seq.specs.SequentialRun.{word_at, result_of, commit_of, applied, first}
 use Rattle.rv_trace.specs.Trace.{Setting, stages_of}
 use Rattle.rv_trace.specs.LawfulTrace.{destination_of}
-
-abbrev pub setting : List ℕ → Shape → Setting
-setting image shape = record { image = image; shape = shape }
 
 abbrev pub Slots : Type 0
 Slots = List (Option Token)
@@ -219,6 +216,7 @@ arch_after s (Some (serial, c)) = applied c s
 -- the row that the machine makes
 pub record IsRowOf (k : Setting) (m : Machine) (row : Row) : Type 0 where
   pub cells : stages_of k row ≡ cells_of (seen_by k m)
+  pub behind : drop k.shape.stages row.cells ≡ drop k.shape.stages (replicate 5 None)
   pub retired : row.retired ≡ retired_of (leaving k.shape m.arch.x 0 None (seen_by k m))
   pub written : row.written ≡ None
   pub flushed : row.flushed ≡ replicate 5 None

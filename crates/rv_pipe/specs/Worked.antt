@@ -8,16 +8,20 @@ use Rattle.rv_seq.specs.declared.commit.Slot.TheVariants.{Absent, Now}
 use Rattle.rv_seq.specs.declared.commit.Commit.{Commit}
 use Rattle.rv_seq.specs.declared.commit.Stop.{Stop}
 use Rattle.rv_seq.specs.declared.commit.Stop.TheVariants.{Ebreak}
+use Rattle.rv_core.specs.declared.Shape.{Shape}
 use Rattle.rv_core.specs.Stages.{three_lawful}
-use Rattle.rv_trace.specs.Trace.{Setting}
+use Rattle.rv_trace.specs.Trace.{Setting, setting}
 use Rattle.rv_trace.specs.Headline.{Headline}
 
 -- addi x1, x0, 5 (00500093); addi x2, x0, 7 (00700113); add x3, x1, x2 (002081b3); ebreak (00100073)
 abbrev pub worked_image : List ℕ
 worked_image = 5243027 ∷ 7340307 ∷ 2130355 ∷ 1048691 ∷ []
 
+abbrev pub three : Shape
+three = record { stages = 3; rd = 1; ex = 1; mem = 2; lawful = three_lawful }
+
 abbrev pub worked : Setting
-worked = record { image = worked_image; shape = record { stages = 3; rd = 1; ex = 1; mem = 2; lawful = three_lawful } }
+worked = setting worked_image three
 
 abbrev pub cell : ℕ → ℕ → ℕ → Option Hold → Cell
 cell serial at word hold = record { serial = serial; at = at; word = word; hold = hold }
@@ -75,7 +79,7 @@ worked_rows = row_5 ∷ row_4 ∷ row_3 ∷ row_2 ∷ row_1 ∷ row_0 ∷ []
 
 -- the headline does not hold of these rows
 abbrev pub IsRefused : List Row → Type 0
-IsRefused rows = Headline worked rows → ⊥
+IsRefused rows = Headline worked_image three rows → ⊥
 
 -- a hold that is not true: the break waits in stage 0, and says that it waits to stop
 abbrev pub untrue_hold : List Row

@@ -1,7 +1,8 @@
-ghost use Rattle.std.specs.Prelude.{◌≡◌, ◌+◌, ◌<◌, ◌≤◌, ◌^◌, length, take, is_some, Some, ◌||◌, if◌then◌else◌, None};
+ghost use Rattle.std.specs.Prelude.{◌≡◌, ◌+◌, ◌<◌, ◌≤◌, ◌^◌, length, take, drop, replicate, is_some, Some, ◌||◌, if◌then◌else◌, None};
 ghost use Rattle.rv_seq.specs.declared.commit.Stop.TheVariants.{Fetch};
 ghost use Rattle.rv_seq.specs.SequentialRun.{word_at as specified_word_at};
-ghost use Rattle.rv_pipe.specs.PlainMachine.{setting, machine_of, or_else, kept as specified_kept, going, advanced, leaving, fill_first as specified_fill_first, next_after, retired_of, slot_stop, remains, fetch_after, first_slot, cell_of, cells_of, arch_after, IsRowOf, machine_after};
+ghost use Rattle.rv_trace.specs.Trace.{setting};
+ghost use Rattle.rv_pipe.specs.PlainMachine.{machine_of, or_else, kept as specified_kept, going, advanced, leaving, fill_first as specified_fill_first, next_after, retired_of, slot_stop, remains, fetch_after, first_slot, cell_of, cells_of, arch_after, IsRowOf, machine_after};
 
 use crate::decide::{decide, does_stop, stop_of};
 use crate::stages::{Kept, Token};
@@ -113,7 +114,8 @@ fn cell_in(slot: Option<Token>) -> Option<Cell>
 
 fn cells_in(slots: &[Option<Token>]) -> [Option<Cell>; 5]
     requires { length slots.now ≤ 5 }
-    ensures { take (length slots.now) result ≡ cells_of slots.now }
+    ensures cells { take (length slots.now) result ≡ cells_of slots.now }
+    ensures behind { drop (length slots.now) result ≡ drop (length slots.now) (replicate 5 None) }
 {
     let mut cells = [None; 5];
     for stage in 0..slots.len() {

@@ -26,13 +26,12 @@ pub struct Machine<'a, C: Core> {
 
 impl<'a, C: Core> Model for Machine<'a, C> {
     ghost use Rattle.std.specs.Prelude.{reverse};
-    ghost use Rattle.rv_pipe.specs.PlainMachine.{setting};
     ghost use Rattle.rv_pipe.specs.Running.{Running};
     ghost use Rattle.rv_pipe.specs.Placed.{IsSound};
 
     ghost Value = { Running };
 
-    ghost view = { λ m. record { setting = setting m.words.now m.shape; rows = reverse m.trace.rows; spare = m.trace.spare } };
+    ghost view = { λ m. record { image = m.words.now; shape = m.shape; rows = reverse m.trace.rows; spare = m.trace.spare } };
 
     ghost invariant = { λ m. IsSound m.shape m.words.now m.kept (reverse m.trace.rows) };
 }
@@ -51,11 +50,11 @@ fn first_kept() -> Kept
 impl<'a, C: Core> Machine<'a, C> {
     /// A machine before its first row, with room for so many rows.
     pub fn new(alloc: Global, image: &'a Image, cycles: u32) -> Result<Machine<'a, C>, Memory>
-        ensures image { IfOk result (λ m. m.setting.image ≡ image.now) }
-        ensures core { IfOk result (λ m. HasNumbers m.setting.shape C.STAGES C.RD C.EX C.MEM) }
+        ensures image { IfOk result (λ m. m.image ≡ image.now) }
+        ensures core { IfOk result (λ m. HasNumbers m.shape C.STAGES C.RD C.EX C.MEM) }
         ensures rows { IfOk result (λ m. m.rows ≡ []) }
         ensures spare { IfOk result (λ m. m.spare ≡ cycles) }
-        ensures headline { IfOk result (λ m. Headline m.setting m.rows) }
+        ensures headline { IfOk result (λ m. Headline m.image m.shape m.rows) }
     {
         let trace = Trace::new(alloc, cycles)?;
         Ok(Machine {
@@ -72,11 +71,12 @@ impl<'a, C: Core> Machine<'a, C> {
         requires going { (newest self.old.rows).stop ≡ None }
         requires spare { 0 < self.old.spare }
         ensures rows { self.new.rows ≡ result ∷ self.old.rows }
-        ensures setting { self.new.setting ≡ self.old.setting }
+        ensures image { self.new.image ≡ self.old.image }
+        ensures shape { self.new.shape ≡ self.old.shape }
         ensures spare { self.new.spare + 1 ≡ self.old.spare }
 
         // The rows are lawful, what they retire is a prefix of the sequential run, and they go on.
-        ensures headline { Headline self.new.setting self.new.rows }
+        ensures headline { Headline self.new.image self.new.shape self.new.rows }
     {
         let row = make_row(self.words, self.shape, &mut self.kept);
         self.trace.push(row);

@@ -1,10 +1,11 @@
 -- What a trace shows is the sequential run, and it goes on (this project's choice).
 use Rattle.std.specs.Prelude.{◌≡◌, ℕ, ◌+◌, ◌≤◌, List, [], ◌∷◌, Some}
+use Rattle.rv_core.specs.declared.Shape.{Shape}
 use Rattle.rv_trace.specs.declared.row.Row.{Row}
 use Rattle.rv_seq.specs.declared.commit.Commit.{Commit}
 use Rattle.rv_seq.specs.declared.commit.Stop.{Stop}
 use Rattle.rv_seq.specs.SequentialRun.{step, run, Done, Stopped}
-use Rattle.rv_trace.specs.Trace.{Setting, place, retirements, architecture, rows_without}
+use Rattle.rv_trace.specs.Trace.{Setting, setting, place, retirements, architecture, rows_without}
 use Rattle.rv_trace.specs.LawfulTrace.{Lawful}
 
 -- what the row retires is the next record of the run, and the state and the stop are the run's
@@ -28,9 +29,9 @@ abbrev pub Progressing : ℕ → List Row → Type 0
 Progressing bound [] = Unit {0}
 Progressing bound (row ∷ earlier) = (rows_without (row ∷ earlier) ≤ bound) × Progressing bound earlier
 
--- the headline: the rows, the newest first, are lawful, what they retire is a prefix of the sequential run with its states and its stop,
--- and they go on; this image's core has no custom register and its memory never waits
-pub record Headline (k : Setting) (rows : List Row) : Type 0 where
-  pub lawful : Lawful k rows
-  pub agrees : Agreeing k rows
-  pub progress : Progressing (progress_bound k.shape.stages 0 0) rows
+-- the headline: the rows of an image on a core, the newest first, are lawful, what they retire is a prefix of the image's run with its states and its stop,
+-- and they go on; this core has no custom register and its memory never waits
+pub record Headline (image : List ℕ) (shape : Shape) (rows : List Row) : Type 0 where
+  pub lawful : Lawful (setting image shape) rows
+  pub agrees : Agreeing (setting image shape) rows
+  pub progress : Progressing (progress_bound shape.stages 0 0) rows

@@ -1,5 +1,5 @@
 -- Which rows are lawful after the earlier ones (this project's choice). `row` is the row that is judged, `earlier` are those before it.
-use Rattle.std.specs.Prelude.{◌≡◌, ◌≢◌, ℕ, suc, ◌+◌, ◌%◌, ◌^◌, ◌<◌, ◌≤◌, List, [], ◌∷◌, map, Option, Some, None, Bool, true, false, ◌&&◌, ◌||◌, not, if◌then◌else◌, ◌==◌, is_some, ◌⊎◌}
+use Rattle.std.specs.Prelude.{◌≡◌, ◌≢◌, ℕ, suc, drop, ◌+◌, ◌%◌, ◌^◌, ◌<◌, ◌≤◌, List, [], ◌∷◌, map, Option, Some, None, Bool, true, false, ◌&&◌, ◌||◌, not, if◌then◌else◌, ◌==◌, is_some, ◌⊎◌}
 use Rattle.rv_trace.specs.declared.row.Cell.{Cell}
 use Rattle.rv_trace.specs.declared.row.Row.{Row}
 use Rattle.rv_trace.specs.declared.row.Target.{Target}
@@ -11,7 +11,7 @@ use Rattle.rv_seq.specs.declared.instruction.Instruction.{Instruction}
 use Rattle.rv_seq.specs.declared.commit.Stop.{Stop}
 use Rattle.rv_seq.specs.declared.commit.Stop.TheVariants.{Fetch}
 use Rattle.rv_seq.specs.Instructions.{instruction_of}
-use Rattle.rv_seq.specs.SequentialRun.{word_at, destination, does_read, step, run, Stopped}
+use Rattle.rv_seq.specs.SequentialRun.{word_at, destination, does_read, Stopped}
 use Rattle.rv_trace.specs.Trace.{Setting, stages_of, Stands, has_serial, is_flushed, is_retired, place, newest}
 
 -- Moves and fetch
@@ -127,7 +127,7 @@ pub record IsOlder (rows : List Row) (s j : ℕ) : Type 0 where
 
 -- the cell is due to stop: the step at its place in the run is this stop
 abbrev pub IsDueToStop : Setting → List Row → Cell → Stop → Type 0
-IsDueToStop k rows c stop = step k.image (run k.image (place rows c.serial)) ≡ Stopped stop
+IsDueToStop k rows c stop = k.course.answer (place rows c.serial) ≡ Stopped stop
 
 -- Operand: at RD the cell reads x register r, and an older cell, not retired in an earlier row, has r as target
 pub record WaitsForOperand (k : Setting) (earlier : List Row) (row : Row) (stage : ℕ) (c : Cell) (r j : ℕ) : Type 0 where
@@ -235,15 +235,24 @@ pub record ShowsHold (k : Setting) (earlier : List Row) (row : Row) (stage : ℕ
 
 -- Successors
 
--- the cell settles its successor: it leaves EX
+-- does the instruction write the pc at a time above EX? The pc write of a base row stands at EX
+abbrev pub is_late : Option Instruction → Bool
+is_late i = false
+
+-- the stage from which a cell settles its successor: EX, or the last one where its instruction writes the pc late
+abbrev pub IsSettlingStage : Setting → Bool → ℕ → Type 0
+IsSettlingStage k false stage = stage ≡ k.shape.ex
+IsSettlingStage k true stage = suc stage ≡ k.shape.stages
+
+-- the cell settles its successor: it leaves that stage
 pub record Settles (k : Setting) (earlier : List Row) (row : Row) (stage : ℕ) (c : Cell) : Type 0 where
-  pub executing : stage ≡ k.shape.ex
+  pub settling : IsSettlingStage k (is_late (instruction_of c.word)) stage
   pub leaves : leaves row (Some c) ≡ name_of (Some c)
   pub runs : (stop : Stop) → StopsRun k earlier row stage c stop → ⊥
 
 -- the address that the run takes after the cell
 abbrev pub successor : Setting → List Row → Cell → ℕ
-successor k rows c = (run k.image (suc (place rows c.serial))).pc
+successor k rows c = k.course.pc (suc (place rows c.serial))
 
 -- d is the next younger cell of the one in this stage
 pub record IsNextYounger (k : Setting) (row : Row) (stage below : ℕ) (d : Cell) : Type 0 where
@@ -291,8 +300,29 @@ pub record StopsRightly (k : Setting) (earlier : List Row) (row : Row) : Type 0 
   pub of_cell : (stage : ℕ) (c : Cell) (stop : Stop) → Stands k row stage c → StopsRun k earlier row stage c stop → row.stop ≡ Some stop
   pub of_fetch : IsEmptyAfter k row → word_at k.image (fetch_address k (row ∷ earlier)) ≡ None → row.stop ≡ Some Fetch
 
+-- Forms
+
+-- the cells are empty
+abbrev pub AreEmpty : List (Option Cell) → Type 0
+AreEmpty [] = Unit {0}
+AreEmpty (None ∷ rest) = AreEmpty rest
+AreEmpty (Some c ∷ rest) = ⊥
+
+-- each serial is above this one, where there is one, and above those before it
+abbrev pub AscendFrom : Option ℕ → List (Option ℕ) → Type 0
+AscendFrom last [] = Unit {0}
+AscendFrom last (None ∷ rest) = AscendFrom last rest
+AscendFrom None (Some s ∷ rest) = AscendFrom (Some s) rest
+AscendFrom (Some t) (Some s ∷ rest) = (t < s) × AscendFrom (Some s) rest
+
+-- the row has one form only: nothing stands behind the last stage, and the flushed serials are listed once each, the oldest first
+pub record IsInForm (k : Setting) (row : Row) : Type 0 where
+  pub behind : AreEmpty (drop k.shape.stages row.cells)
+  pub ascending : AscendFrom None row.flushed
+
 -- the row is lawful after the earlier ones; no unit is built, so none writes
 pub record LawfulRow (k : Setting) (earlier : List Row) (row : Row) : Type 0 where
+  pub form : IsInForm k row
   pub moves : Moves k earlier row
   pub retires : (stage : ℕ) → suc stage ≡ k.shape.stages → Retires k row stage
   pub holds : (stage : ℕ) (c : Cell) → Stands k row stage c → ShowsHold k earlier row stage c

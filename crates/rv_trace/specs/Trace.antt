@@ -5,12 +5,26 @@ use Rattle.rv_trace.specs.declared.row.Cell.{Cell}
 use Rattle.rv_trace.specs.declared.row.Row.{Row}
 use Rattle.rv_seq.specs.declared.commit.Commit.{Commit}
 use Rattle.rv_seq.specs.declared.commit.Arch.{Arch}
-use Rattle.rv_seq.specs.SequentialRun.{applied, first}
+use Rattle.rv_seq.specs.SequentialRun.{Answer, step, run, applied, first}
 
--- what a trace is judged against: the image, and the shape of the core
+-- a run as a trace is judged against it: what the step at each place does, and the pc there
+pub record Course : Type 0 where
+  pub answer : ℕ → Answer
+  pub pc : ℕ → ℕ
+
+-- the run of an image
+abbrev pub course_of : List ℕ → Course
+course_of image = record { answer = λ p. step image (run image p); pc = λ p. (run image p).pc }
+
+-- what a trace is judged against: the image, the shape of the core, and the run
 pub record Setting : Type 0 where
   pub image : List ℕ
   pub shape : Shape
+  pub course : Course
+
+-- an image on a core
+abbrev pub setting : List ℕ → Shape → Setting
+setting image shape = record { image = image; shape = shape; course = course_of image }
 
 -- the cells of the core's stages, stage 0 first
 abbrev pub stages_of : Setting → Row → List (Option Cell)
