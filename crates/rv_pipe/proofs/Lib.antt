@@ -8,3 +8,5 @@ pub mod Bound
 pub mod Rows
 pub mod Sound
 pub mod WorkedRun
+pub mod DetourRows
+pub mod OneCell

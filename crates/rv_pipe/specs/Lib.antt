@@ -2,3 +2,5 @@ pub mod PlainMachine
 pub mod Placed
 pub mod Running
 pub mod Worked
+pub mod Detour
+pub mod Settling

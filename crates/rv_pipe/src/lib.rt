@@ -7,5 +7,5 @@ mod laws;
 mod machine;
 mod stages;
 
-pub use laws::worked_run;
+pub use laws::{detour_run, settling_law, worked_run};
 pub use machine::Machine;
