@@ -13,10 +13,12 @@ use Rattle.ix_tool.specs.declared.command.Slot.{Slot}
 use Rattle.ix_tool.specs.declared.command.Slot.TheVariants.{Number, File}
 use Rattle.ix_tool.specs.declared.value.Value.{Value}
 use Rattle.ix_tool.specs.declared.value.Value.TheVariants as value
-use Rattle.ix_tool.specs.ImageText.{IsImageText, AllBuilt}
+use Rattle.rv_asm.specs.ImageText.{IsImageText}
+use Rattle.ix_tool.specs.BuiltImages.{AllBuilt}
 use Rattle.ix_tool.specs.CommandLine.{command_of, slots_of, behind, number_within}
 use Rattle.ix_tool.specs.CommandOutput.{IsRefusedImage, bad_line, unbuilt_line, IsRefusedText, IsReadAs, IsFile, IsRead, AreRead, IsRefusedFile, not_read, too_long, bad_text, IsFirstRefused, IsOwnRefusal, IsAnswer, IsDue, due_usage, due_file, due_answer, NoneRises, NoFileRises}
-use Rattle.ix_tool.proofs.ImageLemmas.{image_not_refused, built_not_refused}
+use Rattle.rv_asm.proofs.ImageLemmas.{image_not_refused}
+use Rattle.ix_tool.proofs.BuiltWords.{built_not_refused}
 
 -- no value is some and none; one value is some of one thing
 pub both : {A : Type 0} (o : Option A) (a : A) → o ≡ Some a → o ≡ None → ⊥

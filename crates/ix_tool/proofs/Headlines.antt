@@ -12,7 +12,8 @@ use Rattle.ix_tool.specs.declared.command.Command.TheVariants.{RunImage, Certify
 use Rattle.ix_tool.specs.declared.command.FileKind.TheVariants.{Image, Report}
 use Rattle.ix_tool.specs.declared.value.Value.{Value}
 use Rattle.ix_tool.specs.declared.value.Value.TheVariants as value
-use Rattle.ix_tool.specs.ImageText.{IsImageText, AllBuilt}
+use Rattle.rv_asm.specs.ImageText.{IsImageText}
+use Rattle.ix_tool.specs.BuiltImages.{AllBuilt}
 use Rattle.ix_tool.specs.CommandLine.{command_of, commands, first_command, is_command, slots_of, fits_slots, behind, number_within, run_of, run_command, report_of}
 use Rattle.ix_tool.specs.CommandOutput.{IsReadAs, IsFile, AreRead, IsOutput, Takes, OutputAnswer, RunAnswer, CertifiedAnswer, image_of_run, told_of}
 use Rattle.ix_tool.proofs.Due.{both, one}

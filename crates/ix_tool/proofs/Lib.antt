@@ -1,13 +1,4 @@
-pub mod Runs
-pub mod Tokens
-pub mod Holds
-pub mod Moving
-pub mod Filling
-pub mod Stopping
-pub mod Bound
-pub mod Rows
-pub mod Sound
-pub mod Results
+pub mod BuiltWords
 pub mod Words
 pub mod Judging
 pub mod Reading
@@ -15,8 +6,5 @@ pub mod Due
 pub mod Outcomes
 pub mod Clauses
 pub mod Headlines
-pub mod ImageLemmas
-pub mod Texts
 pub mod Writing
 pub mod RunOutputs
-pub mod WorkedRun

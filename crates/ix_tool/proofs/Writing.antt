@@ -5,8 +5,8 @@ use Rattle.std.proofs.lemmas.List.{append-nil, length-take}
 use Rattle.std.proofs.lemmas.Option.{slice_get_within}
 use Rattle.ix_io.specs.Sink.{Appends, AppendsFront}
 use Rattle.ix_io.proofs.Appended.{Appends_none, Appends_more, AppendsFront_behind, AppendsFront_of_more}
-use Rattle.ix_tool.specs.declared.trace.Row.{Row}
-use Rattle.ix_tool.specs.TraceText.{row_text, trace_text}
+use Rattle.rv_trace.specs.declared.row.Row.{Row}
+use Rattle.rv_trace.specs.TraceText.{row_text, trace_text}
 use Rattle.ix_tool.specs.CommandOutput.{Sends}
 
 -- nothing was sent yet

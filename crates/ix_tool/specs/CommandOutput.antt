@@ -1,6 +1,6 @@
 -- What a command answers and writes, from its words and the bytes of its files (this project's choice).
 use Rattle.std.specs.Prelude.{◌≡◌, ◌≢◌, IfSome, ℕ, ◌<◌, ◌≤◌, List, [], ◌∷◌, ◌++◌, length, reverse, Option, Some, None, codes, decimal, ◌⊎◌, string_bytes, Result, Ok, Err}
-use Rattle.ix_tool.specs.declared.trace.Row.{Row}
+use Rattle.rv_trace.specs.declared.row.Row.{Row}
 use Rattle.ix_tool.specs.declared.status.Status.{Status}
 use Rattle.ix_tool.specs.declared.status.Status.TheVariants.{Ok as ok_status, Usage, ReadFault, WriteFault, TooLong, Extension, Sheet, Image as image_status, NoSchedule, Certificate, Memory, Source, Waits}
 use Rattle.ix_tool.specs.declared.command.Command.{Command}
@@ -13,10 +13,14 @@ use Rattle.ix_tool.specs.declared.value.Value.{Value}
 use Rattle.ix_tool.specs.declared.value.Value.TheVariants as value
 use Rattle.ix_tool.specs.declared.value.Refusal.{Refusal}
 use Rattle.ix_tool.specs.declared.value.Refusal.TheVariants as refusal
-use Rattle.ix_tool.specs.Trace.{Setting, newest, architecture}
-use Rattle.ix_tool.specs.Headline.{Headline}
-use Rattle.ix_tool.specs.TraceText.{trace_text, state_text}
-use Rattle.ix_tool.specs.ImageText.{IsImageText, IsBadLine, AllBuilt, IsUnbuiltLine}
+use Rattle.rv_core.specs.declared.Shape.{Shape}
+use Rattle.rv_core.specs.declared.cores.CoreKind.TheVariants.{Three}
+use Rattle.rv_core.specs.Kinds.{IsShapeOf}
+use Rattle.rv_trace.specs.Trace.{newest, architecture}
+use Rattle.rv_trace.specs.Headline.{Headline}
+use Rattle.rv_trace.specs.TraceText.{trace_text, state_text}
+use Rattle.rv_asm.specs.ImageText.{IsImageText, IsBadLine}
+use Rattle.ix_tool.specs.BuiltImages.{AllBuilt, IsUnbuiltLine}
 use Rattle.ix_tool.specs.CommandLine.{RunCommand, run_of, report_of, command_of, slots_of, behind, number_within}
 use Rattle.ix_cert.specs.declared.report.CertErr.{CertErr}
 use Rattle.ix_cert.specs.Certificates.{IsCertifiedText, IsFaultless, IsRefused as IsRefusedReport}
@@ -27,14 +31,13 @@ use Rattle.ix_io.specs.Shelf.{NamedFiles, told_file}
 use Rattle.ix_io.specs.Sink.{Appends, AppendsFront}
 
 -- ---- the texts of outputs and of refusals
--- the image on the core of three stages
-abbrev pub three : List ℕ → Setting
-three image = record { image = image; stages = 3; rd = 1; ex = 1 }
-
--- the text of a run: that of rows which the headline holds of, as many as the cycles, or fewer where the last one has a stop, and the state after them
+-- the text of a run on the core of three stages: that of rows which the headline holds of, as many as the cycles, or fewer where the last one has a stop,
+-- and the state after them
 pub record IsRunOutput (image : List ℕ) (cycles : ℕ) (text : List ℕ) : Type 0 where
+  pub shape : Shape
+  pub core : IsShapeOf Three shape
   pub rows : List Row
-  pub headline : Headline (three image) rows
+  pub headline : Headline image shape rows
   pub few : length rows ≤ cycles
   pub whole : (newest rows).stop ≡ None → length rows ≡ cycles
   pub text_is : text ≡ trace_text 3 0 (reverse rows) ++ state_text (architecture rows)

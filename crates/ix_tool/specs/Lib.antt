@@ -1,14 +1,4 @@
-pub mod Instructions
-pub mod SequentialRun
-pub mod Trace
-pub mod LawfulTrace
-pub mod Headline
-pub mod PlainMachine
-pub mod Placed
-pub mod Running
-pub mod ImageText
-pub mod TraceText
+pub mod BuiltImages
 pub mod CommandLine
 pub mod CommandOutput
 pub mod Codes
-pub mod Worked

@@ -1,28 +1,28 @@
 ghost use Rattle.std.specs.Prelude.{◌≡◌, ℕ, ◌+◌, ◌<◌, ◌≤◌, [], ◌++◌, length, None, List, OnOk, OnErr, ◌⊎◌};
 ghost use Rattle.ix_io.specs.Faults.{Rose};
 ghost use Rattle.ix_io.specs.Sink.{Appends, AppendsFront};
-ghost use Rattle.ix_tool.specs.Trace.{newest};
-ghost use Rattle.ix_tool.specs.Headline.{Headline};
-ghost use Rattle.ix_tool.specs.TraceText.{trace_text, state_text};
+ghost use Rattle.rv_trace.specs.Trace.{newest};
+ghost use Rattle.rv_trace.specs.Headline.{Headline};
+ghost use Rattle.rv_trace.specs.TraceText.{trace_text, state_text};
 ghost use Rattle.ix_tool.specs.CommandOutput.{IsRunOutput, Sends, Writes};
 
-use crate::history::Trace;
-use crate::machine::Machine;
-use crate::row_text::{put_row, put_state};
-use crate::sequential::Arch;
 use crate::status::Status;
 use ix_io::{Out, Sink, WriteErr};
 use rv_core::{Core, Shape, Three, shape_of};
 use rv_isa::Image;
+use rv_pipe::Machine;
+use rv_seq::Arch;
+use rv_trace::{Trace, put_row, put_state};
 use std::alloc::Global;
 
 /// Makes rows until one has a stop, or no more fit.
 fn run_machine<C: Core>(machine: &mut Machine<'_, C>, cycles: u32)
     requires first { machine.old.rows ≡ [] }
     requires spare { machine.old.spare ≡ cycles }
-    requires headline { Headline machine.old.setting machine.old.rows }
-    ensures setting { machine.new.setting ≡ machine.old.setting }
-    ensures headline { Headline machine.new.setting machine.new.rows }
+    requires headline { Headline machine.old.image machine.old.shape machine.old.rows }
+    ensures image { machine.new.image ≡ machine.old.image }
+    ensures shape { machine.new.shape ≡ machine.old.shape }
+    ensures headline { Headline machine.new.image machine.new.shape machine.new.rows }
     ensures few { length machine.new.rows ≤ cycles }
     ensures whole { (newest machine.new.rows).stop ≡ None → length machine.new.rows ≡ cycles }
 {

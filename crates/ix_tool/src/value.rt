@@ -1,6 +1,9 @@
-ghost use Rattle.std.specs.Prelude.{◌≡◌, ◌≤◌, ◌++◌, codes, length, true, IfOk, IfErr};
+ghost use Rattle.std.specs.Prelude.{◌≡◌, ◌≤◌, ◌++◌, codes, length, true, IfOk, IfErr, MatchOption};
 ghost use Rattle.ix_io.specs.Faults.{NoneFell};
 ghost use Rattle.ix_io.specs.Limits.{most_bytes};
+ghost use Rattle.rv_isa.specs.Images.{most_words};
+ghost use Rattle.rv_asm.specs.ImageText.{IsImageText};
+ghost use Rattle.ix_tool.specs.BuiltImages.{AllBuilt, IsFirstUnbuilt};
 ghost use Rattle.ix_cert.specs.declared.report.CertErr.TheVariants.{Memory};
 ghost use Rattle.ix_tool.specs.CommandLine.{fits_slot, fits_slots, bytes_of};
 ghost use Rattle.ix_tool.specs.CommandOutput.{image_line, file_line, certificate_line, Refuses, Judged, WordRead, WordsRefused, AreRead, RoseIn};
@@ -8,11 +11,12 @@ ghost use Rattle.ix_tool.specs.declared.command.FileKind.{FileKind as Kind};
 ghost use Rattle.ix_tool.specs.declared.command.FileKind.TheVariants.{Image as image_kind, Report as report_kind};
 
 use crate::command::{FileKind, Slot, number_within};
-use crate::image_text::{TextErr, first_unbuilt, read_image};
 use crate::status::Status;
 use ix_cert::{CertErr, certify};
 use ix_io::{ReadErr, Shelf, read_all};
+use rv_asm::{TextErr, line_of_word, read_image};
 use rv_isa::Image;
+use rv_seq::instruction_of;
 use std::alloc::Global;
 
 /// What a word of a command stands for.
@@ -70,6 +74,36 @@ fn report_refusal(alloc: Global, error: CertErr) -> Refusal
     }
 }
 
+/// The number, from 0, of the first word that is no built instruction.
+fn first_unbuilt(words: &[u32]) -> Option<u32>
+    requires { length words.now ≤ most_words }
+    ensures { MatchOption result (AllBuilt words.now) (IsFirstUnbuilt words.now) }
+{
+    for (number, word) in words.iter().enumerate() {
+        if instruction_of(*word).is_none() {
+            return Some(number as u32);
+        }
+    }
+    None
+}
+
+/// The image, or the refusal of its first word that is no built instruction.
+fn judge_words(alloc: Global, bytes: &[u8], image: Image) -> Result<Value, Refusal>
+    requires short { length bytes.now ≤ most_bytes }
+    requires read { IsImageText bytes.now image }
+    ensures { Judged image_kind bytes.now result }
+{
+    match first_unbuilt(image.as_slice()) {
+        None => Ok(Value::Image(image)),
+        Some(number) => {
+            match line_of_word(alloc, bytes, number) {
+                Ok(line) => Err(image_refusal(alloc, line)),
+                Err(_) => Err(Refusal::Memory),
+            }
+        }
+    }
+}
+
 fn judge_image(alloc: Global, bytes: &[u8]) -> Result<Value, Refusal>
     requires { length bytes.now ≤ most_bytes }
     ensures { Judged image_kind bytes.now result }
@@ -77,13 +111,7 @@ fn judge_image(alloc: Global, bytes: &[u8]) -> Result<Value, Refusal>
     match read_image(alloc, bytes) {
         Err(TextErr::At(number)) => Err(image_refusal(alloc, number)),
         Err(TextErr::Memory) => Err(Refusal::Memory),
-        Ok(image) => {
-            match first_unbuilt(alloc, bytes) {
-                Err(_) => Err(Refusal::Memory),
-                Ok(Some(number)) => Err(image_refusal(alloc, number)),
-                Ok(None) => Ok(Value::Image(image)),
-            }
-        }
+        Ok(image) => judge_words(alloc, bytes, image),
     }
 }
 

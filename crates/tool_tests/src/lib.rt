@@ -1,8 +1,10 @@
-//! Tests of `ix_tool`.
+//! Tests of `ix_tool` and `rv_asm`.
 #![tactic(auto)]
 
 #[cfg(test)]
 mod certifying;
+#[cfg(test)]
+mod images;
 #[cfg(test)]
 mod running;
 pub mod sure;

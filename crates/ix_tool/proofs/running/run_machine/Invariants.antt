@@ -1,6 +1,6 @@
 use Rattle.std.proofs.Common.{◌≡◌, ◌+◌, length, None}
-use Rattle.ix_tool.specs.Trace.{newest}
-use Rattle.ix_tool.specs.Headline.{Headline}
+use Rattle.rv_trace.specs.Trace.{newest}
+use Rattle.rv_trace.specs.Headline.{Headline}
 use Rattle.ix_tool.proofs.running.run_machine.Given as goal
 
 abbrev pub invariant-rows : goal.invariant-rows
@@ -8,6 +8,7 @@ invariant-rows g l = record {
   going : (newest l.machine.rows).stop ≡ None;
   count : length l.machine.rows ≡ l.counter;
   spare : l.counter + l.machine.spare ≡ l.cycles;
-  setting : l.machine.setting ≡ l.fn.machine.setting;
-  headline : Headline l.machine.setting l.machine.rows;
+  image : l.machine.image ≡ l.fn.machine.image;
+  shape : l.machine.shape ≡ l.fn.machine.shape;
+  headline : Headline l.machine.image l.machine.shape l.machine.rows;
 }

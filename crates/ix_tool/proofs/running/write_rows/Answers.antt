@@ -1,7 +1,7 @@
 use Rattle.std.proofs.Common.{◌++◌, ◌∙◌, subst, sym, ap, arith, take, []}
 use Rattle.std.proofs.lemmas.List.{append-nil}
 use Rattle.ix_io.specs.Sink.{AppendsFront}
-use Rattle.ix_tool.specs.TraceText.{row_text, trace_text}
+use Rattle.rv_trace.specs.TraceText.{row_text, trace_text}
 use Rattle.ix_tool.specs.CommandOutput.{Sends}
 use Rattle.ix_tool.proofs.Writing.{sends_none, sends_text, sends_more, sends_front, row_more, front_of_rows, no_rows}
 use Rattle.ix_tool.proofs.running.write_rows.Goals as goal

@@ -1,5 +1,5 @@
 use Rattle.std.proofs.Common.{◌≤◌, take}
-use Rattle.ix_tool.specs.TraceText.{trace_text}
+use Rattle.rv_trace.specs.TraceText.{trace_text}
 use Rattle.ix_tool.specs.CommandOutput.{Sends}
 use Rattle.ix_tool.proofs.running.write_rows.Given as goal
 

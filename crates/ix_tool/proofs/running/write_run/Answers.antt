@@ -1,4 +1,4 @@
-use Rattle.ix_tool.specs.TraceText.{trace_text, state_text}
+use Rattle.rv_trace.specs.TraceText.{trace_text, state_text}
 use Rattle.ix_tool.proofs.Writing.{sends_front, on_err}
 use Rattle.ix_tool.proofs.running.write_run.Goals as goal
 

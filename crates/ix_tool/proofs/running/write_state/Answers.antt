@@ -1,6 +1,6 @@
 use Rattle.std.proofs.Common.{subst}
 use Rattle.ix_io.specs.Sink.{AppendsFront}
-use Rattle.ix_tool.specs.TraceText.{state_text}
+use Rattle.rv_trace.specs.TraceText.{state_text}
 use Rattle.ix_tool.proofs.Writing.{sends_front, on_err}
 use Rattle.ix_tool.proofs.running.write_state.Goals as goal
 

@@ -1,6 +1,6 @@
 use Rattle.std.proofs.Common.{refl}
 use Rattle.ix_tool.specs.declared.command.FileKind.TheVariants.{Image}
-use Rattle.ix_tool.specs.CommandOutput.{image_line, bad_line, unbuilt_line}
+use Rattle.ix_tool.specs.CommandOutput.{image_line, bad_line}
 use Rattle.ix_tool.proofs.Judging.{judged_err}
 use Rattle.ix_tool.proofs.value.judge_image.Goals as goal
 
@@ -8,8 +8,3 @@ pub returns-in-Err-At : goal.returns-in-Err-At
 returns-in-Err-At c =
     judged_err Image c.args.bytes.now (image_line c.in-Err-At.number) c.image_refusal.result
     (c.in-Err-At.number, bad_line c.in-Err-At.number (rw c.in-Err-At.field-0-is at c.in-Err-At.ensures.refused), refl) c.image_refusal.ensures
-
-pub returns-in-Ok-Some : goal.returns-in-Ok-Some
-returns-in-Ok-Some c =
-    judged_err Image c.args.bytes.now (image_line c.in-Ok-Some.number) c.image_refusal-in-Ok-Some.result
-    (c.in-Ok-Some.number, unbuilt_line c.in-Ok.image c.in-Ok-Some.number c.in-Ok.ensures.image (rw c.in-Ok-Some.field-0-is at c.in-Ok-Some.ensures), refl) c.image_refusal-in-Ok-Some.ensures

@@ -1,6 +1,0 @@
-use Rattle.std.proofs.Common.{◌≡◌, drop}
-use Rattle.ix_tool.specs.PlainMachine.{setting, slot_stop}
-use Rattle.ix_tool.proofs.engine.stop_in.Given as goal
-
-abbrev pub invariant-loop-stage : goal.invariant-loop-stage
-invariant-loop-stage l = slot_stop (setting l.image l.fn.shape) l.stage (drop l.stage l.slots) ≡ slot_stop (setting l.image l.fn.shape) 0 l.slots

@@ -1,6 +1,0 @@
-use Rattle.std.proofs.Common.{◌≡◌, drop}
-use Rattle.ix_tool.specs.Trace.{has_serial}
-use Rattle.ix_tool.proofs.row_text.is_among.Given as goal
-
-abbrev pub invariant-loop-one : goal.invariant-loop-one
-invariant-loop-one l = has_serial l.flushed l.serial ≡ has_serial (drop l.one-index l.flushed) l.serial

@@ -1,0 +1,11 @@
+use Rattle.std.proofs.Common.{◌≡◌, ◌≤◌, take, length}
+use Rattle.std.specs.Prelude.{map}
+use Rattle.rv_asm.specs.ImageText.{lines_of, words_in}
+use Rattle.rv_asm.proofs.image_text.line_of_word.Given as goal
+
+abbrev pub invariant-loop-i : goal.invariant-loop-i
+invariant-loop-i l = record {
+  lines_are : map (λ x. x.now) l.line-items ≡ lines_of l.bytes;
+  passed : l.before ≡ length (words_in (take l.i (lines_of l.bytes)));
+  within : l.before ≤ l.number;
+}

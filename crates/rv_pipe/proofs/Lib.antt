@@ -1,0 +1,12 @@
+pub mod Runs
+pub mod Tokens
+pub mod Holds
+pub mod Moving
+pub mod Filling
+pub mod Stopping
+pub mod Bound
+pub mod Rows
+pub mod Sound
+pub mod WorkedRun
+pub mod DetourRows
+pub mod OneCell

@@ -1,0 +1,92 @@
+-- Where the machine puts its tokens is where the law of moves wants them.
+use Rattle.std.proofs.Common.{◌≡◌, ℕ, zero, suc, ◌+◌, List, [], ◌∷◌, drop, length, Option, Some, None, Bool, true, false, refl, ap, ◌∙◌, arith, add-zero}
+use Rattle.std.specs.Prelude.{◌&&◌, ◌||◌, if◌then◌else◌, is_some, slice_get}
+use Rattle.rv_trace.specs.declared.row.Cell.{Cell}
+use Rattle.rv_trace.specs.declared.row.Row.{Row}
+use Rattle.rv_pipe.specs.declared.stages.Token.{Token}
+use Rattle.rv_trace.specs.Trace.{Setting, has_serial}
+use Rattle.rv_trace.specs.LawfulTrace.{Name, name_of, names_of, stays, leaves, comes, fetched, front, InStage, MovesInto}
+use Rattle.rv_pipe.specs.PlainMachine.{Slots, gone, going, kept, advanced, leaving, first_slot, cell_of, cells_of, fill, fill_first}
+use Rattle.rv_pipe.specs.Placed.{one_more}
+use Rattle.rv_pipe.proofs.Tokens.{Decided, NoStops, Free, decided_tail, no_stops_tail, free_ahead}
+use Rattle.rv_pipe.proofs.Holds.{out_of, out_last}
+
+-- no serial is flushed in the row
+abbrev pub FlushesNone : Row → Type 0
+FlushesNone row = (s : ℕ) → has_serial row.flushed s ≡ false
+
+abbrev pub token_name : Option Token → Option Name
+token_name s = name_of (cell_of s)
+
+in_stage : (row : Row) (come s : Option Token) → FlushesNone row → Free come s → InStage (stays row (cell_of s)) (token_name come) (token_name (kept come s))
+in_stage row come None u f = refl
+in_stage row come (Some t) u f = rw (u t.cell.serial) (by_case (is_some t.cell.hold) f) where
+  by_case : (b : Bool) → (b ≡ true → come ≡ None) → InStage (if b && true then name_of (Some t.cell) else None) (token_name come) (token_name (if b then Some t else come))
+  by_case true f = let e = f refl in rw e
+  by_case false f = refl
+
+leaves_going : (k : Setting) (x : List ℕ) (stage : ℕ) (row : Row) (s : Option Token) → FlushesNone row → leaves row (cell_of s) ≡ token_name (going k.shape x stage s)
+leaves_going k x stage row None u = refl
+leaves_going k x stage row (Some t) u = rw (u t.cell.serial) (by_case (is_some t.cell.hold)) where
+  by_case : (b : Bool) → (if b || false then None else name_of (Some t.cell)) ≡ token_name (if b then None else Some (gone k.shape x stage t))
+  by_case true = refl
+  by_case false = refl
+
+pub moves_on : (k : Setting) (x : List ℕ) (row : Row) (stage : ℕ) (come : Option Token) (seen : Slots) → FlushesNone row → Decided k stage seen → NoStops k stage seen → Free come (first_slot seen) → MovesInto row (token_name come) (cells_of seen) (names_of (cells_of (advanced k.shape x stage come seen)))
+moves_on k x row stage come [] u d n f = tt
+moves_on k x row stage come (s ∷ older) u d n f = (
+  in_stage row come s u f,
+  rw (leaves_going k x stage row s u)
+      (moves_on k x row (suc stage) (going k.shape x stage s) older u (decided_tail k stage s older d) (no_stops_tail k stage s older n) (free_ahead k x stage s older d n)),
+)
+
+fetched_name : (serial at : ℕ) (o : Option ℕ) → token_name (fill None serial at o) ≡ fetched serial at o
+fetched_name serial at None = refl
+fetched_name serial at (Some word) = refl
+
+in_first : (stayed : Option Name) (s : Option Token) (serial at : ℕ) (o : Option ℕ) → InStage stayed None (token_name s) → InStage stayed (comes stayed (fetched serial at o)) (token_name (fill s serial at o))
+in_first None None serial at o h = fetched_name serial at o
+in_first None (Some t) serial at o h = cc
+in_first (Some n) None serial at o h = cc
+in_first (Some n) (Some t) serial at o h = h
+
+pub fill_moves : (serial at : ℕ) (o : Option ℕ) (row : Row) (before : List (Option Cell)) (slots : Slots) → MovesInto row None before (names_of (cells_of slots)) → MovesInto row (comes (stays row (front before)) (fetched serial at o)) before (names_of (cells_of (fill_first slots serial at o)))
+fill_moves serial at o row [] [] h = tt
+fill_moves serial at o row [] (s ∷ older) h = h
+fill_moves serial at o row (w ∷ before) [] h = h
+fill_moves serial at o row (w ∷ before) (s ∷ older) h = (in_first (stays row w) s serial at o h.0, h.1)
+
+pub fill_length : (slots : Slots) (serial at : ℕ) (o : Option ℕ) → length (fill_first slots serial at o) ≡ length slots
+fill_length [] serial at o = refl
+fill_length (s ∷ older) serial at o = refl
+
+-- the token that goes out is the last slot's
+pub record LastSlot (k : Setting) (x : List ℕ) (base n : ℕ) (seen : Slots) : Type 0 where
+  pub slot : Option Token
+  pub rest : drop n seen ≡ slot ∷ []
+  pub here : slice_get (cells_of seen) n ≡ Some (cell_of slot)
+  pub out : out_of seen ≡ out_last slot
+  pub leaving_is : (come : Option Token) → leaving k.shape x base come seen ≡ going k.shape x (base + n) slot
+
+pub last_slot : (k : Setting) (x : List ℕ) (base n : ℕ) (seen : Slots) → suc n ≡ length seen → LastSlot k x base n seen
+last_slot k x base n [] e = absurd (omega arith)
+last_slot k x base zero (s ∷ []) e = record { slot = s; rest = refl; here = refl; out = refl; leaving_is = λ come. rw (add-zero base) }
+last_slot k x base zero (s ∷ u ∷ rest) e = absurd (omega arith)
+last_slot k x base (suc n) (s ∷ []) e = absurd (omega arith)
+last_slot k x base (suc n) (s ∷ u ∷ rest) e =
+    let ih = last_slot k x (suc base) n (u ∷ rest) (omega arith) in
+    let z : suc base + n ≡ base + suc n = omega arith in
+    record {
+      slot = ih.slot;
+      rest = ih.rest;
+      here = ih.here;
+      out = ih.out;
+      leaving_is = λ come. ih.leaving_is (going k.shape x base s) ∙ ap (λ m. going k.shape x m ih.slot) z;
+    }
+
+pub out_going : (k : Setting) (x : List ℕ) (stage : ℕ) (s : Option Token) → one_more (going k.shape x stage s) 0 ≡ out_last s
+out_going k x stage None = refl
+out_going k x stage (Some t) = by_case (is_some t.cell.hold) where
+  by_case : (b : Bool) → one_more (if b then None else Some (gone k.shape x stage t)) 0 ≡ (if b then 0 else 1)
+  by_case true = refl
+  by_case false = refl

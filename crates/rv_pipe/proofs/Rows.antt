@@ -1,0 +1,634 @@
+-- Each row that the machine makes is lawful and agrees with the run, and the machine stays tied to the rows.
+use Rattle.std.proofs.Common.{◌≡◌, ℕ, zero, suc, ◌+◌, ◌*◌, ◌-◌, ◌<◌, ◌≤◌, List, [], ◌∷◌, drop, length, Option, Some, None, Bool, true, false, refl, sym, ap, ◌∙◌, subst, arith, add-zero, ◌⊎◌, inl, inr}
+use Rattle.std.specs.Prelude.{◌&&◌, ◌||◌, if◌then◌else◌, ◌==◌, is_some, is_none, slice_get, nat_lt, replicate}
+use Rattle.std.proofs.lemmas.List.{length-drop}
+use Rattle.std.proofs.lemmas.Bool.Decides.{nat_tests}
+use Rattle.rv_trace.specs.declared.row.Cell.{Cell}
+use Rattle.rv_trace.specs.declared.row.Hold.{Hold}
+use Rattle.rv_trace.specs.declared.row.Row.{Row}
+use Rattle.rv_seq.specs.declared.commit.Arch.{Arch}
+use Rattle.rv_seq.specs.declared.commit.Commit.{Commit}
+use Rattle.rv_seq.specs.declared.instruction.Instruction.{Instruction}
+use Rattle.rv_seq.specs.declared.commit.Stop.{Stop}
+use Rattle.rv_seq.specs.declared.commit.Stop.TheVariants.{Fetch}
+use Rattle.rv_pipe.specs.declared.stages.Token.{Token}
+use Rattle.rv_seq.specs.Instructions.{instruction_of}
+use Rattle.rv_seq.specs.SequentialRun.{word_at, run, step, after, applied, commit_of, answer_at, Done, Stopped}
+use Rattle.rv_trace.specs.Trace.{Setting, Course, place, stages_of, Stands, has_serial, is_flushed, is_retired, retirements, architecture, with_retired, newest, rows_without}
+use Rattle.rv_trace.specs.LawfulTrace.{AreEmpty, AscendFrom, IsInForm, name_of, names_of, leaves, front, fetch_address, next_serial, plain_fetch, Moves, MovesInto, Retires, IsWordOf, StopsRun, Settles, successor, IsNextYounger, HasNoYounger, IsMismatch, Successors, IsEmptyAfter, StopsRightly, LawfulRow}
+use Rattle.rv_trace.specs.Headline.{AgreesWithRun}
+use Rattle.rv_pipe.specs.PlainMachine.{Machine, Slots, or_else, stop_of, value_of, own_hold, stops_now, staying, drain, fill_first, next_after, gone, going, advanced, leaving, commit_for, with_serial, retired_of, slot_stop, remains, fetch_after, first_slot, cell_of, cells_of, seen_by, arch_after, IsRowOf, machine_after}
+use Rattle.rv_pipe.specs.Placed.{one_more, count, tail, to_go, rank, IsPlaced, IsPlacedSlot, Placed, IsShape, Inv}
+use Rattle.rv_pipe.proofs.Runs.{word_at-four, step_at, run_suc, goes_on, slice_get_below}
+use Rattle.rv_pipe.proofs.Tokens.{or_else_none, or_else_none_b, is_none_of, same_test, Decided, decided_is, decided_length, decided_names, decided_placed, decided_count, NoStops, own_none, not_due, count_advanced, placed_advanced, last_placed, advanced_length}
+use Rattle.rv_pipe.proofs.Moving.{FlushesNone, moves_on, fill_moves, fill_length, last_slot, out_going}
+use Rattle.rv_pipe.proofs.Filling.{fill_placed, next_count, decided_first, few_more, serial_told, fetch_told, fetch_place}
+use Rattle.rv_pipe.proofs.Holds.{out_of, out_le, out_drop, drop_more, on_path, staying_is, Told, At, at_stage, place_is, shows, then_stops, stops_then}
+use Rattle.rv_pipe.proofs.Bound.{rank_falls, to_go-decided, to_go-le, first_le, fill_rank, nothing_there}
+use Rattle.rv_pipe.proofs.Stopping.{Stopper, stopper, slot_stop_at, no_stops, remains_none, none_remains, remains_count}
+
+none_in : (s : ℕ) → has_serial (replicate 5 None) s ≡ false
+none_in s = refl
+
+or_false : (a b : Bool) → a ≡ false → b ≡ false → (a || b) ≡ false
+or_false a b p q = rw (p, q)
+
+module _ (k : Setting) (shape : IsShape k) (earlier : List Row) (m : Machine) (row : Row) (inv : Inv k earlier m) (is : IsRowOf k m row) where
+  abbrev seen : Slots
+  seen = seen_by k m
+
+  abbrev r : ℕ
+  r = retirements earlier
+
+  fetched_word : word_at k.image m.fetch ≡ slice_get k.image (retirements earlier + count (tail m.slots))
+  fetched_word = ap (λ n. word_at k.image n) inv.fetch ∙ word_at-four k.image (retirements earlier + count (tail m.slots))
+
+  seen_placed : Placed k (retirements earlier) 0 (seen_by k m)
+  seen_placed = decided_placed k (retirements earlier) 0 (fill_first m.slots m.next m.fetch (word_at k.image m.fetch))
+      (fill_placed k shape (retirements earlier) m.next m.fetch m.slots (word_at k.image m.fetch) inv.placed inv.next inv.fetch (sym fetched_word))
+
+  seen_decided : Decided k 0 (seen_by k m)
+  seen_decided = decided_is k 0 (fill_first m.slots m.next m.fetch (word_at k.image m.fetch))
+
+  seen_length : length (seen_by k m) ≡ k.shape.stages
+  seen_length = decided_length k 0 (fill_first m.slots m.next m.fetch (word_at k.image m.fetch)) ∙ fill_length m.slots m.next m.fetch (word_at k.image m.fetch) ∙ inv.stages
+
+  some_stages : 0 < length (seen_by k m)
+  some_stages = let a = shape.ex_last in omega (arith, seen_length, a)
+
+  seen_count : next_after m.next (first_slot m.slots) (word_at k.image m.fetch) ≡ retirements earlier + count (seen_by k m)
+  seen_count =
+      let a = shape.ex_last in
+      let lt : 0 < length m.slots = omega (arith, inv.stages, a) in
+      next_count (retirements earlier) m.next m.fetch m.slots (word_at k.image m.fetch) lt inv.next
+      ∙ ap (λ n. retirements earlier + n) (sym (decided_count k 0 (fill_first m.slots m.next m.fetch (word_at k.image m.fetch))))
+
+  seen_tail : m.fetch ≡ 4 * (retirements earlier + count (tail (seen_by k m)))
+  seen_tail = inv.fetch ∙ ap (λ n. 4 * (retirements earlier + n)) (sym (decided_first k m.slots m.next m.fetch (word_at k.image m.fetch)))
+
+  -- nothing is flushed
+  pub flushes_none : FlushesNone row
+  flushes_none s = ap (λ l. has_serial l s) is.flushed ∙ none_in s
+
+  pub unflushed_now : (s : ℕ) → is_flushed (row ∷ earlier) s ≡ false
+  unfolding is_flushed
+  unflushed_now s = or_false (has_serial row.flushed s) (is_flushed earlier s) (flushes_none s) (inv.unflushed s)
+
+  stands_seen : (stage : ℕ) (c : Cell) → Stands k row stage c → slice_get (cells_of (seen_by k m)) stage ≡ Some (Some c)
+  stands_seen stage c s = ap (λ l. slice_get l stage) (sym is.cells) ∙ s
+
+  cell_at : (stage : ℕ) (c : Cell) → Stands k row stage c → At k (retirements earlier) stage c (seen_by k m)
+  cell_at stage c s = at_stage k (retirements earlier) stage c (seen_by k m) seen_placed seen_decided (stands_seen stage c s)
+
+  pub words_now : (s word : ℕ) → IsWordOf k (row ∷ earlier) s word → slice_get k.image s ≡ Some word
+  words_now s word (inr h) = inv.words s word h
+  words_now s word (inl h) =
+      let at = cell_at h.0 h.1 h.2 in
+      let p = at.placed.0.word in
+      let e : retirements earlier + count at.older ≡ s = sym at.placed.0.serial ∙ ap (λ (c : Cell). c.serial) at.is ∙ h.3 in
+      let w : at.token.cell.word ≡ word = ap (λ (c : Cell). c.word) at.is ∙ h.4 in
+      ap (λ n. slice_get k.image n) (sym e) ∙ p ∙ ap Some w
+
+  -- The last stage
+
+  abbrev left : Option Token
+  left = leaving k.shape m.arch.x 0 None (seen_by k m)
+
+  left_out : one_more (leaving k.shape m.arch.x 0 None (seen_by k m)) 0 ≡ out_of (seen_by k m)
+  left_out =
+      let a = shape.ex_last in
+      let e : suc (k.shape.stages - 1) ≡ length (seen_by k m) = omega (arith, seen_length, a) in
+      let l = last_slot k m.arch.x 0 (k.shape.stages - 1) (seen_by k m) e in
+      ap (λ s. one_more s 0) (l.leaving_is None) ∙ out_going k m.arch.x (0 + (k.shape.stages - 1)) l.slot ∙ sym l.out
+
+  left_placed : IsPlacedSlot k (retirements earlier) k.shape.stages (leaving k.shape m.arch.x 0 None (seen_by k m))
+  left_placed =
+      let a = shape.ex_last in
+      let e : 0 + length (seen_by k m) ≡ k.shape.stages = omega (arith, seen_length) in
+      subst (λ n. IsPlacedSlot k (retirements earlier) n (leaving k.shape m.arch.x 0 None (seen_by k m))) e
+      (subst (λ (s : Arch). IsPlacedSlot k (retirements earlier) (0 + length (seen_by k m)) (leaving k.shape s.x 0 None (seen_by k m))) (sym inv.arch)
+      (last_placed k shape (retirements earlier) 0 None (seen_by k m) (omega (arith, seen_length, a)) (omega arith) seen_placed seen_decided))
+
+  -- what is retired, where something goes out
+  pub record Retirement (o : Option Token) (p : Option (ℕ × Commit)) : Type 0 where
+    pub token : Token
+    pub is_left : o ≡ Some token
+    pub commit : Commit
+    pub is_retired : p ≡ Some (retirements earlier, commit)
+    pub serial_is : token.cell.serial ≡ retirements earlier
+    pub recorded : step k.image (run k.image (retirements earlier)) ≡ Done commit
+    pub pc : (run k.image (suc (retirements earlier))).pc ≡ 4 * suc (retirements earlier)
+
+  retirement : (t : Token) → IsPlaced k (retirements earlier) k.shape.stages t → Retirement (Some t) (retired_of (Some t))
+  retirement t h =
+      let a = shape.ex_last in
+      let b = shape.rd_ex in
+      let n = sym (ap stop_of h.decoded) ∙ h.goes (omega (arith, a)) in
+      let g = goes_on k.image (retirements earlier) t.cell.word shape.few_words inv.pc h.word n in
+      let v = h.value (omega (arith, a, b)) ∙ ap (λ o. value_of o (run k.image (retirements earlier)).x) h.decoded in
+      let c : commit_for t.cell.at t.cell.word t.value t.instruction ≡ Some (commit_of t.cell.at t.cell.word g.instruction t.value) = ap (λ o. commit_for t.cell.at t.cell.word t.value o) (h.decoded ∙ g.is) in
+      let same : commit_of (4 * retirements earlier) t.cell.word g.instruction (value_of (instruction_of t.cell.word) (run k.image (retirements earlier)).x) ≡ commit_of t.cell.at t.cell.word g.instruction t.value =
+      ap (λ at. commit_of at t.cell.word g.instruction (value_of (instruction_of t.cell.word) (run k.image (retirements earlier)).x)) (sym h.at) ∙ ap (λ v. commit_of t.cell.at t.cell.word g.instruction v) (sym v) in
+      record {
+        token = t;
+        is_left = refl;
+        commit = commit_of t.cell.at t.cell.word g.instruction t.value;
+        is_retired = ap (λ o. with_serial t.cell.serial o) c ∙ ap (λ s. Some (s, commit_of t.cell.at t.cell.word g.instruction t.value)) h.serial;
+        serial_is = h.serial;
+        recorded = g.done ∙ ap Done same;
+        pc = g.pc;
+      }
+
+  -- either nothing goes out, or a token that retires
+  pub goes_out : ((leaving k.shape m.arch.x 0 None (seen_by k m) ≡ None) × (row.retired ≡ None) × (out_of (seen_by k m) ≡ 0)) ⊎ (Retirement (leaving k.shape m.arch.x 0 None (seen_by k m)) row.retired × (out_of (seen_by k m) ≡ 1))
+  goes_out = by_case (leaving k.shape m.arch.x 0 None (seen_by k m)) refl left_placed where
+    by_case : (o : Option Token) → leaving k.shape m.arch.x 0 None (seen_by k m) ≡ o → IsPlacedSlot k (retirements earlier) k.shape.stages o → ((leaving k.shape m.arch.x 0 None (seen_by k m) ≡ None) × (row.retired ≡ None) × (out_of (seen_by k m) ≡ 0)) ⊎ (Retirement (leaving k.shape m.arch.x 0 None (seen_by k m)) row.retired × (out_of (seen_by k m) ≡ 1))
+    by_case None e h = inl (e, is.retired ∙ ap retired_of e, sym left_out ∙ ap (λ s. one_more s 0) e)
+    by_case (Some t) e h =
+        let x = retirement t h in
+        inr (
+          record { token = x.token; is_left = e ∙ x.is_left; commit = x.commit; is_retired = is.retired ∙ ap retired_of e ∙ x.is_retired; serial_is = x.serial_is; recorded = x.recorded; pc = x.pc },
+          sym left_out ∙ ap (λ s. one_more s 0) e,
+        )
+
+  pub retired_now : retirements (row ∷ earlier) ≡ retirements earlier + out_of (seen_by k m)
+  unfolding retirements
+  retired_now = elim goes_out [
+    | inl n ↦ rw (n.1, n.2) (omega arith)
+    | inr y ↦ rw (y.0.is_retired, y.1) (omega arith)
+  ]
+
+  less_more : (s n : ℕ) → ((n == s) || nat_lt s n) ≡ nat_lt s (n + 1)
+  less_more s n = grind (arith, nat_tests)
+
+  pub told_retired : (s : ℕ) → is_retired (row ∷ earlier) s ≡ nat_lt s (retirements earlier + out_of (seen_by k m))
+  unfolding is_retired
+  told_retired s = elim goes_out [
+    | inl n ↦ rw (n.1, n.2, add-zero) (inv.retired s)
+    | inr y ↦ rw (y.0.is_retired, y.1, inv.retired s) (less_more s (retirements earlier))
+  ]
+
+  pub told : Told k earlier row (seen_by k m)
+  told = record { cells = is.cells; pc = inv.pc; placed = seen_placed; decided = seen_decided; unflushed = unflushed_now; words = words_now; before = inv.retired; now = told_retired }
+
+  -- the state after the row
+  pub state_now : (arch_after m.arch row.retired ≡ run k.image (retirements (row ∷ earlier))) × ((run k.image (retirements (row ∷ earlier))).pc ≡ 4 * retirements (row ∷ earlier))
+  state_now = elim goes_out [
+    | inl n ↦
+        let z : retirements earlier + 0 ≡ retirements earlier = omega arith in
+        let e = retired_now ∙ ap (λ o. retirements earlier + o) n.2 ∙ z in (
+          ap (λ o. arch_after m.arch o) n.1 ∙ inv.arch ∙ ap (λ j. run k.image j) (sym e),
+          ap (λ j. (run k.image j).pc) e ∙ inv.pc ∙ ap (λ j. 4 * j) (sym e),
+        )
+    | inr y ↦
+        let z : retirements earlier + 1 ≡ suc (retirements earlier) = omega arith in
+        let e = retired_now ∙ ap (λ o. retirements earlier + o) y.1 ∙ z in (
+          ap (λ o. arch_after m.arch o) y.0.is_retired ∙ ap (λ s. applied y.0.commit s) inv.arch ∙ sym (run_suc k.image (retirements earlier) ∙ ap (λ a. after (run k.image (retirements earlier)) a) y.0.recorded) ∙ ap (λ j. run k.image j) (sym e),
+          ap (λ j. (run k.image j).pc) e ∙ y.0.pc ∙ ap (λ j. 4 * j) (sym e),
+        )
+  ]
+
+  retired_arch : (o : Option (ℕ × Commit)) (s : Arch) → with_retired o s ≡ arch_after s o
+  retired_arch None s = refl
+  retired_arch (Some p) s = refl
+
+  pub architecture_now : architecture (row ∷ earlier) ≡ run k.image (retirements (row ∷ earlier))
+  unfolding architecture
+  architecture_now = ap (λ s. with_retired row.retired s) (inv.state ∙ sym inv.arch) ∙ retired_arch row.retired m.arch ∙ state_now.0
+
+  -- Laws
+
+  row_moves : Moves k earlier row
+  row_moves = rw (is.cells, decided_names k 0 (fill_first m.slots m.next m.fetch (word_at k.image m.fetch)), ← inv.next_is, ← inv.fetch_is) (fill_moves m.next m.fetch (word_at k.image m.fetch) (newest earlier) (stages_of k (newest earlier)) m.slots inv.moved)
+
+  not_held : (c : Cell) → leaves row (Some c) ≡ name_of (Some c) → c.hold ≡ None
+  not_held c h = is_none_of c.hold (by_case (is_some c.hold) (has_serial row.flushed c.serial) h) where
+    by_case : (a b : Bool) → (if a || b then None else name_of (Some c)) ≡ name_of (Some c) → a ≡ false
+    by_case false b q = refl
+    by_case true b q = cc
+
+  unheld_leaves : (c : Cell) → c.hold ≡ None → leaves row (Some c) ≡ name_of (Some c)
+  unheld_leaves c h = let f = flushes_none c.serial in rw (h, f)
+
+  row_retires : (stage : ℕ) → suc stage ≡ k.shape.stages → Retires k row stage
+  row_retires stage e =
+      let l = last_slot k m.arch.x 0 stage (seen_by k m) (e ∙ sym seen_length) in
+      by_slot l.slot (l.leaving_is None) l.here where
+        by_slot : (s : Option Token) → leaving k.shape m.arch.x 0 None (seen_by k m) ≡ going k.shape m.arch.x (0 + stage) s → slice_get (cells_of (seen_by k m)) stage ≡ Some (cell_of s) → Retires k row stage
+        by_slot None g here =
+            record {
+              leaver = λ s commit q. cc (is.retired ∙ ap retired_of g, q);
+              retired = λ c stands q. cc (sym here ∙ stands_seen stage c stands);
+            }
+        by_slot (Some t) g here = by_hold (is_some t.cell.hold) refl g where
+          stands_t : Stands k row stage t.cell
+          stands_t = ap (λ l. slice_get l stage) is.cells ∙ here
+
+          by_hold : (b : Bool) → is_some t.cell.hold ≡ b → leaving k.shape m.arch.x 0 None (seen_by k m) ≡ (if b then None else Some (gone k.shape m.arch.x (0 + stage) t)) → Retires k row stage
+          by_hold true q g =
+              record {
+                leaver = λ s commit p. cc (is.retired ∙ ap retired_of g, p);
+                retired = λ c stands p.
+                    let same : t.cell ≡ c = cc (sym here ∙ stands_seen stage c stands) in
+                    let none = not_held c p in
+                    cc (ap (λ (d : Cell). is_some d.hold) same ∙ ap (λ o. is_some o) none, q);
+              }
+          by_hold false q g =
+              let out : out_of (seen_by k m) ≡ 1 = sym left_out ∙ ap (λ s. one_more s 0) g in
+              elim goes_out [
+                | inl n ↦ absurd (omega (arith, out, n.2))
+                | inr y ↦
+                    let same : gone k.shape m.arch.x (0 + stage) t ≡ y.0.token = cc (sym g ∙ y.0.is_left) in
+                    let serial : t.cell.serial ≡ retirements earlier = ap (λ (u : Token). u.cell.serial) same ∙ y.0.serial_is in
+                    let none = is_none_of t.cell.hold q in
+                    record {
+                      leaver = λ s commit p.
+                          let pair : ◌≡◌ {A = ℕ × Commit} (retirements earlier, y.0.commit) (s, commit) = cc (sym y.0.is_retired ∙ p) in
+                          (t.cell, stands_t, unheld_leaves t.cell none, serial ∙ ap (λ (z : ℕ × Commit). z.0) pair);
+                      retired = λ c stands p.
+                          let cell : t.cell ≡ c = cc (sym here ∙ stands_seen stage c stands) in
+                          let at : retirements earlier ≡ c.serial = sym serial ∙ ap (λ (d : Cell). d.serial) cell in
+                          (y.0.commit, y.0.is_retired ∙ ap (λ n. Some (n, y.0.commit)) at);
+                    }
+              ]
+
+  -- Successors: each next younger cell has its older one's successor
+
+  serial_place : (stage : ℕ) (c : Cell) (s : Stands k row stage c) → c.serial ≡ retirements earlier + count (cell_at stage c s).older
+  serial_place stage c s = let at = cell_at stage c s in ap (λ (d : Cell). d.serial) (sym at.is) ∙ at.placed.0.serial
+
+  settled_successor : (stage : ℕ) (c : Cell) (s : Stands k row stage c) → Settles k earlier row stage c → successor k (row ∷ earlier) c ≡ 4 * suc (retirements earlier + count (cell_at stage c s).older)
+  settled_successor stage c s settles =
+      let at = cell_at stage c s in
+      let none : at.token.cell.hold ≡ None = ap (λ (d : Cell). d.hold) at.is ∙ not_held c settles.leaves in
+      let stops : stops_now k.shape stage at.token.instruction at.older ≡ false = free at in
+      let own = own_none k stage at.token.instruction at.older at.token.cell.hold at.decided.0 (ap (λ o. is_some o) none) stops in
+      let word = sym (ap stop_of at.placed.0.decoded) ∙ not_due k stage at.token.instruction at.older own stops settles.settling in
+      let p = place_is (row ∷ earlier) c.serial unflushed_now ∙ serial_place stage c s in
+      let path = path_to stage at.older at.placed.1 settles.settling in
+      ap (λ (x : Course). x.pc (suc (place (row ∷ earlier) c.serial))) shape.course ∙ ap (λ n. (run k.image (suc n)).pc) p ∙ (goes_on k.image (retirements earlier + count at.older) at.token.cell.word shape.few_words path at.placed.0.word word).pc where
+        path_to : (stage : ℕ) (older : Slots) → Placed k (retirements earlier) (suc stage) older → stage ≡ k.shape.ex → (run k.image (retirements earlier + count older)).pc ≡ 4 * (retirements earlier + count older)
+        path_to stage older h e = on_path k shape (retirements earlier) (suc stage) older h (omega (arith, e)) inv.pc
+
+        free : (at : At k (retirements earlier) stage c (seen_by k m)) → stops_now k.shape stage at.token.instruction at.older ≡ false
+        free at = by_case (stops_now k.shape stage at.token.instruction at.older) refl where
+          by_case : (b : Bool) → stops_now k.shape stage at.token.instruction at.older ≡ b → b ≡ false
+          by_case false q = refl
+          by_case true q =
+              let x = then_stops k shape earlier row (seen_by k m) told stage at.token at.older at.rest at.placed q in
+              absurd (settles.runs x.0 (subst (λ d. StopsRun k earlier row stage d x.0) at.is x.2))
+
+  -- no token stands between two stages
+  no_between : (n gap : ℕ) → ((j : ℕ) (e : Cell) → n ≤ j → j < n + gap → Stands k row j e → ⊥) → count (drop n (seen_by k m)) ≡ count (drop (n + gap) (seen_by k m))
+  no_between n zero f = let z : n ≡ n + 0 = omega arith in ap (λ j. count (drop j (seen_by k m))) z
+  no_between n (suc gap) f =
+      let z : suc n + gap ≡ n + suc gap = omega arith in
+      skip_one n (λ e s. f n e (omega arith) (omega arith) s)
+      ∙ no_between (suc n) gap (λ j e le lt s. f j e (omega arith) (omega arith) s)
+      ∙ ap (λ j. count (drop j (seen_by k m))) z where
+        count_skip : (l : Slots) (n : ℕ) → ((e : Cell) → slice_get (cells_of l) n ≡ Some (Some e) → ⊥) → count (drop n l) ≡ count (drop (suc n) l)
+        count_skip [] zero g = refl
+        count_skip [] (suc n) g = refl
+        count_skip (None ∷ l) zero g = refl
+        count_skip (Some t ∷ l) zero g = absurd (g t.cell refl)
+        count_skip (s ∷ l) (suc n) g = count_skip l n g
+
+        skip_one : (n : ℕ) → ((e : Cell) → Stands k row n e → ⊥) → count (drop n (seen_by k m)) ≡ count (drop (suc n) (seen_by k m))
+        skip_one n g = count_skip (seen_by k m) n (λ e q. g e (ap (λ l. slice_get l n) is.cells ∙ q))
+
+  older_count : (stage : ℕ) (c : Cell) (s : Stands k row stage c) → count (drop (suc stage) (seen_by k m)) ≡ count (cell_at stage c s).older
+  older_count stage c s = let at = cell_at stage c s in ap count (drop_more (seen_by k m) at.older (Some at.token) stage at.rest)
+
+  -- the next younger cell has the successor as its address
+  next_address : (stage below : ℕ) (c d : Cell) (s : Stands k row stage c) → Settles k earlier row stage c → IsNextYounger k row stage below d → d.at ≡ successor k (row ∷ earlier) c
+  next_address stage below c d s settles next =
+      let at = cell_at below d next.stands in
+      let lt = next.lower in
+      let gap : (g : ℕ) × (suc below + g ≡ stage) = (stage - suc below, omega (arith, lt)) in
+      let same = no_between (suc below) gap.0 (λ j e le q stands. next.nearest j e (omega (arith, le)) (omega (arith, q, gap.1)) stands) in
+      let b = older_count below d next.stands in
+      let here = count_here stage c s in
+      let e : count at.older ≡ suc (count (cell_at stage c s).older) = sym b ∙ same ∙ ap (λ n. count (drop n (seen_by k m))) gap.1 ∙ here in
+      let z : retirements earlier + suc (count (cell_at stage c s).older) ≡ suc (retirements earlier + count (cell_at stage c s).older) = omega arith in
+      ap (λ (x : Cell). x.at) (sym at.is) ∙ at.placed.0.at ∙ ap (λ n. 4 * (retirements earlier + n)) e ∙ ap (λ n. 4 * n) z ∙ sym (settled_successor stage c s settles) where
+        count_here : (stage : ℕ) (c : Cell) (s : Stands k row stage c) → count (drop stage (seen_by k m)) ≡ suc (count (cell_at stage c s).older)
+        count_here stage c s = let at = cell_at stage c s in ap count at.rest
+
+  no_mismatch : (stage : ℕ) (c : Cell) → IsMismatch k earlier row stage c → ⊥
+  no_mismatch stage c x = x.differs.3 (next_address stage x.differs.0 c x.differs.1 x.stands x.settles x.differs.2)
+
+  -- with no younger cell the plain fetch address is the successor
+  alone_address : (stage : ℕ) (c : Cell) (s : Stands k row stage c) → Settles k earlier row stage c → HasNoYounger k row stage → successor k (row ∷ earlier) c ≡ plain_fetch k (fetch_address k earlier) row
+  alone_address stage c s settles alone =
+      let ex = settles.settling in
+      let a = shape.rd_pos in
+      let b = shape.rd_ex in
+      let all = no_between 0 stage (λ j e le lt stands. alone j e (omega (arith, lt)) stands) in
+      let z : 0 + stage ≡ stage = omega arith in
+      let here : count (drop stage (seen_by k m)) ≡ suc (count (cell_at stage c s).older) = ap count (cell_at stage c s).rest in
+      let e : count (seen_by k m) ≡ suc (count (cell_at stage c s).older) = all ∙ ap (λ n. count (drop n (seen_by k m))) z ∙ here in
+      let empty : (d : Cell) → Stands k row 0 d → ⊥ = λ d q. alone 0 d (omega (arith, ex, a, b)) q in
+      settled_successor stage c s settles ∙ plain empty e where
+        plain_at : (l : Slots) → ((d : Cell) → slice_get (cells_of l) 0 ≡ Some (Some d) → ⊥) → (leaves row (front (cells_of l)) ≡ None) × (count (tail l) ≡ count l)
+        plain_at [] f = (refl, refl)
+        plain_at (None ∷ l) f = (refl, refl)
+        plain_at (Some t ∷ l) f = absurd (f t.cell refl)
+
+        plain : ((d : Cell) → Stands k row 0 d → ⊥) → count (seen_by k m) ≡ suc (count (cell_at stage c s).older) → 4 * suc (retirements earlier + count (cell_at stage c s).older) ≡ plain_fetch k (fetch_address k earlier) row
+        plain empty e =
+            let p = plain_at (seen_by k m) (λ d q. empty d (ap (λ l. slice_get l 0) is.cells ∙ q)) in
+            let z : 4 * suc (retirements earlier + count (cell_at stage c s).older) ≡ 4 * (retirements earlier + count (tail (seen_by k m))) = omega (arith, e, p.1) in
+            z ∙ sym seen_tail ∙ inv.fetch_is ∙ rw (is.cells, p.0) refl
+
+  row_successors : Successors k earlier row
+  row_successors =
+      record {
+        flushes = λ stage c x below d lt stands. absurd (no_mismatch stage c x);
+        named = λ stage c x. absurd (no_mismatch stage c x);
+        alone = λ stage c stands settles younger.
+            let e = same_test (successor k (row ∷ earlier) c) (plain_fetch k (fetch_address k earlier) row) (alone_address stage c stands settles younger) in
+            rw e is.redirect;
+        flushed_only = λ s q. cc (flushes_none s, q);
+        named_only = λ a q. cc (is.redirect, q);
+      }
+
+  -- Stops
+
+  pub fetch_now : fetch_after m.fetch (seen_by k m) ≡ fetch_address k (row ∷ earlier)
+  unfolding fetch_address
+  fetch_now = fetch_told row m.fetch (seen_by k m) flushes_none ∙ rw (is.redirect, is.cells, ← inv.fetch_is) refl
+
+  stopper_stops : (stop : Stop) (x : Stopper k 0 (seen_by k m) stop) → Stands k row x.index x.token.cell × StopsRun k earlier row x.index x.token.cell stop
+  stopper_stops stop x =
+      let z : 0 + x.index ≡ x.index = omega arith in
+      let stands : Stands k row x.index x.token.cell = ap (λ l. slice_get l x.index) is.cells ∙ x.here in
+      let at = cell_at x.index x.token.cell stands in
+      let pair : ◌≡◌ {A = Slots} (Some x.token ∷ x.older) (Some at.token ∷ at.older) = sym x.rest ∙ at.rest in
+      let token : x.token ≡ at.token = cc in
+      let older : x.older ≡ at.older = cc in
+      let stops : stops_now k.shape x.index at.token.instruction at.older ≡ true = ap (λ (t : Token). stops_now k.shape x.index t.instruction at.older) (sym token) ∙ ap (λ l. stops_now k.shape x.index x.token.instruction l) (sym older) ∙ ap (λ n. stops_now k.shape n x.token.instruction x.older) (sym z) ∙ x.stops in
+      let y = then_stops k shape earlier row (seen_by k m) told x.index at.token at.older at.rest at.placed stops in
+      let word : stop_of at.token.instruction ≡ Some stop = ap (λ (t : Token). stop_of t.instruction) (sym token) ∙ x.word in
+      let same : y.0 ≡ stop = cc (sym y.1 ∙ word) in
+      (stands, subst (λ d. StopsRun k earlier row x.index d stop) at.is (subst (λ q. StopsRun k earlier row x.index at.token.cell q) same y.2))
+
+  cell_stops : (stage : ℕ) (c : Cell) (stop : Stop) → Stands k row stage c → StopsRun k earlier row stage c stop → slot_stop k.shape 0 (seen_by k m) ≡ Some stop
+  cell_stops stage c stop stands s =
+      let at = cell_at stage c stands in
+      let s' = subst (λ d. StopsRun k earlier row stage d stop) (sym at.is) s in
+      let n = stops_then k shape earlier row (seen_by k m) told stage at.token at.older at.rest at.placed stop s' in
+      let y = then_stops k shape earlier row (seen_by k m) told stage at.token at.older at.rest at.placed n in
+      let same : y.0 ≡ stop = cc (sym y.2.due ∙ s'.due) in
+      let e = s.executing in
+      slot_stop_at k 0 stage (seen_by k m) at.older at.token stop (omega (arith, e)) at.rest (ap (λ j. stops_now k.shape j at.token.instruction at.older) (sym e) ∙ n) (y.1 ∙ ap Some same)
+
+  fetch_case : (b : Bool) (o : Option ℕ) (stop : Stop) → (if b || is_some o then None else Some Fetch) ≡ Some stop → (b ≡ false) × (o ≡ None) × (stop ≡ Fetch)
+  fetch_case true o stop h = cc
+  fetch_case false None stop h = (refl, refl, cc)
+  fetch_case false (Some w) stop h = cc
+
+  empty_after : remains (seen_by k m) ≡ false → IsEmptyAfter k row
+  empty_after e stage c stands =
+      let x = remains_none (seen_by k m) e stage c (stands_seen stage c stands) in
+      inr (x.0 ∙ seen_length, x.1)
+
+  after_empty : IsEmptyAfter k row → remains (seen_by k m) ≡ false
+  after_empty f = none_remains (seen_by k m) (λ n c q.
+      let stands : Stands k row n c = ap (λ l. slice_get l n) is.cells ∙ q in
+      elim (f n c stands) [ inl x ↦ cc (flushes_none c.serial, x) | inr x ↦ (x.0 ∙ sym seen_length, x.1) ])
+
+  row_stops : StopsRightly k earlier row
+  row_stops =
+      record {
+        cause = λ stop e. why stop (slot_stop k.shape 0 (seen_by k m)) refl (sym is.stop ∙ e);
+        of_cell = λ stage c stop stands s. is.stop ∙ (let n = cell_stops stage c stop stands s in rw n);
+        of_fetch = λ f w. is.stop ∙ nothing_left f w (slot_stop k.shape 0 (seen_by k m)) refl;
+      } where
+        why : (stop : Stop) (o : Option Stop) → slot_stop k.shape 0 (seen_by k m) ≡ o → or_else o (if remains (seen_by k m) || is_some (word_at k.image (fetch_after m.fetch (seen_by k m))) then None else Some Fetch) ≡ Some stop → ((stage : ℕ) × (c : Cell) × Stands k row stage c × StopsRun k earlier row stage c stop) ⊎ ((stop ≡ Fetch) × IsEmptyAfter k row × (word_at k.image (fetch_address k (row ∷ earlier)) ≡ None))
+        why stop (Some s) q e =
+            let x = stopper k 0 (seen_by k m) stop (q ∙ e) in
+            let y = stopper_stops stop x in
+            inl (x.index, x.token.cell, y.0, y.1)
+        why stop None q e =
+            let f = fetch_case (remains (seen_by k m)) (word_at k.image (fetch_after m.fetch (seen_by k m))) stop e in
+            inr (f.2, empty_after f.0, ap (λ n. word_at k.image n) (sym fetch_now) ∙ f.1)
+
+        nothing_left : IsEmptyAfter k row → word_at k.image (fetch_address k (row ∷ earlier)) ≡ None → (o : Option Stop) → slot_stop k.shape 0 (seen_by k m) ≡ o → or_else o (if remains (seen_by k m) || is_some (word_at k.image (fetch_after m.fetch (seen_by k m))) then None else Some Fetch) ≡ Some Fetch
+        nothing_left f w None q =
+            let e = after_empty f in
+            let a = ap (λ n. word_at k.image n) fetch_now ∙ w in
+            rw (e, a)
+        nothing_left f w (Some s) q =
+            let x = stopper k 0 (seen_by k m) s q in
+            let y = stopper_stops s x in
+            let ex = y.1.executing in
+            let last = shape.ex_last in
+            elim (f x.index x.token.cell y.0) [ inl z ↦ cc (flushes_none x.token.cell.serial, z) | inr z ↦ absurd (omega (arith, ex, last, z.0)) ]
+
+  empty_drop : (n m : ℕ) → AreEmpty (drop n (replicate m None))
+  empty_drop zero zero = tt
+  empty_drop zero (suc m) = empty_drop zero m
+  empty_drop (suc n) zero = tt
+  empty_drop (suc n) (suc m) = empty_drop n m
+
+  row_form : IsInForm k row
+  row_form =
+      record {
+        behind = subst AreEmpty (sym is.behind) (empty_drop k.shape.stages 5);
+        ascending = subst (λ l. AscendFrom None l) (sym is.flushed) tt;
+      }
+
+  pub lawful : LawfulRow k earlier row
+  lawful = record {
+    form = row_form;
+    moves = row_moves;
+    retires = row_retires;
+    holds = λ stage c stands. shows k shape earlier row (seen_by k m) told stage c stands;
+    successors = row_successors;
+    units = is.written;
+    stops = row_stops;
+  }
+
+  -- Agreement with the run
+
+  retired_at : (s : ℕ) (c : Commit) → row.retired ≡ Some (s, c) → (s ≡ retirements earlier) × (step k.image (run k.image (retirements earlier)) ≡ Done c)
+  retired_at s c e = elim goes_out [
+    | inl n ↦ cc (n.1, e)
+    | inr y ↦
+        let pair : ◌≡◌ {A = ℕ × Commit} (retirements earlier, y.0.commit) (s, c) = cc (sym y.0.is_retired ∙ e) in
+        (sym (ap (λ (x : ℕ × Commit). x.0) pair), y.0.recorded ∙ ap (λ (x : ℕ × Commit). Done x.1) pair)
+  ]
+
+  -- at the stop every older token goes out
+  drain_none : (o : Option ℕ) → drain o ≡ None → o ≡ None
+  drain_none None h = refl
+  drain_none (Some j) h = cc
+
+  stop_place : (stop : Stop) (x : Stopper k 0 (seen_by k m) stop) (at : At k (retirements earlier) x.index x.token.cell (seen_by k m)) → StopsRun k earlier row x.index x.token.cell stop → retirements earlier + count at.older ≡ retirements earlier + out_of (seen_by k m)
+  stop_place stop x at s =
+      let s' = subst (λ d. StopsRun k earlier row x.index d stop) (sym at.is) s in
+      let n = stops_then k shape earlier row (seen_by k m) told x.index at.token at.older at.rest at.placed stop s' in
+      by_older at.older at.token at.rest at.placed n where
+        no_drain : (older : Slots) (i : Option Instruction) → stops_now k.shape x.index i older ≡ true → staying older ≡ None
+        no_drain older i n = by_case (x.index == k.shape.ex) (is_some (stop_of i)) refl refl (own_hold k.shape x.index i older) refl n where
+          by_case : (b d : Bool) → (x.index == k.shape.ex) ≡ b → is_some (stop_of i) ≡ d → (o : Option Hold) → own_hold k.shape x.index i older ≡ o → (b && d && is_none o) ≡ true → staying older ≡ None
+          by_case true true e w None q y = drain_none (staying older) (if_so _ (drain (staying older)) (all_two (x.index == k.shape.ex) (is_some (stop_of i)) e w) (or_else_none_b _ _ q)) where
+            if_so : (c : Bool) (z : Option Hold) → c ≡ true → (if c then z else None) ≡ None → z ≡ None
+            if_so true z p q = q
+            if_so false z p q = cc
+
+            all_two : (a b : Bool) → a ≡ true → b ≡ true → (a && b) ≡ true
+            all_two a b p q = rw (p, q)
+          by_case true true e w (Some h) q y = cc
+          by_case true false e w o q y = cc
+          by_case false d e w o q y = cc
+
+        by_older : (older : Slots) (t : Token) → drop x.index (seen_by k m) ≡ Some t ∷ older → Placed k (retirements earlier) x.index (Some t ∷ older) → stops_now k.shape x.index t.instruction older ≡ true → retirements earlier + count older ≡ retirements earlier + out_of (seen_by k m)
+        by_older older t rest placed n =
+            let stay = sym (staying_is k (retirements earlier) (suc x.index) older placed.1) ∙ no_drain older t.instruction n in
+            let le = out_le older in
+            let some = longer x.index older t rest s.executing in
+            all_out older (nat_lt (out_of older) (count older)) refl stay some rest where
+              longer : (n : ℕ) (older : Slots) (t : Token) → drop n (seen_by k m) ≡ Some t ∷ older → n ≡ k.shape.ex → 0 < length older
+              longer n older t rest e =
+                  let l = ap length rest in
+                  let d = length-drop n (seen_by k m) in
+                  let a = shape.ex_last in
+                  omega (arith, l, d, a, e, seen_length)
+
+              all_out : (older : Slots) (b : Bool) → nat_lt (out_of older) (count older) ≡ b → (if b then Some (retirements earlier + out_of older) else None) ≡ None → 0 < length older → drop x.index (seen_by k m) ≡ Some t ∷ older → retirements earlier + count older ≡ retirements earlier + out_of (seen_by k m)
+              all_out older true q e lt rest = cc
+              all_out [] false q e lt rest = absurd (omega arith)
+              all_out (u ∷ rest') false q e lt rest =
+                  let same = out_drop (seen_by k m) (u ∷ rest') (Some t) x.index rest in
+                  let le = out_le (u ∷ rest') in
+                  let ge = above (out_of (u ∷ rest')) (count (u ∷ rest')) q in
+                  omega (arith, same, le, ge) where
+                    above : (a b : ℕ) → nat_lt a b ≡ false → b ≤ a
+                    above a b q = grind (arith, nat_tests)
+
+  stop_agrees : (stop : Stop) → row.stop ≡ Some stop → step k.image (run k.image (retirements (row ∷ earlier))) ≡ Stopped stop
+  stop_agrees stop e = why (slot_stop k.shape 0 (seen_by k m)) refl (sym is.stop ∙ e) where
+    why : (o : Option Stop) → slot_stop k.shape 0 (seen_by k m) ≡ o → or_else o (if remains (seen_by k m) || is_some (word_at k.image (fetch_after m.fetch (seen_by k m))) then None else Some Fetch) ≡ Some stop → step k.image (run k.image (retirements (row ∷ earlier))) ≡ Stopped stop
+    why (Some s) q e =
+        let x = stopper k 0 (seen_by k m) stop (q ∙ e) in
+        let y = stopper_stops stop x in
+        let at = cell_at x.index x.token.cell y.0 in
+        let p = place_is (row ∷ earlier) x.token.cell.serial unflushed_now ∙ serial_place x.index x.token.cell y.0 ∙ stop_place stop x at y.1 ∙ sym retired_now in
+        ap (λ n. step k.image (run k.image n)) (sym p) ∙ sym (ap (λ (c : Course). c.answer (place (row ∷ earlier) x.token.cell.serial)) shape.course) ∙ y.1.due
+    why None q e =
+        let f = fetch_case (remains (seen_by k m)) (word_at k.image (fetch_after m.fetch (seen_by k m))) stop e in
+        let all = remains_count (seen_by k m) f.0 in
+        let c = fetch_left f.0 in
+        let at : fetch_after m.fetch (seen_by k m) ≡ 4 * retirements (row ∷ earlier) = omega (arith, c, all, retired_now) in
+        step_at k.image (run k.image (retirements (row ∷ earlier))) (retirements (row ∷ earlier)) state_now.1
+        ∙ ap (λ o. answer_at (run k.image (retirements (row ∷ earlier))) o) (sym (word_at-four k.image (retirements (row ∷ earlier))) ∙ ap (λ n. word_at k.image n) (sym at) ∙ f.1)
+        ∙ ap Stopped (sym f.2) where
+          fetch_left : remains (seen_by k m) ≡ false → fetch_after m.fetch (seen_by k m) ≡ 4 * (retirements earlier + count (seen_by k m))
+          fetch_left rem = by_slots (seen_by k m) rem seen_length seen_tail where
+            by_slots : (l : Slots) → remains l ≡ false → length l ≡ k.shape.stages → m.fetch ≡ 4 * (retirements earlier + count (tail l)) → fetch_after m.fetch l ≡ 4 * (retirements earlier + count l)
+            by_slots [] rem len t = t
+            by_slots (None ∷ l) rem len t = t
+            by_slots (Some u ∷ []) rem len t = let a = shape.ex_last in let b = shape.rd_pos in absurd (omega (arith, a, b, len))
+            by_slots (Some u ∷ v ∷ l) rem len t = cc
+
+  pub agrees : AgreesWithRun k earlier row
+  agrees = record {
+    placed = λ s c e. place_is (row ∷ earlier) s unflushed_now ∙ (retired_at s c e).0;
+    recorded = λ s c e. (retired_at s c e).1;
+    state = architecture_now;
+    stop = stop_agrees;
+  }
+
+  -- The next row
+
+  no_stop : row.stop ≡ None → NoStops k 0 (seen_by k m)
+  no_stop e = no_stops k 0 (seen_by k m) (or_else_none (slot_stop k.shape 0 (seen_by k m)) _ (sym is.stop ∙ e))
+
+  next_few : next_after m.next (first_slot m.slots) (word_at k.image m.fetch) ≤ length k.image
+  next_few =
+      few_more k.image m.next (retirements earlier + count (tail m.slots)) m.slots (word_at k.image m.fetch) inv.few (sym fetched_word)
+      (λ e. first_count m.slots e inv.next)
+      (λ word w. slice_get_below k.image (retirements earlier + count (tail m.slots)) word (sym fetched_word ∙ w)) where
+        first_count : (slots : Slots) → first_slot slots ≡ None → m.next ≡ retirements earlier + count slots → retirements earlier + count (tail slots) ≡ m.next
+        first_count [] e n = sym n
+        first_count (None ∷ older) e n = sym n
+        first_count (Some t ∷ older) e n = cc
+
+  counted : row.stop ≡ None → count (seen_by k m) ≡ count (advanced k.shape m.arch.x 0 None (seen_by k m)) + out_of (seen_by k m)
+  counted e =
+      let c = count_advanced k m.arch.x 0 None (seen_by k m) seen_decided (no_stop e) (λ _. refl) in
+      omega (arith, c, left_out)
+
+  placed_next : row.stop ≡ None → Placed k (retirements (row ∷ earlier)) 0 (advanced k.shape m.arch.x 0 None (seen_by k m))
+  placed_next e =
+      let p = placed_advanced k shape (retirements earlier) 0 None (seen_by k m) seen_placed seen_decided (no_stop e) (λ _. refl) tt in
+      let p' = subst (λ (s : Arch). Placed k (retirements earlier + one_more (leaving k.shape s.x 0 None (seen_by k m)) 0) 0 (advanced k.shape s.x 0 None (seen_by k m))) (sym inv.arch) p in
+      subst (λ n. Placed k n 0 (advanced k.shape m.arch.x 0 None (seen_by k m))) (ap (λ n. retirements earlier + n) left_out ∙ sym retired_now) p'
+
+  retired_left : row.retired ≡ retired_of (leaving k.shape m.arch.x 0 None (seen_by k m))
+  retired_left = is.retired
+
+  progress_next : row.stop ≡ None → rows_without (row ∷ earlier) + rank k.shape.stages (advanced k.shape m.arch.x 0 None (seen_by k m)) ≤ k.shape.stages + 1
+  unfolding rows_without
+  progress_next e = elim goes_out [ inr y ↦ after_retirement y.0 | inl n ↦ before_retirement n.0 n.1 ] where
+    fetch_stop : remains (seen_by k m) ≡ false → word_at k.image (fetch_after m.fetch (seen_by k m)) ≡ None → or_else (slot_stop k.shape 0 (seen_by k m)) (if remains (seen_by k m) || is_some (word_at k.image (fetch_after m.fetch (seen_by k m))) then None else Some Fetch) ≡ Some Fetch
+    fetch_stop r w = let n = or_else_none (slot_stop k.shape 0 (seen_by k m)) _ (sym is.stop ∙ e) in rw (n, r, w)
+
+    after_retirement : Retirement (leaving k.shape m.arch.x 0 None (seen_by k m)) row.retired → (if is_some row.retired then 0 else suc (rows_without earlier)) + rank k.shape.stages (advanced k.shape m.arch.x 0 None (seen_by k m)) ≤ k.shape.stages + 1
+    after_retirement y =
+        let a = to_go-le (advanced k.shape m.arch.x 0 None (seen_by k m)) in
+        let b = advanced_length k m.arch.x 0 None (seen_by k m) in
+        let c = first_le (to_go (advanced k.shape m.arch.x 0 None (seen_by k m))) (suc k.shape.stages) (k.shape.stages + 1) (omega (arith, a, b, seen_length)) (omega arith) in
+        rw y.is_retired (omega (arith, c))
+
+    before_retirement : leaving k.shape m.arch.x 0 None (seen_by k m) ≡ None → row.retired ≡ None → (if is_some row.retired then 0 else suc (rows_without earlier)) + rank k.shape.stages (advanced k.shape m.arch.x 0 None (seen_by k m)) ≤ k.shape.stages + 1
+    before_retirement l q =
+        let a = shape.ex_last in
+        let d = to_go-decided k 0 (fill_first m.slots m.next m.fetch (word_at k.image m.fetch)) in
+        elim (fill_rank m.slots m.next m.fetch (word_at k.image m.fetch) k.shape.stages inv.stages (omega (arith, a))) [
+          | inl x ↦
+              let f = rank_falls k m.arch.x k.shape.stages x.0 (seen_by k m) seen_decided (no_stop e) l (d ∙ x.1) in
+              let p = inv.progress in
+              rw q (omega (arith, f, x.2, p))
+          | inr x ↦
+              let z = nothing_there (seen_by k m) m.fetch (d ∙ x.1) in
+              let stop : row.stop ≡ Some Fetch = is.stop ∙ fetch_stop z.0 (ap (λ n. word_at k.image n) z.1 ∙ x.0) in
+              cc (e, stop)
+        ]
+
+  serial_of_row : next_serial k (row ∷ earlier) ≡ next_after m.next (first_slot m.slots) (word_at k.image m.fetch)
+  unfolding next_serial
+  serial_of_row =
+      let a = shape.ex_last in
+      rw (is.cells, ← inv.next_is) (serial_told k (retirements earlier) m.next m.fetch m.slots (word_at k.image m.fetch) (omega (arith, inv.stages, a)) inv.placed inv.next)
+
+  pub goes_next : row.stop ≡ None → Inv k (row ∷ earlier) (machine_after k m)
+  goes_next e =
+      let c = counted e in
+      record {
+        stages = advanced_length k m.arch.x 0 None (seen_by k m) ∙ seen_length;
+        arch = ap (λ o. arch_after m.arch o) (sym is.retired) ∙ state_now.0;
+        pc = state_now.1;
+        next = seen_count ∙ omega (arith, c, retired_now);
+        fetch = fetch_place k m.arch.x (retirements earlier) (out_of (seen_by k m)) m.fetch (seen_by k m) some_stages seen_placed few_seen seen_tail c
+            ∙ ap (λ n. 4 * (n + count (tail (advanced k.shape m.arch.x 0 None (seen_by k m))))) (sym retired_now);
+        few = next_few;
+        placed = placed_next e;
+        fetch_is = fetch_now;
+        next_is = serial_now;
+        moved = moves_now (no_stop e);
+        words = words_now;
+        retired = λ s. told_retired s ∙ ap (λ n. nat_lt s n) (sym retired_now);
+        unflushed = unflushed_now;
+        state = architecture_now;
+        progress = progress_next e;
+      } where
+        few_seen : retirements earlier + count (seen_by k m) ≤ 65536
+        few_seen = let a = shape.few_words in omega (arith, seen_count, next_few, a)
+
+        moves_now : NoStops k 0 (seen_by k m) → MovesInto row None (stages_of k row) (names_of (cells_of (advanced k.shape m.arch.x 0 None (seen_by k m))))
+        moves_now n = rw is.cells (moves_on k m.arch.x row 0 None (seen_by k m) flushes_none seen_decided n (λ _. refl))
+
+        serial_now : next_after m.next (first_slot m.slots) (word_at k.image m.fetch) ≡ next_serial k (row ∷ earlier)
+        serial_now = sym serial_of_row

@@ -1,0 +1,146 @@
+-- A machine over its rows is sound, at first and after each row.
+use Rattle.std.proofs.Common.{◌≡◌, ℕ, zero, suc, ◌+◌, ◌*◌, ◌<◌, ◌≤◌, List, [], ◌∷◌, ◌++◌, take, length, None, Bool, true, false, refl, sym, ap, ◌∙◌, subst, arith}
+use Rattle.std.specs.Prelude.{replicate, reverse, is_some, nat_lt, if◌then◌else◌}
+use Rattle.std.proofs.lemmas.List.{length-take, reverse-append}
+use Rattle.std.proofs.lemmas.Bool.Decides.{nat_tests}
+use Rattle.rv_core.specs.declared.Shape.{Shape}
+use Rattle.rv_trace.specs.declared.row.Row.{Row}
+use Rattle.rv_pipe.specs.declared.stages.Kept.{Kept}
+use Rattle.rv_seq.specs.SequentialRun.{run}
+use Rattle.rv_trace.specs.Trace.{Setting, setting, newest, blank, is_flushed, is_retired, retirements, architecture, rows_without}
+use Rattle.rv_trace.specs.LawfulTrace.{MovesInto, names_of, fetch_address, next_serial}
+use Rattle.rv_trace.specs.Headline.{Headline, progress_bound}
+use Rattle.rv_pipe.specs.PlainMachine.{Machine, Slots, machine_of, first_kept, cells_of, IsRowOf, machine_after, arch_after}
+use Rattle.rv_pipe.specs.Placed.{count, tail, to_go, rank, first_of_two, Placed, IsShape, Inv, IsSound}
+use Rattle.rv_pipe.proofs.Rows.{lawful, agrees, goes_next, architecture_now, state_now}
+
+pub the_shape : (shape : Shape) (image : List ℕ) → length image ≤ 65536 → IsShape (setting image shape)
+the_shape shape image few =
+    let a = shape.lawful.memory_late in
+    let b = shape.lawful.memory_inside in
+    record { course = refl; rd_pos = shape.lawful.reads_late; rd_ex = shape.lawful.reads_first; ex_last = omega (arith, a, b); few_words = few }
+
+abbrev nothing : ℕ → ℕ → Slots
+nothing n m = take n (replicate m None)
+
+moves_none : (n m : ℕ) → MovesInto blank None (take n (replicate m None)) (names_of (cells_of (nothing n m)))
+moves_none zero m = tt
+moves_none (suc n) zero = tt
+moves_none (suc n) (suc m) = (refl, moves_none n m)
+
+placed_none : (k : Setting) (stage n m : ℕ) → Placed k 0 stage (nothing n m)
+placed_none k stage zero m = tt
+placed_none k stage (suc n) zero = tt
+placed_none k stage (suc n) (suc m) = (tt, placed_none k (suc stage) n m)
+
+count_none : (n m : ℕ) → count (nothing n m) ≡ 0
+count_none zero m = refl
+count_none (suc n) zero = refl
+count_none (suc n) (suc m) = count_none n m
+
+tail_none : (n m : ℕ) → count (tail (nothing n m)) ≡ 0
+tail_none zero m = refl
+tail_none (suc n) zero = refl
+tail_none (suc n) (suc m) = count_none n m
+
+to_go-none : (n m : ℕ) → to_go (nothing n m) ≡ 0
+to_go-none zero m = refl
+to_go-none (suc n) zero = refl
+to_go-none (suc n) (suc m) = rw (to_go-none n m)
+
+none_below : (s : ℕ) → nat_lt s 0 ≡ false
+none_below s = grind (arith, nat_tests)
+
+first_inv : (shape : Shape) (image : List ℕ) → length image ≤ 65536 → Inv (setting image shape) [] (machine_of shape first_kept)
+unfolding retirements is_flushed is_retired fetch_address next_serial run architecture rows_without
+first_inv shape image few =
+    let most = shape.lawful.most in
+    let c = count_none shape.stages 5 in
+    let t = tail_none shape.stages 5 in
+    let z : 4 * (0 + count (tail (nothing shape.stages 5))) ≡ 0 = omega (arith, t) in
+    let g = to_go-none shape.stages 5 in
+    record {
+      stages = length-take shape.stages (replicate 5 None) ∙ omega (arith, most);
+      arch = refl;
+      pc = refl;
+      next = omega (arith, c);
+      fetch = sym z;
+      few = omega arith;
+      placed = placed_none (setting image shape) 0 shape.stages 5;
+      fetch_is = refl;
+      next_is = refl;
+      moved = moves_none shape.stages 5;
+      words = λ s word h. absurd h;
+      retired = λ s. sym (none_below s);
+      unflushed = λ s. refl;
+      state = refl;
+      progress = rw g (omega arith);
+    }
+
+pub sound_first : (shape : Shape) (image : List ℕ) → length image ≤ 65536 → IsSound shape image first_kept []
+unfolding architecture
+sound_first shape image few =
+    record {
+      few_words = few;
+      headline = record { lawful = tt; agrees = tt; progress = tt };
+      going = λ _. first_inv shape image few;
+      state = refl;
+    }
+
+rank_some : (n b : ℕ) → 0 < b → 0 < first_of_two n b
+rank_some zero b lt = lt
+rank_some (suc n) b lt = omega arith
+
+module _ (shape : Shape) (image : List ℕ) (kept kept' : Kept) (rows : List Row) (row : Row)
+    (sound : IsSound shape image kept rows) (going : (newest rows).stop ≡ None)
+    (is : IsRowOf (setting image shape) (machine_of shape kept) row) (after : machine_of shape kept' ≡ machine_after (setting image shape) (machine_of shape kept)) where
+  shaped : IsShape (setting image shape)
+  shaped = the_shape shape image sound.few_words
+
+  inv : Inv (setting image shape) rows (machine_of shape kept)
+  inv = sound.going going
+
+  since : rows_without (row ∷ rows) ≤ progress_bound shape.stages 0 0
+  unfolding rows_without
+  since =
+      let p = inv.progress in
+      let s = rank_some (to_go (machine_of shape kept).slots) (suc shape.stages) (omega arith) in
+      by_case (is_some row.retired) p s where
+        by_case : (b : Bool) → rows_without rows + rank shape.stages (machine_of shape kept).slots ≤ shape.stages + 1 → 0 < rank shape.stages (machine_of shape kept).slots → (if b then 0 else suc (rows_without rows)) ≤ shape.stages + 128 + 32 + 0 + 0 + 2
+        by_case true p s = omega arith
+        by_case false p s = omega (arith, p, s)
+
+  pub headline_after : Headline image shape (row ∷ rows)
+  headline_after = record {
+    lawful = (lawful (setting image shape) shaped rows (machine_of shape kept) row inv is, going, sound.headline.lawful);
+    agrees = (agrees (setting image shape) shaped rows (machine_of shape kept) row inv is, sound.headline.agrees);
+    progress = (since, sound.headline.progress);
+  }
+
+  state_after : architecture (row ∷ rows) ≡ kept'.arch
+  unfolding architecture
+  state_after =
+      architecture_now (setting image shape) shaped rows (machine_of shape kept) row inv is
+      ∙ sym (arch_now) where
+        arch_now : kept'.arch ≡ run image (retirements (row ∷ rows))
+        arch_now = ap (λ (m : Machine). m.arch) after ∙ ap (λ o. arch_after kept.arch o) (sym is.retired) ∙ state_of where
+          state_of : arch_after kept.arch row.retired ≡ run image (retirements (row ∷ rows))
+          state_of = (state_now (setting image shape) shaped rows (machine_of shape kept) row inv is).0
+
+  pub sound_after : IsSound shape image kept' (row ∷ rows)
+  sound_after = record {
+    few_words = sound.few_words;
+    headline = headline_after;
+    going = λ e. subst (λ m. Inv (setting image shape) (row ∷ rows) m) (sym after) (goes_next (setting image shape) shaped rows (machine_of shape kept) row inv is e);
+    state = state_after;
+  }
+
+-- a machine that goes on has few serials
+pub few_serials : (shape : Shape) (image : List ℕ) (kept : Kept) (rows : List Row) → IsSound shape image kept rows → (newest rows).stop ≡ None → kept.next ≤ 65536
+few_serials shape image kept rows sound going =
+    let a = (sound.going going).few in
+    let b = sound.few_words in
+    omega (arith, a, b)
+
+pub reverse_push : (rows : List Row) (row : Row) (items : List Row) → items ≡ rows ++ row ∷ [] → reverse items ≡ row ∷ reverse rows
+reverse_push rows row items e = ap reverse e ∙ reverse-append rows (row ∷ [])

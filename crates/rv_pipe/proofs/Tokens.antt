@@ -1,0 +1,295 @@
+-- After a row the tokens stand in their places again.
+use Rattle.std.proofs.Common.{◌≡◌, ◌≢◌, ℕ, zero, suc, ◌+◌, ◌<◌, ◌≤◌, List, [], ◌∷◌, length, Option, Some, None, Bool, true, false, refl, sym, ap, ◌∙◌, subst, arith, add-zero, add-suc, inl, inr}
+use Rattle.std.specs.Prelude.{◌&&◌, if◌then◌else◌, ◌==◌, is_some, is_none, slice_index, min, max}
+use Rattle.std.proofs.lemmas.Bool.{cases_lt}
+use Rattle.std.proofs.lemmas.Bool.Decides.{nat_tests}
+use Rattle.rv_trace.specs.declared.row.Hold.{Hold}
+use Rattle.rv_trace.specs.declared.row.Hold.TheVariants.{Behind}
+use Rattle.rv_seq.specs.declared.instruction.Instruction.{Instruction}
+use Rattle.rv_seq.specs.declared.instruction.Instruction.TheVariants.{AddImmediate, Add, Break}
+use Rattle.rv_pipe.specs.declared.stages.Token.{Token}
+use Rattle.rv_seq.specs.SequentialRun.{run}
+use Rattle.rv_trace.specs.Trace.{Setting}
+use Rattle.rv_trace.specs.LawfulTrace.{destination_of, name_of, names_of}
+use Rattle.rv_pipe.specs.PlainMachine.{Slots, or_else, writer, operand, waits_for, operand_hold, stop_of, own_hold, stops_now, is_blocked, shown, decided, value_of, gone, going, kept, advanced, leaving, first_slot, cells_of}
+use Rattle.rv_pipe.specs.Placed.{one_more, count, IsPlaced, IsPlacedSlot, Placed, IsShape}
+use Rattle.rv_pipe.proofs.Runs.{run_other, run_zero, slice_get_below}
+
+-- Tests
+
+pub or_else_none : {A : Type 0} (a b : Option A) → or_else a b ≡ None → a ≡ None
+or_else_none None b h = refl
+or_else_none (Some x) b h = cc
+
+pub or_else_none_b : {A : Type 0} (a b : Option A) → or_else a b ≡ None → b ≡ None
+or_else_none_b None b h = h
+or_else_none_b (Some x) b h = cc
+
+pub is_none_of : {A : Type 0} (o : Option A) → is_some o ≡ false → o ≡ None
+is_none_of None h = refl
+is_none_of (Some x) h = cc
+
+pub same_test : (m n : ℕ) → m ≡ n → (m == n) ≡ true
+same_test m n e = grind (arith, nat_tests)
+
+pub test_eq : (m n : ℕ) → (m == n) ≡ true → m ≡ n
+test_eq m n h = grind (arith, nat_tests)
+
+pub test_ne : (m n : ℕ) → (m == n) ≡ false → m ≢ n
+test_ne m n h = λ e. cc (same_test m n e, h)
+
+test_past : (m n : ℕ) → (n == m) ≡ false → m < suc n → m < n
+test_past m n h lt = grind (arith, nat_tests)
+
+pub if_none : {A : Type 0} (b : Bool) (a : A) → (if b then Some a else None) ≡ None → b ≡ false
+if_none true a h = cc
+if_none false a h = refl
+
+-- Holds that are decided
+
+-- each token shows its hold
+abbrev pub Decided : Setting → ℕ → Slots → Type 0
+Decided k stage [] = Unit {0}
+Decided k stage (None ∷ older) = Decided k (suc stage) older
+Decided k stage (Some t ∷ older) = (t.cell.hold ≡ shown k.shape stage t.instruction older) × Decided k (suc stage) older
+
+pub decided_is : (k : Setting) (stage : ℕ) (slots : Slots) → Decided k stage (decided k.shape stage slots)
+decided_is k stage [] = tt
+decided_is k stage (None ∷ older) = decided_is k (suc stage) older
+decided_is k stage (Some t ∷ older) = (refl, decided_is k (suc stage) older)
+
+pub decided_count : (k : Setting) (stage : ℕ) (slots : Slots) → count (decided k.shape stage slots) ≡ count slots
+decided_count k stage [] = refl
+decided_count k stage (None ∷ older) = decided_count k (suc stage) older
+decided_count k stage (Some t ∷ older) = ap suc (decided_count k (suc stage) older)
+
+pub decided_length : (k : Setting) (stage : ℕ) (slots : Slots) → length (decided k.shape stage slots) ≡ length slots
+decided_length k stage [] = refl
+decided_length k stage (s ∷ older) = ap suc (decided_length k (suc stage) older)
+
+pub decided_names : (k : Setting) (stage : ℕ) (slots : Slots) → names_of (cells_of (decided k.shape stage slots)) ≡ names_of (cells_of slots)
+decided_names k stage [] = refl
+decided_names k stage (None ∷ older) = ap (λ l. None ∷ l) (decided_names k (suc stage) older)
+decided_names k stage (Some t ∷ older) = ap (λ l. name_of (Some t.cell) ∷ l) (decided_names k (suc stage) older)
+
+pub decided_placed : (k : Setting) (r stage : ℕ) (slots : Slots) → Placed k r stage slots → Placed k r stage (decided k.shape stage slots)
+decided_placed k r stage [] h = tt
+decided_placed k r stage (None ∷ older) h = (tt, decided_placed k r (suc stage) older h.1)
+decided_placed k r stage (Some t ∷ older) h = (
+  rw (decided_count k (suc stage) older) (record { serial = h.0.serial; at = h.0.at; word = h.0.word; decoded = h.0.decoded; value = h.0.value; goes = h.0.goes }),
+  decided_placed k r (suc stage) older h.1,
+)
+
+-- no token stops the run
+abbrev pub NoStops : Setting → ℕ → Slots → Type 0
+NoStops k stage [] = Unit {0}
+NoStops k stage (None ∷ older) = NoStops k (suc stage) older
+NoStops k stage (Some t ∷ older) = (stops_now k.shape stage t.instruction older ≡ false) × NoStops k (suc stage) older
+
+pub decided_tail : (k : Setting) (stage : ℕ) (s : Option Token) (older : Slots) → Decided k stage (s ∷ older) → Decided k (suc stage) older
+decided_tail k stage None older d = d
+decided_tail k stage (Some t) older d = d.1
+
+pub no_stops_tail : (k : Setting) (stage : ℕ) (s : Option Token) (older : Slots) → NoStops k stage (s ∷ older) → NoStops k (suc stage) older
+no_stops_tail k stage None older d = d
+no_stops_tail k stage (Some t) older d = d.1
+
+-- what neither is held nor stops the run has no hold of its own
+pub own_none : (k : Setting) (stage : ℕ) (i : Option Instruction) (older : Slots) (hold : Option Hold) → hold ≡ shown k.shape stage i older → is_some hold ≡ false → stops_now k.shape stage i older ≡ false → own_hold k.shape stage i older ≡ None
+own_none k stage i older hold e h n =
+    let shown_none : shown k.shape stage i older ≡ None = sym e ∙ is_none_of hold h in
+    or_else_none (own_hold k.shape stage i older) _ (rw n at shown_none)
+
+pub not_due : (k : Setting) (stage : ℕ) (i : Option Instruction) (older : Slots) → own_hold k.shape stage i older ≡ None → stops_now k.shape stage i older ≡ false → stage ≡ k.shape.ex → stop_of i ≡ None
+not_due k stage i older h n e = by_case (stage == k.shape.ex) (is_some (stop_of i)) refl refl (rw h at n) where
+  by_case : (a b : Bool) → (stage == k.shape.ex) ≡ a → is_some (stop_of i) ≡ b → (a && b && true) ≡ false → stop_of i ≡ None
+  by_case a false ea eb q = is_none_of (stop_of i) eb
+  by_case true true ea eb q = cc
+  by_case false true ea eb q = cc (same_test stage k.shape.ex e, ea)
+
+pub no_operand : (k : Setting) (stage : ℕ) (i : Option Instruction) (older : Slots) → own_hold k.shape stage i older ≡ None → stage ≡ k.shape.rd → operand_hold older i ≡ None
+no_operand k stage i older h e =
+    let same = same_test stage k.shape.rd e in
+    or_else_none (operand_hold older i) _ (rw same at h)
+
+-- Operands
+
+pub no_destination : (older : Slots) (t : Token) (reg : ℕ) → writer reg (Some t ∷ older) ≡ None → destination_of t.instruction ≢ reg
+no_destination older t reg h =
+    test_ne (destination_of t.instruction) reg
+    (if_none (destination_of t.instruction == reg) t.cell.serial (or_else_none_b (writer reg older) _ h))
+
+-- a register that no older token writes
+pub unwritten : (k : Setting) (shape : IsShape k) (r stage reg : ℕ) (older : Slots) → Placed k r stage older → writer reg older ≡ None → slice_index (run k.image (r + count older)).x reg ≡ slice_index (run k.image r).x reg
+unwritten k shape r stage reg [] h w = rw add-zero
+unwritten k shape r stage reg (None ∷ older) h w = unwritten k shape r (suc stage) reg older h.1 w
+unwritten k shape r stage reg (Some t ∷ older) h w =
+    let w1 = or_else_none (writer reg older) _ w in
+    let lt = slice_get_below k.image (r + count older) t.cell.word h.0.word in
+    rw (add-suc r (count older))
+    (run_other k.image (r + count older) t.cell.word reg shape.few_words h.0.word lt (λ e. no_destination older t reg w (ap destination_of h.0.decoded ∙ e))
+    ∙ unwritten k shape r (suc stage) reg older h.1 w1)
+
+operand_none : (reg : ℕ) (o : Option ℕ) → operand reg o ≡ None → o ≡ None
+operand_none reg None h = refl
+operand_none reg (Some j) h = cc
+
+-- an operand that is not waited for is the run's
+pub operand_ready : (k : Setting) (shape : IsShape k) (r stage reg : ℕ) (older : Slots) → Placed k r stage older → waits_for reg older ≡ None → slice_index (run k.image r).x reg ≡ slice_index (run k.image (r + count older)).x reg
+operand_ready k shape r stage zero older h w = run_zero k.image r ∙ sym (run_zero k.image (r + count older))
+operand_ready k shape r stage (suc m) older h w =
+    let nz : (suc m == 0) ≡ false = grind (arith, nat_tests) in
+    sym (unwritten k shape r stage (suc m) older h (operand_none (suc m) (writer (suc m) older) (rw nz at w)))
+
+-- what holds at the lesser and at the greater holds at both
+min_max_first : (f g : ℕ → ℕ) (a b : ℕ) → f (min a b) ≡ g (min a b) → f (max a b) ≡ g (max a b) → f a ≡ g a
+min_max_first f g a b h e = grind arith
+
+min_max_second : (f g : ℕ → ℕ) (a b : ℕ) → f (min a b) ≡ g (min a b) → f (max a b) ≡ g (max a b) → f b ≡ g b
+min_max_second f g a b h e = grind arith
+
+pub value_ready : (older : Slots) (o : Option Instruction) (x y : List ℕ) → ((reg : ℕ) → waits_for reg older ≡ None → slice_index x reg ≡ slice_index y reg) → operand_hold older o ≡ None → value_of o x ≡ value_of o y
+value_ready older None x y f h = refl
+value_ready older (Some Break) x y f h = refl
+value_ready older (Some (AddImmediate rd rs1 immediate)) x y f h = rw (f rs1 h)
+value_ready older (Some (Add rd rs1 rs2)) x y f h =
+    let low = f (min rs1 rs2) (or_else_none (waits_for (min rs1 rs2) older) _ h) in
+    let high = f (max rs1 rs2) (or_else_none_b (waits_for (min rs1 rs2) older) _ h) in
+    let a : slice_index x rs1 ≡ slice_index y rs1 = min_max_first (slice_index x) (slice_index y) rs1 rs2 low high in
+    let b : slice_index x rs2 ≡ slice_index y rs2 = min_max_second (slice_index x) (slice_index y) rs1 rs2 low high in
+    rw (a, b)
+
+-- Moves
+
+-- a token that goes on is placed in the next stage
+pub going_one : (k : Setting) (shape : IsShape k) (r stage : ℕ) (t : Token) (older : Slots) → IsPlaced k (r + count older) stage t → Placed k r (suc stage) older → own_hold k.shape stage t.instruction older ≡ None → stops_now k.shape stage t.instruction older ≡ false → IsPlaced k (r + count older) (suc stage) (gone k.shape (run k.image r).x stage t)
+going_one k shape r stage t older h hs own n =
+    record {
+      serial = h.serial;
+      at = h.at;
+      word = h.word;
+      decoded = h.decoded;
+      value = value_case (stage == k.shape.rd) refl;
+      goes = goes_on (stage == k.shape.ex) refl;
+    } where
+      goes_on : (b : Bool) → (stage == k.shape.ex) ≡ b → k.shape.ex < suc stage → stop_of t.instruction ≡ None
+      goes_on true e lt = not_due k stage t.instruction older own n (test_eq stage k.shape.ex e)
+      goes_on false e lt = h.goes (test_past k.shape.ex stage e lt)
+
+      value_case : (b : Bool) → (stage == k.shape.rd) ≡ b → k.shape.rd < suc stage → (if b then value_of t.instruction (run k.image r).x else t.value) ≡ value_of t.instruction (run k.image (r + count older)).x
+      value_case true e lt =
+          value_ready older t.instruction (run k.image r).x (run k.image (r + count older)).x
+          (λ reg w. operand_ready k shape r (suc stage) reg older hs w)
+          (no_operand k stage t.instruction older own (test_eq stage k.shape.rd e))
+      value_case false e lt = h.value (test_past k.shape.rd stage e lt)
+
+pub going_placed : (k : Setting) (shape : IsShape k) (r stage : ℕ) (s : Option Token) (older : Slots) → Placed k r stage (s ∷ older) → Decided k stage (s ∷ older) → NoStops k stage (s ∷ older) → IsPlacedSlot k (r + count older) (suc stage) (going k.shape (run k.image r).x stage s)
+going_placed k shape r stage None older h d n = tt
+going_placed k shape r stage (Some t) older h d n = by_case (is_some t.cell.hold) refl where
+  by_case : (b : Bool) → is_some t.cell.hold ≡ b → IsPlacedSlot k (r + count older) (suc stage) (if b then None else Some (gone k.shape (run k.image r).x stage t))
+  by_case true e = tt
+  by_case false e = going_one k shape r stage t older h.0 h.1 (own_none k stage t.instruction older t.cell.hold d.0 e n.0) n.0
+
+abbrev pub is_held : Option Token → Bool
+is_held None = false
+is_held (Some t) = is_some t.cell.hold
+
+-- what comes finds the slot free
+abbrev pub Free : Option Token → Option Token → Type 0
+Free come s = is_held s ≡ true → come ≡ None
+
+blocked_hold : (k : Setting) (stage : ℕ) (t : Token) (older : Slots) → t.cell.hold ≡ shown k.shape stage t.instruction older → stops_now k.shape stage t.instruction older ≡ false → is_blocked k.shape (suc stage) older ≡ true → is_some t.cell.hold ≡ true
+blocked_hold k stage t older d n b = ap (λ o. is_some o) (d ∙ rw (n, b) refl) ∙ any (own_hold k.shape stage t.instruction older) where
+  any : (o : Option Hold) → is_some (or_else o (Some Behind)) ≡ true
+  any None = refl
+  any (Some h) = refl
+
+held_ahead : (k : Setting) (stage : ℕ) (older : Slots) → is_held (first_slot older) ≡ true → is_blocked k.shape stage older ≡ true
+held_ahead k stage [] h = cc
+held_ahead k stage (None ∷ older) h = cc
+held_ahead k stage (Some t ∷ older) h = rw h
+
+pub free_ahead : (k : Setting) (x : List ℕ) (stage : ℕ) (s : Option Token) (older : Slots) → Decided k stage (s ∷ older) → NoStops k stage (s ∷ older) → Free (going k.shape x stage s) (first_slot older)
+free_ahead k x stage None older d n = λ h. refl
+free_ahead k x stage (Some t) older d n = λ h. rw (blocked_hold k stage t older d.0 n.0 (held_ahead k (suc stage) older h))
+
+-- as many tokens as before, but for the one that leaves
+slot_count : (k : Setting) (x : List ℕ) (stage n : ℕ) (come s : Option Token) → Free come s → one_more come (one_more s n) ≡ one_more (kept come s) (one_more (going k.shape x stage s) n)
+slot_count k x stage n come None f = refl
+slot_count k x stage n come (Some t) f = case_count (is_some t.cell.hold) n come t _ f where
+  case_count : (b : Bool) (n : ℕ) (come : Option Token) (t u : Token) → (b ≡ true → come ≡ None) → one_more come (suc n) ≡ one_more (if b then Some t else come) (one_more (if b then None else Some u) n)
+  case_count true n None t u f = refl
+  case_count true n (Some v) t u f = cc (f refl)
+  case_count false n come t u f = refl
+
+one_more_plus : (s : Option Token) (m n : ℕ) → one_more s (m + n) ≡ one_more s m + n
+one_more_plus None m n = refl
+one_more_plus (Some t) m n = omega arith
+
+pub count_advanced : (k : Setting) (x : List ℕ) (stage : ℕ) (come : Option Token) (seen : Slots) → Decided k stage seen → NoStops k stage seen → Free come (first_slot seen) → one_more come (count seen) ≡ count (advanced k.shape x stage come seen) + one_more (leaving k.shape x stage come seen) 0
+count_advanced k x stage come [] d n f = omega arith
+count_advanced k x stage come (s ∷ older) d n f =
+    slot_count k x stage (count older) come s f
+    ∙ ap (λ m. one_more (kept come s) m) (count_advanced k x (suc stage) (going k.shape x stage s) older (decided_tail k stage s older d) (no_stops_tail k stage s older n) (free_ahead k x stage s older d n))
+    ∙ one_more_plus (kept come s) _ _
+
+one_more_left : (s : Option Token) (r n : ℕ) → r + one_more s n ≡ one_more s (r + n)
+one_more_left None r n = refl
+one_more_left (Some t) r n = omega arith
+
+place_advanced : (k : Setting) (x : List ℕ) (r stage : ℕ) (come s : Option Token) (older : Slots) → Decided k stage (s ∷ older) → NoStops k stage (s ∷ older) → r + one_more (leaving k.shape x stage come (s ∷ older)) 0 + count (advanced k.shape x (suc stage) (going k.shape x stage s) older) ≡ one_more (going k.shape x stage s) (r + count older)
+place_advanced k x r stage come s older d n =
+    let c = count_advanced k x (suc stage) (going k.shape x stage s) older (decided_tail k stage s older d) (no_stops_tail k stage s older n) (free_ahead k x stage s older d n) in
+    let l = one_more_left (going k.shape x stage s) r (count older) in
+    omega (arith, c, l)
+
+slot_placed : (k : Setting) (x : List ℕ) (p stage : ℕ) (come s : Option Token) → Free come s → IsPlacedSlot k p stage s → IsPlacedSlot k (one_more s p) stage come → IsPlacedSlot k (one_more (going k.shape x stage s) p) stage (kept come s)
+slot_placed k x p stage come None f h c = c
+slot_placed k x p stage come (Some t) f h c = by_case (is_some t.cell.hold) where
+  by_case : (b : Bool) → IsPlacedSlot k (one_more (if b then None else Some (gone k.shape x stage t)) p) stage (if b then Some t else come)
+  by_case true = h
+  by_case false = c
+
+pub placed_advanced : (k : Setting) (shape : IsShape k) (r stage : ℕ) (come : Option Token) (seen : Slots) → Placed k r stage seen → Decided k stage seen → NoStops k stage seen → Free come (first_slot seen) → IsPlacedSlot k (r + count seen) stage come → Placed k (r + one_more (leaving k.shape (run k.image r).x stage come seen) 0) stage (advanced k.shape (run k.image r).x stage come seen)
+placed_advanced k shape r stage come [] h d n f c = tt
+placed_advanced k shape r stage come (s ∷ older) h d n f c =
+    let x = (run k.image r).x in
+    let here : IsPlacedSlot k (one_more s (r + count older)) stage come = rw one_more_left at c in (
+      rw (place_advanced k x r stage come s older d n) (slot_placed k x (r + count older) stage come s f h.0 here),
+      placed_advanced k shape r (suc stage) (going k.shape x stage s) older h.1 (decided_tail k stage s older d) (no_stops_tail k stage s older n) (free_ahead k x stage s older d n) (going_placed k shape r stage s older h d n),
+    )
+
+-- the token that leaves has the place r
+pub leaving_placed : (k : Setting) (shape : IsShape k) (r stage : ℕ) (come : Option Token) (seen : Slots) → Placed k r stage seen → Decided k stage seen → NoStops k stage seen → IsPlacedSlot k (r + count seen) stage come → IsPlacedSlot k r (stage + length seen) (leaving k.shape (run k.image r).x stage come seen)
+leaving_placed k shape r stage come [] h d n c = rw (add-zero stage) (rw (add-zero r) at c)
+leaving_placed k shape r stage come (s ∷ older) h d n c =
+    let e : suc stage + length older ≡ stage + length (s ∷ older) = omega arith in
+    subst (λ m. IsPlacedSlot k r m (leaving k.shape (run k.image r).x stage come (s ∷ older))) e
+    (leaving_placed k shape r (suc stage) (going k.shape (run k.image r).x stage s) older h.1 (decided_tail k stage s older d) (no_stops_tail k stage s older n) (going_placed k shape r stage s older h d n))
+
+-- at a stage past EX no token stops the run
+pub past_ex : (k : Setting) (stage : ℕ) (seen : Slots) → k.shape.ex < stage → NoStops k stage seen
+past_ex k stage [] lt = tt
+past_ex k stage (None ∷ older) lt = past_ex k (suc stage) older (omega arith)
+past_ex k stage (Some t ∷ older) lt = (never (is_some (stop_of t.instruction)) (is_none (own_hold k.shape stage t.instruction older)), past_ex k (suc stage) older (omega arith)) where
+  never : (b c : Bool) → ((stage == k.shape.ex) && b && c) ≡ false
+  never b c = grind (arith, nat_tests)
+
+-- also in the row of a stop the token that leaves has the place r
+pub last_placed : (k : Setting) (shape : IsShape k) (r stage : ℕ) (come : Option Token) (seen : Slots) → k.shape.ex + 1 < stage + length seen → stage ≤ k.shape.ex + 1 → Placed k r stage seen → Decided k stage seen → IsPlacedSlot k r (stage + length seen) (leaving k.shape (run k.image r).x stage come seen)
+last_placed k shape r stage come [] lt le h d = absurd (omega arith)
+last_placed k shape r stage come (s ∷ older) lt le h d =
+    let e : suc stage + length older ≡ stage + length (s ∷ older) = omega arith in
+    let lt' : k.shape.ex + 1 < suc stage + length older = omega arith in
+    subst (λ m. IsPlacedSlot k r m (leaving k.shape (run k.image r).x stage come (s ∷ older))) e
+    (elim (cases_lt k.shape.ex stage) [
+      | inl past ↦
+          let n = past_ex k stage (s ∷ older) past in
+          leaving_placed k shape r (suc stage) (going k.shape (run k.image r).x stage s) older h.1 (decided_tail k stage s older d) (no_stops_tail k stage s older n) (going_placed k shape r stage s older h d n)
+      | inr before ↦
+          last_placed k shape r (suc stage) (going k.shape (run k.image r).x stage s) older lt' (omega arith) h.1 (decided_tail k stage s older d)
+    ])
+
+pub advanced_length : (k : Setting) (x : List ℕ) (stage : ℕ) (come : Option Token) (seen : Slots) → length (advanced k.shape x stage come seen) ≡ length seen
+advanced_length k x stage come [] = refl
+advanced_length k x stage come (s ∷ older) = ap suc (advanced_length k x (suc stage) (going k.shape x stage s) older)

@@ -1,0 +1,6 @@
+pub mod PlainMachine
+pub mod Placed
+pub mod Running
+pub mod Worked
+pub mod Detour
+pub mod Settling

@@ -1,0 +1,95 @@
+-- Where the tokens of the machine stand in the sequential run, and what ties the machine to the rows before. The built rows have no jump,
+-- so the serial of a token is its place in the run, and four times that is its address.
+use Rattle.std.specs.Prelude.{◌≡◌, ℕ, zero, suc, ◌+◌, ◌*◌, ◌<◌, ◌≤◌, List, [], ◌∷◌, length, Option, Some, None, false, nat_lt, slice_get}
+use Rattle.rv_core.specs.declared.Shape.{Shape}
+use Rattle.rv_trace.specs.declared.row.Row.{Row}
+use Rattle.rv_pipe.specs.declared.stages.Token.{Token}
+use Rattle.rv_pipe.specs.declared.stages.Kept.{Kept}
+use Rattle.rv_seq.specs.Instructions.{instruction_of}
+use Rattle.rv_seq.specs.SequentialRun.{run}
+use Rattle.rv_trace.specs.Trace.{Setting, course_of, setting, stages_of, newest, is_flushed, is_retired, retirements, architecture, rows_without}
+use Rattle.rv_trace.specs.LawfulTrace.{MovesInto, names_of, fetch_address, next_serial, IsWordOf}
+use Rattle.rv_trace.specs.Headline.{Headline}
+use Rattle.rv_pipe.specs.PlainMachine.{Machine, Slots, cells_of, stop_of, value_of, machine_of}
+
+abbrev pub one_more : Option Token → ℕ → ℕ
+one_more None n = n
+one_more (Some t) n = suc n
+
+-- how many tokens there are
+abbrev pub count : Slots → ℕ
+count [] = 0
+count (s ∷ rest) = one_more s (count rest)
+
+-- the token of the serial p stands in this stage
+pub record IsPlaced (k : Setting) (p stage : ℕ) (t : Token) : Type 0 where
+  pub serial : t.cell.serial ≡ p
+  pub at : t.cell.at ≡ 4 * p
+  pub word : slice_get k.image p ≡ Some t.cell.word
+  pub decoded : t.instruction ≡ instruction_of t.cell.word
+  pub value : k.shape.rd < stage → t.value ≡ value_of t.instruction (run k.image p).x
+  pub goes : k.shape.ex < stage → stop_of t.instruction ≡ None
+
+abbrev pub IsPlacedSlot : Setting → ℕ → ℕ → Option Token → Type 0
+IsPlacedSlot k p stage None = Unit {0}
+IsPlacedSlot k p stage (Some t) = IsPlaced k p stage t
+
+-- each token stands in its place, where r are retired
+abbrev pub Placed : Setting → ℕ → ℕ → Slots → Type 0
+Placed k r stage [] = Unit {0}
+Placed k r stage (s ∷ older) = IsPlacedSlot k (r + count older) stage s × Placed k r (suc stage) older
+
+-- the slots behind stage 0
+abbrev pub tail : Slots → Slots
+tail [] = []
+tail (s ∷ older) = older
+
+-- the numbers of a core, with an image that fits and its run
+pub record IsShape (k : Setting) : Type 0 where
+  pub course : k.course ≡ course_of k.image
+  pub rd_pos : 0 < k.shape.rd
+  pub rd_ex : k.shape.rd ≤ k.shape.ex
+  pub ex_last : k.shape.ex + 1 < k.shape.stages
+  pub few_words : length k.image ≤ 65536
+
+abbrev pub here : Option Token → ℕ → ℕ
+here None n = 0
+here (Some t) n = suc n
+
+abbrev pub first_of_two : ℕ → ℕ → ℕ
+first_of_two zero b = b
+first_of_two (suc a) b = suc a
+
+-- how many rows the oldest token has still to go, 0 where there is none
+abbrev pub to_go : Slots → ℕ
+to_go [] = 0
+to_go (s ∷ older) = first_of_two (to_go older) (here s (length older))
+
+-- the rows that may still pass without a retirement
+abbrev pub rank : ℕ → Slots → ℕ
+rank stages slots = first_of_two (to_go slots) (suc stages)
+
+-- what ties the machine to the rows before
+pub record Inv (k : Setting) (earlier : List Row) (m : Machine) : Type 0 where
+  pub stages : length m.slots ≡ k.shape.stages
+  pub arch : m.arch ≡ run k.image (retirements earlier)
+  pub pc : (run k.image (retirements earlier)).pc ≡ 4 * retirements earlier
+  pub next : m.next ≡ retirements earlier + count m.slots
+  pub fetch : m.fetch ≡ 4 * (retirements earlier + count (tail m.slots))
+  pub few : m.next ≤ length k.image
+  pub placed : Placed k (retirements earlier) 0 m.slots
+  pub fetch_is : m.fetch ≡ fetch_address k earlier
+  pub next_is : m.next ≡ next_serial k earlier
+  pub moved : MovesInto (newest earlier) None (stages_of k (newest earlier)) (names_of (cells_of m.slots))
+  pub words : (s word : ℕ) → IsWordOf k earlier s word → slice_get k.image s ≡ Some word
+  pub retired : (s : ℕ) → is_retired earlier s ≡ nat_lt s (retirements earlier)
+  pub unflushed : (s : ℕ) → is_flushed earlier s ≡ false
+  pub state : architecture earlier ≡ run k.image (retirements earlier)
+  pub progress : rows_without earlier + rank k.shape.stages m.slots ≤ k.shape.stages + 1
+
+-- a machine over these rows, newest first
+pub record IsSound (shape : Shape) (image : List ℕ) (kept : Kept) (rows : List Row) : Type 0 where
+  pub few_words : length image ≤ 65536
+  pub headline : Headline image shape rows
+  pub going : (newest rows).stop ≡ None → Inv (setting image shape) rows (machine_of shape kept)
+  pub state : architecture rows ≡ kept.arch

@@ -1,0 +1,60 @@
+ghost use Rattle.std.specs.Prelude.{◌≤◌, ◌<◌, ◌≢◌};
+
+use ix_bits::Bits;
+
+/// Why a run stops (RV32I; the profile of traps is this project's choice).
+#[derive(Clone, Copy, Debug, PartialEq, Eq)]
+pub enum Stop {
+    Ecall,
+    Ebreak,
+    /// A word that no row of the instruction set matches.
+    Illegal,
+    /// A pc that is not divisible by 4 or lies outside the image.
+    Fetch,
+    /// A load or store at an address that its size does not divide.
+    Misaligned,
+    /// A load or store outside the memory.
+    DataRange,
+    /// A base jump to an address that is not divisible by 4.
+    Target,
+}
+
+/// What a step does to one target: nothing, a write of a value, or a write that comes later.
+#[derive(Clone, Copy, Debug, PartialEq, Eq)]
+pub enum Slot<V> {
+    Absent,
+    Now(V),
+    Later,
+}
+
+/// A memory access: its address, and its size of 1, 2 or 4 bytes.
+#[derive(Clone, Copy, Debug, PartialEq, Eq)]
+pub struct Access {
+    pub at: u32,
+    pub bytes: u8,
+    pub ghost some: { 0 < bytes },
+    pub ghost few: { bytes ≤ 4 },
+    pub ghost not_three: { bytes ≢ 3 },
+}
+
+/// The writes of one retired instruction.
+#[derive(Clone, Copy, Debug, PartialEq, Eq)]
+pub struct Commit {
+    /// The instruction's address.
+    pub at: u32,
+    pub word: u32,
+    /// The x register that is written, 1 to 31; 0 where none is.
+    pub rd_index: u8,
+    pub rd: Slot<u32>,
+    pub custom: [Slot<Bits>; 16],
+    pub store: Option<(Access, u32)>,
+    /// The address of the next instruction.
+    pub next: u32,
+}
+
+/// The architectural state: the pc and the x registers, of which x0 is 0.
+#[derive(Clone, Copy, Debug, PartialEq, Eq)]
+pub struct Arch {
+    pub pc: u32,
+    pub x: [u32; 32],
+}

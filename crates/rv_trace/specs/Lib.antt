@@ -1,0 +1,5 @@
+pub mod Trace
+pub mod LawfulTrace
+pub mod Headline
+pub mod TraceText
+pub mod History

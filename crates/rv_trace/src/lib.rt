@@ -1,0 +1,11 @@
+//! Rows: what each stage of a pipeline holds in a clock cycle, the rows of a run, and their text. Which rows are lawful,
+//! and what they show of the sequential run, stands in `specs`.
+#![tactic(auto)]
+
+mod row;
+mod row_text;
+mod trace;
+
+pub use row::{Cell, Hold, Row, Target};
+pub use row_text::{put_row, put_state};
+pub use trace::Trace;
