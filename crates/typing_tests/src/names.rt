@@ -1,5 +1,5 @@
 use ix_bits::{List, Memory, Name, Ty};
-use ix_check::{CheckErr, check_pieces, check_states, declare_fields, globals};
+use ix_check_parts::{CheckErr, check_pieces, check_states, declare_fields, globals};
 use ix_tree::{PieceKind, PieceText, Span};
 use ix_typing::{Names, Role, State, Target, Targets};
 use std::alloc::Global;
