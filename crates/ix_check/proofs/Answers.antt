@@ -1,5 +1,5 @@
 -- Each answer of the checker comes exactly where it is due.
-use Rattle.std.proofs.Common.{◌≡◌, ◌∙◌, sym, ap, subst, refl, Option, Some, None, Result, Ok, Err, ◌⊎◌, IfOk, IsOkUnless}
+use Rattle.std.proofs.Common.{◌≡◌, ◌∙◌, sym, ap, subst, refl, Option, Some, None, Result, Ok, Err, ◌⊎◌, inl, inr, IfOk, IsOkUnless}
 use Rattle.ix_tree.specs.declared.token.Span.{Span}
 use Rattle.ix_tree.specs.declared.typed.Typed.{Typed}
 use Rattle.ix_tree.specs.TypedTrees.{TypedTextTree}
@@ -56,9 +56,12 @@ one_error : {A : Type 0} (q : Option Refusal) (f : Refusal) (r : Result A Refusa
 one_error None f r h k = inr refl
 one_error (Some g) f r h k = inl (same_refusal g f r h k)
 
-error_due : (d e : CheckErr) (f : Refusal) → refusal_of e ≡ Some f → ((refusal_of d ≡ Some f) ⊎ (refusal_of d ≡ None)) → (Err {Typed} d ≡ Err e) ⊎ (Err {Typed} d ≡ Err C.Memory)
-error_due d e f h (inl k) = inl (ap (λ (z : CheckErr). Err z) (told_back d ∙ ap back (k ∙ sym h) ∙ sym (told_back e)))
-error_due d e f h (inr k) = inr (ap (λ (z : CheckErr). Err z) (told_back d ∙ ap back k))
+abbrev fails : CheckErr → Result Typed CheckErr
+fails d = Err d
+
+error_due : (d e : CheckErr) (f : Refusal) → refusal_of e ≡ Some f → ((refusal_of d ≡ Some f) ⊎ (refusal_of d ≡ None)) → (fails d ≡ Err e) ⊎ (fails d ≡ Err C.Memory)
+error_due d e f h (inl k) = inl (ap fails (told_back d ∙ ap back (k ∙ sym h) ∙ sym (told_back e)))
+error_due d e f h (inr k) = inr (ap fails (told_back d ∙ ap back k))
 
 due : (R : Result Typed CheckErr) (r : Result TypedTextTree Refusal) (e : CheckErr) (f : Refusal) → refusal_of e ≡ Some f → TellsText R r → r ≡ Err f → (R ≡ Err e) ⊎ (R ≡ Err C.Memory)
 due (Ok t) r e f h told k = cc

@@ -16,7 +16,8 @@ use Rattle.ix_typing.specs.declared.state.Setting.{Setting}
 use Rattle.ix_typing.specs.declared.state.State.{State}
 use Rattle.ix_typing.specs.Refusals.{Refusal, twice, refuse, and_then, Step}
 use Rattle.ix_typing.specs.Statements.{judged_stmt}
-use Rattle.ix_typing.specs.Texts.{Fields, with_piece, fields, pieces_fault, is_listed, behaviour, unless, judged_instr, judged_block, global_state}
+use Rattle.ix_typing.specs.Texts.{Fields, with_piece, fields, pieces_fault, behaviour, unless, judged_instr, judged_block, global_state}
+use Rattle.ix_typing.specs.Names.{is_listed}
 use Rattle.ix_typing.proofs.Scopes.{Grows, front_is, stmt_grows}
 use Rattle.ix_check_parts.specs.declared.error.CheckErr.{CheckErr}
 use Rattle.ix_check_parts.specs.Telling.{IsFault, IsRefused, Refuses, refusal_of, TellsStmt}
@@ -24,7 +25,7 @@ use Rattle.ix_check_parts.proofs.Passing.{passes_on, goes_on}
 use Rattle.ix_check.specs.Telling.{TellsBody, TellsInstrBody, TellsBlockBody, name_fault}
 
 -- ---- statements as behaviours
-abbrev setting_of : Body → Setting
+abbrev pub setting_of : Body → Setting
 setting_of b = record { body = b; in_spawn = false; below_if = false }
 
 pub body_told : (R : Result TypedStmt CheckErr) (after : State) (b : Body) (names : List Named) (x : StmtTree)

@@ -12,7 +12,7 @@ use Rattle.ix_tree.specs.TypedTrees.{TypedStmtTree, TypedInstrTree, TypedBlockTr
 use Rattle.ix_tree.specs.TypedView.{typed_whole, typed_instr, typed_block, typed_section_kind, typed_section, typed_tree}
 use Rattle.ix_typing.specs.declared.state.Front.{Front}
 use Rattle.ix_typing.specs.Refusals.{Refusal, twice, Step}
-use Rattle.ix_typing.specs.Texts.{is_listed}
+use Rattle.ix_typing.specs.Names.{is_listed}
 use Rattle.ix_check_parts.specs.declared.error.CheckErr.{CheckErr}
 use Rattle.ix_check_parts.specs.declared.error.CheckErr.TheVariants.{Memory}
 use Rattle.ix_check_parts.specs.StateTelling.{items_of}

@@ -6,17 +6,17 @@ ghost use Rattle.ix_typing.specs.Texts.{judged_block};
 ghost use Rattle.ix_check.specs.Telling.{TellsBlock, TellsBlockBody, TellsBlocks};
 
 use crate::behaviour::{behaviour, name_behaviour};
-use ix_bits::{List, Name};
+use ix_bits::List;
 use ix_check_parts::CheckErr;
 use ix_tree::{BlockText, TypedBlockText, TypedStmt};
-use ix_typing::{Body, State};
+use ix_typing::{Body, State, TakenNames};
 use std::alloc::Global;
 
 /// The always-blocks of a section with their types. `seen` has the names of the behaviours before them.
 pub fn always_blocks(
     alloc: Global,
     state: &mut State,
-    seen: &mut List<Name>,
+    seen: &mut TakenNames,
     all: List<BlockText>,
 ) -> Result<List<TypedBlockText>, CheckErr>
     ensures told { TellsBlocks result seen.new (each (judged_block state.old.names) (map view_block all) seen.old) }
@@ -38,7 +38,7 @@ pub fn always_blocks(
 fn always_block(
     alloc: Global,
     state: &mut State,
-    seen: &mut List<Name>,
+    seen: &mut TakenNames,
     text: BlockText,
 ) -> Result<TypedBlockText, CheckErr>
     ensures told { TellsBlock result seen.new (judged_block state.old.names (view_block text) seen.old) }
@@ -48,10 +48,7 @@ fn always_block(
     with_body(text, body)
 }
 
-fn with_body(
-    text: BlockText,
-    body: Result<TypedStmt, CheckErr>,
-) -> Result<TypedBlockText, CheckErr>
+fn with_body(text: BlockText, body: Result<TypedStmt, CheckErr>) -> Result<TypedBlockText, CheckErr>
     ensures told { (after : List (List ℕ)) (r : Result (Step (List (List ℕ)) TypedBlockTree) Refusal) → TellsBlockBody body (view_block text) after r → TellsBlock result after r }
     ensures kept { OnOk result (IsOk body) }
 {
@@ -69,7 +66,7 @@ fn with_body(
 fn block_body(
     alloc: Global,
     state: &mut State,
-    seen: &mut List<Name>,
+    seen: &mut TakenNames,
     text: &BlockText,
 ) -> Result<TypedStmt, CheckErr>
     ensures told { TellsBlockBody result (view_block text.now) seen.new (judged_block state.old.names (view_block text.now) seen.old) }

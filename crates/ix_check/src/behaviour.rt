@@ -1,13 +1,13 @@
 ghost use Rattle.std.specs.Prelude.{◌≡◌, ◌≤◌, ◌++◌, ◌∷◌, [], length, OnOk};
 ghost use Rattle.ix_tree.specs.Rows.{view_whole};
-ghost use Rattle.ix_typing.specs.Texts.{behaviour, global_state, is_listed};
+ghost use Rattle.ix_typing.specs.Texts.{behaviour, global_state};
 ghost use Rattle.ix_check_parts.specs.Telling.{TellsFault};
 ghost use Rattle.ix_check.specs.Telling.{TellsBody, name_fault};
 
-use ix_bits::{List, Name};
+use ix_bits::Name;
 use ix_check_parts::{CheckErr, check_statement};
 use ix_tree::{Span, Stmt, TypedStmt};
-use ix_typing::{Body, Setting, State, Targets};
+use ix_typing::{Body, Setting, State, TakenNames, Targets};
 use std::alloc::Global;
 
 /// Makes the state one in which nothing is written yet.
@@ -44,7 +44,7 @@ pub fn behaviour(
 /// Gives a behaviour its name, which none before it has.
 pub fn name_behaviour(
     alloc: Global,
-    seen: &mut List<Name>,
+    seen: &mut TakenNames,
     span: Span,
     name: &str,
 ) -> Result<(), CheckErr>
@@ -52,7 +52,7 @@ pub fn name_behaviour(
     ensures told { TellsFault result (name_fault seen.old span name.now) }
     ensures named { OnOk result (seen.new ≡ seen.old ++ name.now ∷ []) }
 {
-    if is_listed(seen.as_slice(), name) {
+    if seen.contains(name) {
         return Err(CheckErr::Twice { span });
     }
     match Name::from_text(alloc, name) {
@@ -62,16 +62,4 @@ pub fn name_behaviour(
             Ok(()) => Ok(()),
         },
     }
-}
-
-// Whether a name is among these.
-fn is_listed(all: &[Name], name: &str) -> bool
-    ensures { result ≡ is_listed all.now name.now }
-{
-    for other in all {
-        if other.as_str() == name {
-            return true;
-        }
-    }
-    false
 }

@@ -8,17 +8,17 @@ ghost use Rattle.ix_typing.specs.Texts.{behaviour, fields, judged_instr};
 ghost use Rattle.ix_check.specs.Telling.{TellsBody, TellsInstr, TellsInstrBody, TellsInstrs};
 
 use crate::behaviour::{behaviour, name_behaviour};
-use ix_bits::{List, Name};
+use ix_bits::List;
 use ix_check_parts::{CheckErr, check_pieces, declare_fields};
 use ix_tree::{Instr, PieceText, Stmt, TypedInstr, TypedStmt};
-use ix_typing::{Body, State};
+use ix_typing::{Body, State, TakenNames};
 use std::alloc::Global;
 
 /// The instructions of a section with their types. `seen` has the names of the behaviours before them.
 pub fn instructions(
     alloc: Global,
     state: &mut State,
-    seen: &mut List<Name>,
+    seen: &mut TakenNames,
     all: List<Instr>,
 ) -> Result<List<TypedInstr>, CheckErr>
     ensures told { TellsInstrs result seen.new (each (judged_instr state.old.names) (map view_instr all) seen.old) }
@@ -40,7 +40,7 @@ pub fn instructions(
 fn instruction(
     alloc: Global,
     state: &mut State,
-    seen: &mut List<Name>,
+    seen: &mut TakenNames,
     text: Instr,
 ) -> Result<TypedInstr, CheckErr>
     ensures told { TellsInstr result seen.new (judged_instr state.old.names (view_instr text) seen.old) }
@@ -69,7 +69,7 @@ fn with_body(text: Instr, body: Result<TypedStmt, CheckErr>) -> Result<TypedInst
 fn instruction_body(
     alloc: Global,
     state: &mut State,
-    seen: &mut List<Name>,
+    seen: &mut TakenNames,
     text: &Instr,
 ) -> Result<TypedStmt, CheckErr>
     ensures told { TellsInstrBody result (view_instr text.now) seen.new (judged_instr state.old.names (view_instr text.now) seen.old) }

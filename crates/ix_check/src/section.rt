@@ -46,10 +46,7 @@ pub fn section(
     }
 }
 
-fn with_span(
-    span: Span,
-    kind: Result<TypedSectionKind, CheckErr>,
-) -> Result<TypedSection, CheckErr>
+fn with_span(span: Span, kind: Result<TypedSectionKind, CheckErr>) -> Result<TypedSection, CheckErr>
     ensures told { (after : Front) (r : Result (Step Front TypedSectionKindTree) Refusal) → TellsKind kind after r → TellsSection result after (and_then r (λ k. Ok (record { item = record { span = span; kind = k.item }; after = k.after }))) }
     ensures kept { OnOk result (IsOk kind) }
 {

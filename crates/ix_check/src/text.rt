@@ -10,7 +10,7 @@ use crate::section::section;
 use ix_bits::List;
 use ix_check_parts::{CheckErr, globals};
 use ix_tree::{Section, Span, Tree, Typed, TypedSection};
-use ix_typing::{Front, Names, State, Targets};
+use ix_typing::{Front, Names, State, TakenNames, Targets};
 use std::alloc::Global;
 
 /// The text with its types, or the first rule of the language that it breaks, in the order of the source, and where. A loop is
@@ -69,11 +69,7 @@ fn with_globals(alloc: Global, all: List<Section>) -> Result<List<TypedSection>,
 }
 
 // The sections with their types, where these registers and tables are visible.
-fn sections(
-    alloc: Global,
-    names: Names,
-    all: List<Section>,
-) -> Result<List<TypedSection>, CheckErr>
+fn sections(alloc: Global, names: Names, all: List<Section>) -> Result<List<TypedSection>, CheckErr>
     ensures { TellsSections result (each (judged_section (global_state names)) (map view_section all) no_front) }
 {
     let mut state = State {
@@ -86,7 +82,7 @@ fn sections(
         states: false,
         instructions: false,
         always: false,
-        behaviours: List::new(alloc),
+        behaviours: TakenNames::new(alloc),
     };
     let mut out = Vec::new(alloc);
     for text in all.into_vec() {

@@ -17,7 +17,7 @@ use ix_bits::List;
 use ix_tree::{
     Decl, Expr, Span, TypeText, TypedAssign, TypedDecl, TypedExpr, TypedStmt, TypedStmtKind,
 };
-use ix_typing::{Setting, State, Targets};
+use ix_typing::{Setting, State, Target};
 use std::alloc::Global;
 
 /// The setting below an `if`.
@@ -171,7 +171,7 @@ pub fn choice_else(
 /// Puts what the first branch wrote behind what the second did.
 pub fn joined(
     state: &mut State,
-    first: &Targets,
+    first: &[Target],
     y: Result<TypedStmt, CheckErr>,
 ) -> Result<TypedStmt, CheckErr>
     ensures { (r : Result (Step State TypedStmtTree) Refusal) → TellsStmt y state.old r → TellsStmt result state.new (and_then r (λ k. Ok (record { item = k.item; after = appended first.now k.after }))) }

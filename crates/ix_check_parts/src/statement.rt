@@ -110,7 +110,7 @@ fn otherwise(
         Err(_) => Err(CheckErr::Memory),
         Ok(first) => {
             let stmt = scoped(alloc, setting, state, stmt);
-            joined(state, &first, stmt)
+            joined(state, first.as_slice(), stmt)
         }
     }
 }

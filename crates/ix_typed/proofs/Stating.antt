@@ -154,7 +154,7 @@ mutual
       on_answer (joined j first (in_scope o (judged_stmt y (below_if g) o))) _ k _ (λ b t z.
       on_scope o (judged_stmt y (below_if g) o) _ b _ (λ n i f.
       let whole : IsStmt g st (ts_if_else s v.0 m.item n.item) (both_paths j first (scope_end o n.after)) =
-          (v.1, m.after, n.after, p, stmt_formed x (below_if g) j m u, stmt_formed y (below_if g) o n i, refl) in
+      (v.1, m.after, n.after, p, stmt_formed x (below_if g) j m u, stmt_formed y (below_if g) o n i, refl) in
       got (λ (k : Step State TypedStmtTree). IsStmt g st k.item k.after) _ k z
       (got (λ (b : Step State TypedStmtTree). IsStmt g st (ts_if_else s v.0 m.item b.item) b.after) _ b f whole)) t) w) q) e
   stmt_formed (s_for s ty n start test last x) g st k e = cc

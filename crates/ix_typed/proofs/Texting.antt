@@ -13,12 +13,12 @@ use Rattle.ix_typing.specs.declared.state.Body.TheVariants as B
 use Rattle.ix_typing.specs.declared.state.Setting.{Setting}
 use Rattle.ix_typing.specs.declared.state.Front.{Front}
 use Rattle.ix_typing.specs.declared.state.State.{State}
-use Rattle.ix_typing.specs.Names.{role_of}
+use Rattle.ix_typing.specs.Names.{role_of, is_listed}
 use Rattle.ix_typing.specs.Refusals.{Refusal, and_then, Step, each}
 use Rattle.ix_typing.specs.Expressions.{judged, embeds, written}
 use Rattle.ix_typing.specs.Assignments.{span_of, fits_into}
 use Rattle.ix_typing.specs.Statements.{judged_stmt}
-use Rattle.ix_typing.specs.Texts.{globals, is_numbered, constant_setting, constant, entries_of, state_kind, judged_state, Fields, fields, pieces_fault, is_listed, behaviour, unless, judged_instr, judged_block, judged_kind, judged_section, no_front, global_state, judged_text}
+use Rattle.ix_typing.specs.Texts.{globals, is_numbered, constant_setting, constant, entries_of, state_kind, judged_state, Fields, fields, pieces_fault, behaviour, unless, judged_instr, judged_block, judged_kind, judged_section, no_front, global_state, judged_text}
 use Rattle.ix_typing.proofs.Erasing.{on_answer}
 use Rattle.ix_typing.proofs.ErasingTexts.{text_erased}
 use Rattle.ix_typed.specs.Expressions.{IsWritten, IsExpr}
@@ -115,11 +115,10 @@ section_kind_judged st s (tk_always xs) f after h =
 sections_judged : (st : State) (xs : List TypedSectionTree) (f : Front) → AreSections st xs f → (last : Front) × (each (judged_section st) (map erased_section xs) f ≡ Ok (step xs last))
 sections_judged st [] f h = (f, refl)
 sections_judged st (x ∷ xs) f h =
-    let rest = sections_judged st xs h.0 h.2 in
-    (
+    let rest = sections_judged st xs h.0 h.2 in (
       rest.0,
       go (judged_section st (erased_section x) f) (step x h.0) _ _ (go (judged_kind st x.span (erased_section_kind x.kind) f) (step x.kind h.0) _ _ (section_kind_judged st x.span x.kind f h.0 h.1) refl)
-      (go (each (judged_section st) (map erased_section xs) h.0) (step xs rest.0) _ _ rest.1 refl),
+          (go (each (judged_section st) (map erased_section xs) h.0) (step xs rest.0) _ _ rest.1 refl),
     )
 
 pub text_judged : (u : TypedTextTree) → IsText u → judged_text (erased_text u) ≡ Ok u
@@ -226,7 +225,7 @@ sections_formed st (x ∷ xs) f k e =
     on_answer (judged_section st x f) _ k _ (λ j p q.
     on_answer (each (judged_section st) xs j.after) _ k _ (λ m u v.
     let one : IsKind st j.item.kind f j.after =
-        on_answer (judged_kind st x.span x.kind f) _ j _ (λ i h n. got (λ (j : Step Front TypedSectionTree). IsKind st j.item.kind f j.after) _ j n (section_kind_formed st x.span x.kind f i h)) p in
+    on_answer (judged_kind st x.span x.kind f) _ j _ (λ i h n. got (λ (j : Step Front TypedSectionTree). IsKind st j.item.kind f j.after) _ j n (section_kind_formed st x.span x.kind f i h)) p in
     got (λ (k : Step Front (List TypedSectionTree)). AreSections st k.item f) _ k v (j.after, one, sections_formed st xs j.after m u)) q) e
 
 -- what is judged of a text is typed by its cases
@@ -236,6 +235,6 @@ text_formed t u e =
     let tree = text_erased t u e in
     let P : TextTree → Type 0 = λ z. AreSections (global_state (globals [] z.sections)) u.sections no_front in
     let all : AreSections st u.sections no_front =
-        on_answer (each (judged_section st) t.sections no_front) _ u _ (λ k p q.
-        got (λ (u : TypedTextTree). AreSections st u.sections no_front) _ u q (sections_formed st t.sections no_front k p)) e in
+    on_answer (each (judged_section st) t.sections no_front) _ u _ (λ k p q.
+    got (λ (u : TypedTextTree). AreSections st u.sections no_front) _ u q (sections_formed st t.sections no_front k p)) e in
     subst P (sym tree) all

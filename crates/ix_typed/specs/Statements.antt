@@ -36,7 +36,7 @@ abbrev mutual
       (b : Bool) × (first : State) × (last : State) × IsExpr g st st.accessed c b × IsStmt (below_if g) (with_accessed st b) x first
       × IsStmt (below_if g) (other_path (with_accessed st b) (scope_end (with_accessed st b) first)) y last
       × (after ≡ both_paths (with_accessed st b) (scope_end (with_accessed st b) first)
-          (scope_end (other_path (with_accessed st b) (scope_end (with_accessed st b) first)) last))
+      (scope_end (other_path (with_accessed st b) (scope_end (with_accessed st b) first)) last))
   IsStmt g st (ts_spawn s x) after =
       (may_spawn g st (erased_stmt x) ≡ true) × ((mid : State) × IsStmt (below_spawn g) (with_spawn st) x mid × (after ≡ scope_end (with_spawn st) mid))
 

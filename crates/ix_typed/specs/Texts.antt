@@ -7,9 +7,9 @@ use Rattle.ix_typing.specs.declared.state.Body.{Body}
 use Rattle.ix_typing.specs.declared.state.Body.TheVariants as B
 use Rattle.ix_typing.specs.declared.state.Front.{Front}
 use Rattle.ix_typing.specs.declared.state.State.{State}
-use Rattle.ix_typing.specs.Names.{role_of}
+use Rattle.ix_typing.specs.Names.{role_of, is_listed}
 use Rattle.ix_typing.specs.Expressions.{embeds}
-use Rattle.ix_typing.specs.Texts.{globals, is_numbered, constant_setting, fields, pieces_fault, is_listed, global_state, no_front}
+use Rattle.ix_typing.specs.Texts.{globals, is_numbered, constant_setting, fields, pieces_fault, global_state, no_front}
 use Rattle.ix_typed.specs.Expressions.{IsWritten, IsExpr}
 use Rattle.ix_typed.specs.Statements.{IsStmt}
 

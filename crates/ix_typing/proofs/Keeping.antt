@@ -1,8 +1,8 @@
 -- A map that keeps the roles of names, where one is declared or taken away, and a set of names.
-use Rattle.std.proofs.Common.{◌≡◌, ◌∙◌, sym, ap, subst, refl, ℕ, List, [], ◌∷◌, ◌++◌, Option, Some, None, Bool, true, false, cond, ◌||◌, String, BTreeMap, IsSome, append_assoc}
+use Rattle.std.proofs.Common.{◌≡◌, ◌∙◌, sym, ap, refl, ℕ, List, [], ◌∷◌, ◌++◌, Option, Some, None, Bool, true, false, cond, ◌||◌, String, BTreeMap, IsSome, append_assoc}
 use Rattle.std.specs.BTreeMap.{get_by_text}
 use Rattle.std.specs.Map.{update}
-use Rattle.std.specs.Cmp.Lexicographic.{bytes_decides, nat_list_eq_equiv}
+use Rattle.std.specs.Cmp.Lexicographic.{bytes_decides}
 use Rattle.std.specs.Str.{bytes_eq}
 use Rattle.ix_tree.specs.Lexing.{same_bytes}
 use Rattle.ix_tree.proofs.Names.{same_is}
@@ -46,12 +46,6 @@ before_push front (y ∷ xs) x =
     (before_push (front ++ y ∷ []) xs x ∙ ap (λ (z : List Named). roles_before (front ++ y ∷ []) xs ++ role_of z x.name ∷ []) (append_assoc front (y ∷ []) xs))
 
 module _ {Y : Type 0} where
-  pub kept_start : (items : List Named) (before : List (Option Role)) (roles : BTreeMap (String Y) Role) → items ≡ [] → before ≡ [] → roles.entries ≡ [] → IsKept items before roles
-  kept_start items before roles e f g = record {
-    found = λ n. rw (g, e) refl;
-    undone = f ∙ sym (ap (roles_before []) e);
-  }
-
   -- one more declaration
   pub kept_push : (items now : List Named) (before after : List (Option Role)) (roles new : BTreeMap (String Y) Role) (x : Named) (old : Option Role)
       → ((n : List ℕ) → get_by_text new n ≡ update bytes_eq (get_by_text roles) x.name (Some x.role) n) → old ≡ get_by_text roles x.name

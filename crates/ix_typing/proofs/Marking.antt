@@ -1,10 +1,9 @@
 -- A set that keeps the numbers of the targets that are written, where one is written or taken back.
-use Rattle.std.proofs.Common.{◌≡◌, ◌∙◌, sym, ap, subst, refl, arith, ℕ, zero, suc, ◌+◌, ◌≤◌, List, [], ◌∷◌, ◌++◌, Bool, true, false, cond, not, ◌&&◌, ◌||◌, append_assoc}
+use Rattle.std.proofs.Common.{◌≡◌, ◌∙◌, sym, ap, refl, arith, ℕ, suc, ◌+◌, ◌≤◌, List, [], ◌∷◌, ◌++◌, Bool, true, false, cond, not, ◌&&◌, ◌||◌, append_assoc}
 use Rattle.std.specs.Prelude.{nat_eq, nat_lt}
 use Rattle.std.specs.Ordering.{nat_cmp, is_eq}
 use Rattle.std.specs.BTreeSet.{BTreeSet, contains}
 use Rattle.std.specs.BTreeMap.{is_at}
-use Rattle.std.specs.declared.cmp.Ordering.{Ordering}
 use Rattle.std.specs.declared.cmp.Ordering.TheVariants.{Less, Equal, Greater}
 use Rattle.std.proofs.lemmas.Bool.{eqb-true, eq-eqb, ltb-true, false≢true}
 use Rattle.std.specs.Cmp.{both_ways}
@@ -101,12 +100,6 @@ first_push front [] t = ap (λ (z : List Target). not (is_among z t) ∷ []) (sy
 first_push front (x ∷ xs) t =
     ap (λ (z : List Bool). not (is_among front x) ∷ z)
     (first_push (front ++ x ∷ []) xs t ∙ ap (λ (z : List Target). first_writes (front ++ x ∷ []) xs ++ not (is_among z t) ∷ []) (append_assoc front (x ∷ []) xs))
-
-pub marked_start : (items : List Target) (first : List Bool) (numbers : BTreeSet ℕ) → items ≡ [] → first ≡ [] → numbers.keys ≡ [] → IsMarked items first numbers
-marked_start items first numbers e f g = record {
-  found = λ t. rw (g, e) refl;
-  undone = f ∙ sym (ap (first_writes []) e);
-}
 
 pub marked_push : (items now : List Target) (first after : List Bool) (numbers new : BTreeSet ℕ) (t : Target) (added : Bool)
     → ((q : ℕ) → contains nat_cmp new q ≡ cond (is_at (nat_cmp (number_of t)) q) true (contains nat_cmp numbers q)) → added ≡ not (contains nat_cmp numbers (number_of t))

@@ -1,4 +1,4 @@
-use crate::{TakenNames, Names, Targets};
+use crate::{Names, TakenNames, Targets};
 
 /// What an expression or a statement stands in.
 #[derive(Clone, Copy, Debug, PartialEq, Eq)]

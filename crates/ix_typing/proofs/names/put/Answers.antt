@@ -1,4 +1,4 @@
-use Rattle.std.proofs.Common.{◌≡◌, ◌∙◌, ap, sym, subst, ℕ, List, Result, OnOk, Option, Some, string_bytes}
+use Rattle.std.proofs.Common.{◌≡◌, ◌∙◌, ap, sym, subst, ℕ, List, Result, OnOk, Some, string_bytes}
 use Rattle.std.proofs.lemmas.Map.Text.{btree_map_updates_text}
 use Rattle.std.specs.BTreeMap.{get_by_text}
 use Rattle.std.specs.Map.{update}
@@ -19,8 +19,8 @@ returns-after-push-2-clause-kept c =
     let x : Named = record { name = c.args.name; role = c.args.role } in
     let text : string_bytes c.in-Ok.key ≡ c.args.name = c.in-Ok.ensures.ok ∙ c.as_str.ensures.text in
     let updates = λ (n : List ℕ).
-        btree_map_updates_text (string_bytes c.in-Ok.key) roles new _ c.in-Ok-insert.ensures.updates n
-        ∙ ap (λ (k : List ℕ). update bytes_eq (get_by_text roles) k (Some c.args.role) n) text in
+    btree_map_updates_text (string_bytes c.in-Ok.key) roles new _ c.in-Ok-insert.ensures.updates n
+    ∙ ap (λ (k : List ℕ). update bytes_eq (get_by_text roles) k (Some c.args.role) n) text in
     let old : c.in-Ok-insert.old ≡ get_by_text roles c.args.name = c.in-Ok-insert.ensures.old ∙ ap (get_by_text roles) text in
     let P : Result Unit Memory → Type 0 = λ r. OnOk r (IsKept items before roles → IsKept c.push-in-Ok-push.new.self.items c.push.new.self.items new) in
     elim c.match-push-2.branch [

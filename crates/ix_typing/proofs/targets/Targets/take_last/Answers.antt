@@ -1,4 +1,4 @@
-use Rattle.std.proofs.Common.{◌≡◌, ◌∙◌, ap, sym, subst, List, [], ◌∷◌, ◌++◌, Bool, Option, option_to_list}
+use Rattle.std.proofs.Common.{◌≡◌, ◌∙◌, ap, subst, List, [], ◌∷◌, ◌++◌, Bool, Option, option_to_list}
 use Rattle.ix_typing.specs.declared.targets.Target.{Target}
 use Rattle.ix_typing.specs.Kept.{IsMarked}
 use Rattle.ix_typing.proofs.Marking.{marked_pop}
