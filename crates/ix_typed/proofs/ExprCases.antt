@@ -30,12 +30,9 @@ pub record Formed (g : Setting) (st : State) (a : Bool) (j : Judged) : Type 0 wh
 name_typed : (g : Setting) (st : State) (a : Bool) (s : Span) (n : List ℕ) (ty : Ty) → type_of_name g st s n ≡ Ok ty → IsName g st a ty n a
 name_typed g st a s n ty e = on_test (is_constant g.body) _ _ ty _ (λ h f. (h, is_read st s (role_of st.names n) ty f, refl)) e
 
--- a word that is judged, whatever is asked of it
-abbrev NameIs : Setting → State → Bool → List ℕ → Span → Judged → Type 0
-NameIs g st a n s j = (P : Judged → Type 0) → ((ty : Ty) → IsName g st a ty n a → P (record { tree = t_name s ty n; ty = ty; accessed = a })) → P j
-
-name_formed : (g : Setting) (st : State) (a : Bool) (s : Span) (n : List ℕ) (j : Judged) → named g st a s n ≡ Ok j → NameIs g st a n s j
-name_formed g st a s n j e = λ P f. on_answer (type_of_name g st s n) _ j _ (λ ty p q. got P _ j q (f ty (name_typed g st a s n ty p))) e
+name_formed : (g : Setting) (st : State) (a : Bool) (s : Span) (n : List ℕ) (j : Judged) (P : Judged → Type 0)
+    → ((ty : Ty) → IsName g st a ty n a → P (record { tree = t_name s ty n; ty = ty; accessed = a })) → named g st a s n ≡ Ok j → P j
+name_formed g st a s n j P f e = on_answer (type_of_name g st s n) _ j _ (λ ty p q. got P _ j q (f ty (name_typed g st a s n ty p))) e
 
 x_formed : (g : Setting) (st : State) (a : Bool) (s : Span) (j : Judged) (P : Judged → Type 0)
     → ((ty : Ty) (c : Bool) → IsX g st a ty c → P (record { tree = t_x s ty; ty = ty; accessed = c })) → x_word g st a s ≡ Ok j → P j
@@ -141,9 +138,9 @@ word_formed g st a (e_choose s c y z) j f e = let x = e_choose s c y z in plain_
 table_formed : (g : Setting) (st : State) (a : Bool) (s : Span) (n : List ℕ) (o : Option Shape) (j : Judged) → table g st n ≡ o
     → table_word a s n o (named g st a s n) ≡ Ok j → BaseFormed g st a j
 table_formed g st a s n None j t e =
-    name_formed g st a s n j e (BaseFormed g st a) (λ ty h.
+    name_formed g st a s n j (BaseFormed g st a) (λ ty h.
     let P : Option Shape → Type 0 = λ z. IsTableOr a ty z a (IsName g st a ty n a) in
-    record { typed = subst P (sym t) h; ty = refl })
+    record { typed = subst P (sym t) h; ty = refl }) e
 table_formed g st a s n (Some shape) j t e =
     let P : Option Shape → Type 0 = λ z. IsTableOr a shape.ty z a (IsName g st a shape.ty n a) in
     got (BaseFormed g st a) _ j e (record { typed = subst P (sym t) (refl, refl); ty = refl })
@@ -235,7 +232,7 @@ base_in d x = d
 
 pub expr_formed : (g : Setting) (st : State) (x : ExprTree) (a : Bool) (j : Judged) → judged g st x a ≡ Ok j → Formed g st a j
 expr_formed g st (e_literal s ty b) a j e = got (Formed g st a) _ j e (record { typed = (refl, refl); ty = refl })
-expr_formed g st (e_name s n) a j e = name_formed g st a s n j e (Formed g st a) (λ ty h. record { typed = h; ty = refl })
+expr_formed g st (e_name s n) a j e = name_formed g st a s n j (Formed g st a) (λ ty h. record { typed = h; ty = refl }) e
 expr_formed g st (e_pc s) a j e =
     on_test (is_constant g.body) _ _ j _ (λ h p. on_test (is_among st.written T.Pc) _ _ j _ (λ k q. on_test g.in_spawn _ _ j _ (λ l w.
     got (Formed g st a) _ j w (record { typed = (h, k, l, refl, refl); ty = refl })) q) p) e

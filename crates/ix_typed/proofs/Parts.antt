@@ -25,7 +25,10 @@ on_hold true x r b G h e = h refl e
 on_hold false x r b G h e = cc
 
 -- what holds of an answer holds of that answer
-pub got : {A : Type 0} (P : A → Type 0) (i j : A) → Ok {A} {Refusal} i ≡ Ok j → P i → P j
+abbrev pub answer : {A : Type 0} → A → Result A Refusal
+answer x = Ok x
+
+pub got : {A : Type 0} (P : A → Type 0) (i j : A) → answer i ≡ Ok j → P i → P j
 got {A = A} P i j e p = subst P (ap (value_in i) e) p
   where
     value_in : A → Result A Refusal → A

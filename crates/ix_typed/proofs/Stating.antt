@@ -118,9 +118,9 @@ mutual
       (go (judged_row (erased_row rest) g h.0) (step rest after) _ _ (row_judged rest g h.0 after h.2) refl)
 
 -- ---- statements, judged and then by cases
-on_condition : {B : Type 0} (g : Setting) (c : ExprTree) (st : State) (b : B) {f : Step State TypedExprTree → Result B Refusal} (G : Type 0)
+on_condition : {B : Type 0} (g : Setting) (c : ExprTree) (st : State) (b : B) (f : Step State TypedExprTree → Result B Refusal) (G : Type 0)
     → ((v : TypedExprTree × Bool) → IsExpr g st st.accessed v.0 v.1 → f (step v.0 (with_accessed st v.1)) ≡ Ok b → G) → and_then (condition g c st) f ≡ Ok b → G
-on_condition g c st b {f} G h e =
+on_condition g c st b f G h e =
     on_answer (condition g c st) f b G (λ k p q.
     on_answer (judged g st c st.accessed) _ k _ (λ v u w.
     got (λ (k : Step State TypedExprTree). f k ≡ Ok b → G) (step v.tree (with_accessed st v.accessed)) k w (h (v.tree, v.accessed) (expr_formed g st c st.accessed v u).typed)) p q) e
@@ -141,12 +141,12 @@ mutual
   stmt_formed (s_assign s a) g st k e =
       on_answer (judged_assign g a st) _ k _ (λ m p q. got (λ (k : Step State TypedStmtTree). IsStmt g st k.item k.after) _ k q (assign_formed g st a m p)) e
   stmt_formed (s_if s c x) g st k e =
-      on_condition g c st k _ (λ v p q.
+      on_condition g c st k _ _ (λ v p q.
       let j = with_accessed st v.1 in
       on_scope j (judged_stmt x (below_if g) j) _ k _ (λ m u w.
       got (λ (k : Step State TypedStmtTree). IsStmt g st k.item k.after) _ k w (v.1, m.after, p, stmt_formed x (below_if g) j m u, refl)) q) e
   stmt_formed (s_if_else s c x y) g st k e =
-      on_condition g c st k _ (λ v p q.
+      on_condition g c st k _ _ (λ v p q.
       let j = with_accessed st v.1 in
       on_scope j (judged_stmt x (below_if g) j) _ k _ (λ m u w.
       let first = scope_end j m.after in

@@ -1,5 +1,5 @@
 -- A typed text by its cases, and what is judged of its tree.
-use Rattle.std.proofs.Common.{◌≡◌, ◌∙◌, sym, ap, subst, refl, ℕ, ◌+◌, List, [], ◌∷◌, ◌++◌, length, map, Option, Some, None, Bool, true, false, cond, Result, Ok, Err}
+use Rattle.std.proofs.Common.{◌≡◌, ◌∙◌, sym, ap, subst, refl, ℕ, suc, ◌+◌, List, [], ◌∷◌, ◌++◌, length, map, Option, Some, None, Bool, true, false, cond, Result, Ok, Err}
 use Rattle.std.specs.Prelude.{nat_eq}
 use Rattle.std.proofs.lemmas.Bool.{eq-eqb, eqb-true}
 use Rattle.ix_bits.specs.declared.number.Ty.{Ty}
@@ -48,7 +48,7 @@ constants_judged st ty (e ∷ es) h =
 -- as many trees as typed ones
 as_many : (es : List TypedExprTree) → length (map erased es) ≡ length es
 as_many [] = refl
-as_many (e ∷ es) = ap (λ (n : ℕ). n + 1) (as_many es)
+as_many (e ∷ es) = ap suc (as_many es)
 
 kind_judged : (st : State) (s : Span) (ty : Ty) (x : TypedStateKindTree) → IsStateKind st ty x → state_kind st s ty (erased_state_kind x) ≡ Ok x
 kind_judged st s ty (tk_register None) h = refl
@@ -143,7 +143,7 @@ constants_formed st ty (e ∷ es) k h =
     let one = constant_formed st ty e j p in
     on_answer (each (constant ty) es j.after) _ k _ (λ m u v.
     let rest = constants_formed st ty es m (ap (λ (z : State). each (constant ty) es z) (sym one.0) ∙ u) in
-    got (λ (k : Step State (List TypedExprTree)). AreConstants st ty k.item × (length (e ∷ es) ≡ length k.item)) _ k v ((one.1, rest.0), ap (λ (n : ℕ). n + 1) rest.1)) q) h
+    got (λ (k : Step State (List TypedExprTree)). AreConstants st ty k.item × (length (e ∷ es) ≡ length k.item)) _ k v ((one.1, rest.0), ap suc rest.1)) q) h
 
 kind_formed : (st : State) (s : Span) (ty : Ty) (x : StateKindTree) (t : TypedStateKindTree) → state_kind st s ty x ≡ Ok t → IsStateKind st ty t
 kind_formed st s ty (k_register None) t h = got (IsStateKind st ty) _ t h tt

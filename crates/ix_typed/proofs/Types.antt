@@ -27,7 +27,7 @@ some_bits zero e = absurd (false≢true (sym e))
 some_bits (suc n) e = omega arith
 
 no_zero : (w : ℕ) → 1 ≤ w → nat_eq w 0 ≡ false
-no_zero zero h = omega (arith, h)
+no_zero zero h = let none : ⊥ = omega (arith, h) in absurd none
 no_zero (suc n) h = refl
 
 sized_is : (s : Span) (signed : Bool) (w : ℕ) (ty : Ty) → w ≤ 128 → 1 ≤ w → ty ≡ type_near signed w → sized s signed w ≡ Ok ty
