@@ -1,7 +1,7 @@
 -- Types of expressions: the rule, and what is judged.
 use Rattle.std.proofs.Common.{◌≡◌, ◌∙◌, sym, ap, subst, refl, arith, ℕ, zero, suc, ◌≤◌, ◌+◌, ◌-◌, pos, int_lt, int_le, unsigned_abs, List, [], Option, Some, None, Bool, true, false, cond, ◌&&◌, ◌||◌, Result, Ok, Err}
 use Rattle.std.specs.Prelude.{nat_lt, nat_eq, nat_le}
-use Rattle.std.proofs.lemmas.Bool.{ltb-false, le-ltb, false≢true}
+use Rattle.std.proofs.lemmas.Bool.{ltb-false, le-ltb, eqb-true, false≢true}
 use Rattle.ix_bits.specs.declared.number.Ty.{Ty}
 use Rattle.ix_bits.specs.declared.operator.BinOp.{BinOp}
 use Rattle.ix_bits.specs.declared.operator.UnOp.{UnOp}
@@ -27,8 +27,11 @@ some_bits zero e = absurd (false≢true (sym e))
 some_bits (suc n) e = omega arith
 
 no_zero : (w : ℕ) → 1 ≤ w → nat_eq w 0 ≡ false
-no_zero zero h = let none : ⊥ = omega (arith, h) in absurd none
-no_zero (suc n) h = refl
+no_zero w h = decided (nat_eq w 0) refl
+  where
+    decided : (c : Bool) → nat_eq w 0 ≡ c → nat_eq w 0 ≡ false
+    decided true e = let none : ⊥ = omega (arith, h, eqb-true w 0 e) in absurd none
+    decided false e = e
 
 sized_is : (s : Span) (signed : Bool) (w : ℕ) (ty : Ty) → w ≤ 128 → 1 ≤ w → ty ≡ type_near signed w → sized s signed w ≡ Ok ty
 sized_is s signed w ty a b e = past _ _ _ _ (le-ltb 128 w a) (past _ _ _ _ (no_zero w b) (ap (λ (z : Ty). Ok z) (sym e)))
