@@ -1,11 +1,11 @@
 -- A typed assignment by its cases, and what is judged of its tree.
-use Rattle.std.proofs.Common.{◌≡◌, ◌∙◌, sym, ap, subst, refl, ℕ, List, Option, Some, None, Bool, true, false, cond, not, ◌||◌, Result, Ok, Err}
+use Rattle.std.proofs.Common.{◌≡◌, ◌∙◌, sym, ap, subst, refl, ℕ, List, Option, Some, None, Bool, true, false, cond, not, ◌||◌, Ok, Err}
 use Rattle.std.proofs.lemmas.Bool.{false≢true}
 use Rattle.ix_bits.specs.declared.number.Ty.{Ty}
 use Rattle.ix_bits.specs.declared.operator.BinOp.{BinOp}
 use Rattle.ix_tree.specs.declared.token.Span.{Span}
 use Rattle.ix_tree.specs.Trees.{ExprTree, LvalueTree, l_name, l_pc, l_x, l_mem, AssignTree}
-use Rattle.ix_tree.specs.TypedTrees.{TypedExprTree, TypedLvalueTree, tl_name, tl_pc, tl_x, tl_mem, TypedAssignTree, type_of, erased, erased_lvalue, erased_assign}
+use Rattle.ix_tree.specs.TypedTrees.{TypedLvalueTree, tl_name, tl_pc, tl_x, tl_mem, TypedAssignTree, type_of, erased, erased_lvalue, erased_assign}
 use Rattle.ix_typing.specs.declared.role.Role.{Role}
 use Rattle.ix_typing.specs.declared.role.Role.TheVariants as R
 use Rattle.ix_typing.specs.declared.state.Setting.{Setting}
@@ -13,16 +13,16 @@ use Rattle.ix_typing.specs.declared.state.State.{State}
 use Rattle.ix_typing.specs.declared.targets.Target.{Target}
 use Rattle.ix_typing.specs.declared.targets.Target.TheVariants as T
 use Rattle.ix_typing.specs.Names.{role_of, is_among}
-use Rattle.ix_typing.specs.Refusals.{Refusal, and_then, Step}
-use Rattle.ix_typing.specs.Expressions.{Judged, judged, embeds, u32, is_instruction, field_of, lies_in_destination, loaded_range, width_loaded, binary_type}
-use Rattle.ix_typing.specs.Assignments.{Placed, placed, place_of_role, writable, pc_place, stored, stored_type, span_of, goes_into, is_update, judged_assign}
+use Rattle.ix_typing.specs.Refusals.{Refusal, Step}
+use Rattle.ix_typing.specs.Expressions.{judged, embeds, u32, is_instruction, field_of, lies_in_destination, loaded_range, width_loaded, binary_type}
+use Rattle.ix_typing.specs.Assignments.{Placed, placed, place_of_role, writable, pc_place, stored_type, span_of, goes_into, is_update, judged_assign}
 use Rattle.ix_typing.proofs.Erasing.{on_answer, judged_erased}
-use Rattle.ix_typed.specs.Expressions.{IsLoaded, HasBinary, IsExpr}
+use Rattle.ix_typed.specs.Expressions.{IsLoaded}
 use Rattle.ix_typed.specs.Assignments.{IsAssigned, IsStored, IsPlace, GoesInto, IsAssign}
 use Rattle.ix_typed.proofs.Parts.{go, on_test, on_hold, got}
 use Rattle.ix_typed.proofs.Types.{binary_is, is_binary, loaded_is, is_loaded}
 use Rattle.ix_typed.proofs.ExprJudged.{made, expr_judged}
-use Rattle.ix_typed.proofs.ExprCases.{Formed, expr_formed}
+use Rattle.ix_typed.proofs.ExprCases.{expr_formed}
 
 -- ---- by cases, then judged
 abbrev place_made : Span → TypedLvalueTree → Ty → Option Target → Bool → Placed

@@ -1,5 +1,5 @@
 -- What is judged of an expression is a typed expression by its cases.
-use Rattle.std.proofs.Common.{◌≡◌, ◌∙◌, sym, ap, subst, refl, ℕ, List, [], Option, Some, None, Bool, true, false, cond, not, ◌||◌, Result, Ok, Err}
+use Rattle.std.proofs.Common.{◌≡◌, ◌∙◌, sym, ap, subst, refl, ℕ, List, [], Option, Some, None, Bool, true, false, not, ◌||◌, Result, Ok}
 use Rattle.std.proofs.lemmas.Bool.{false≢true}
 use Rattle.ix_bits.specs.declared.number.Ty.{Ty}
 use Rattle.ix_bits.specs.NearTypes.{type_near}
@@ -14,10 +14,10 @@ use Rattle.ix_typing.specs.declared.state.Setting.{Setting}
 use Rattle.ix_typing.specs.declared.state.State.{State}
 use Rattle.ix_typing.specs.declared.targets.Target.TheVariants as T
 use Rattle.ix_typing.specs.Names.{role_of, is_among}
-use Rattle.ix_typing.specs.Refusals.{Refusal, and_then}
-use Rattle.ix_typing.specs.Expressions.{Judged, Pair, judged, type_of_name, named, program_counter, x_word, mem_word, word, table, table_word, based, is_constant, is_instruction, entry_or_bits, is_always_below, is_constant_below, lies_in_source, field_of, element_type, range_type, unary_type, binary_type, common_type, written, paired, cast, ranged, choose}
+use Rattle.ix_typing.specs.Refusals.{Refusal}
+use Rattle.ix_typing.specs.Expressions.{Judged, Pair, judged, type_of_name, named, x_word, mem_word, word, table, table_word, based, is_constant, is_instruction, entry_or_bits, is_always_below, is_constant_below, lies_in_source, field_of, element_type, range_type, unary_type, binary_type, common_type, written, paired, cast, ranged, choose}
 use Rattle.ix_typing.proofs.Erasing.{on_answer, judged_erased}
-use Rattle.ix_typed.specs.Expressions.{IsName, IsPc, IsX, IsMem, IsWord, IsTableOr, IsBase, IsEntryOrBit, IsElement, IsRange, HasCast, IsExpr}
+use Rattle.ix_typed.specs.Expressions.{IsName, IsX, IsMem, IsWord, IsTableOr, IsBase, IsEntryOrBit, IsElement, IsRange, IsExpr}
 use Rattle.ix_typed.proofs.Parts.{on_test, on_hold, got}
 use Rattle.ix_typed.proofs.Types.{is_written, is_unary, is_binary, is_common, is_read, are_bits, is_loaded}
 

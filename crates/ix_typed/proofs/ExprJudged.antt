@@ -1,18 +1,16 @@
 -- A typed expression by its cases is what is judged of its tree.
-use Rattle.std.proofs.Common.{◌≡◌, ◌∙◌, sym, ap, subst, refl, ℕ, List, [], Option, Some, None, Bool, true, false, cond, ◌||◌, Result, Ok, Err}
+use Rattle.std.proofs.Common.{◌≡◌, sym, ap, refl, ℕ, List, [], Option, Some, None, Bool, Result, Ok}
 use Rattle.ix_bits.specs.declared.number.Ty.{Ty}
-use Rattle.ix_bits.specs.NearTypes.{type_near}
 use Rattle.ix_tree.specs.declared.token.Span.{Span}
 use Rattle.ix_tree.specs.declared.expr.CastTo.{CastTo}
 use Rattle.ix_tree.specs.declared.expr.CastTo.TheVariants as C
 use Rattle.ix_tree.specs.LoopHeads.{head_value}
-use Rattle.ix_tree.specs.Trees.{ExprTree}
 use Rattle.ix_tree.specs.TypedTrees.{TypedExprTree, t_literal, t_name, t_pc, t_x, t_mem, t_index, t_range, t_unary, t_cast, t_binary, t_choose, type_of, erased}
 use Rattle.ix_typing.specs.declared.role.Shape.{Shape}
 use Rattle.ix_typing.specs.declared.state.Setting.{Setting}
 use Rattle.ix_typing.specs.declared.state.State.{State}
 use Rattle.ix_typing.specs.Names.{role_of}
-use Rattle.ix_typing.specs.Refusals.{Refusal, and_then}
+use Rattle.ix_typing.specs.Refusals.{Refusal}
 use Rattle.ix_typing.specs.Expressions.{Judged, Pair, judged, type_of_name, named, program_counter, x_word, mem_word, word, table, table_word, based, entry_or_bits, element_type, range_type, unary_type, binary_type, common_type, paired, cast}
 use Rattle.ix_typed.specs.Expressions.{IsName, IsPc, IsX, IsMem, IsWord, IsTableOr, IsBase, IsEntryOrBit, IsElement, IsRange, HasCast, IsExpr}
 use Rattle.ix_typed.proofs.Parts.{go}

@@ -1,5 +1,5 @@
 -- What is judged of parts, and what follows from what was judged.
-use Rattle.std.proofs.Common.{◌≡◌, ◌∙◌, sym, ap, subst, refl, Bool, true, false, cond, Result, Ok, Err}
+use Rattle.std.proofs.Common.{◌≡◌, sym, ap, subst, refl, Bool, true, false, cond, Result, Ok, Err}
 use Rattle.ix_typing.specs.Refusals.{Refusal, and_then}
 
 -- a part is judged, and then the rest

@@ -1,8 +1,7 @@
 -- A typed statement by its cases, and what is judged of its tree.
-use Rattle.std.proofs.Common.{◌≡◌, ◌∙◌, sym, ap, subst, refl, ℕ, List, [], ◌∷◌, map, Option, Some, None, Bool, true, false, cond, Result, Ok, Err}
+use Rattle.std.proofs.Common.{◌≡◌, ◌∙◌, sym, ap, subst, refl, ℕ, List, [], ◌∷◌, map, Option, Some, None, Bool, true, Result, Ok, Err}
 use Rattle.ix_bits.specs.declared.number.Ty.{Ty}
 use Rattle.ix_tree.specs.declared.token.Span.{Span}
-use Rattle.ix_tree.specs.declared.expr.TypeText.{TypeText}
 use Rattle.ix_tree.specs.Trees.{ExprTree, DeclTree, StmtTree, s_block, s_empty, s_locals, s_assign, s_if, s_if_else, s_for, s_spawn, StmtRow, row_end, row_more}
 use Rattle.ix_tree.specs.TypedTrees.{TypedExprTree, TypedDeclTree, TypedStmtTree, ts_block, ts_empty, ts_locals, ts_assign, ts_if, ts_if_else, ts_spawn, TypedRow, typed_end, typed_more, type_of, erased, erased_option, erased_decl, erased_stmt, erased_row, erased_assign}
 use Rattle.ix_typing.specs.declared.role.Role.{Role}
@@ -15,7 +14,7 @@ use Rattle.ix_typing.specs.Assignments.{judged_assign, span_of, fits_into}
 use Rattle.ix_typing.specs.Statements.{with_accessed, with_local, with_spawn, scope_end, other_path, both_paths, below_if, below_spawn, may_spawn, valued, unless_visible, judged_decl, judged_decls, condition, in_scope, joined, judged_stmt, judged_row}
 use Rattle.ix_typing.proofs.Erasing.{on_answer}
 use Rattle.ix_typing.proofs.ErasingTexts.{stmt_erased}
-use Rattle.ix_typed.specs.Expressions.{IsWritten, IsExpr}
+use Rattle.ix_typed.specs.Expressions.{IsExpr}
 use Rattle.ix_typed.specs.Statements.{IsInitial, IsDecl, AreDecls, IsStmt, IsRow}
 use Rattle.ix_typed.proofs.Parts.{go, on_hold, got}
 use Rattle.ix_typed.proofs.Types.{written_is, is_written}

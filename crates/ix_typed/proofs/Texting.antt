@@ -1,10 +1,9 @@
 -- A typed text by its cases, and what is judged of its tree.
-use Rattle.std.proofs.Common.{◌≡◌, ◌∙◌, sym, ap, subst, refl, ℕ, suc, ◌+◌, List, [], ◌∷◌, ◌++◌, length, map, Option, Some, None, Bool, true, false, cond, Result, Ok, Err}
+use Rattle.std.proofs.Common.{◌≡◌, ◌∙◌, sym, ap, subst, refl, ℕ, suc, ◌+◌, List, [], ◌∷◌, ◌++◌, length, map, Option, Some, None, true, false, Result, Ok}
 use Rattle.std.specs.Prelude.{nat_eq}
 use Rattle.std.proofs.lemmas.Bool.{eq-eqb, eqb-true}
 use Rattle.ix_bits.specs.declared.number.Ty.{Ty}
 use Rattle.ix_tree.specs.declared.token.Span.{Span}
-use Rattle.ix_tree.specs.declared.section.PieceText.{PieceText}
 use Rattle.ix_tree.specs.Trees.{ExprTree, StmtTree, StateTree, StateKindTree, k_register, k_table, InstrTree, BlockTree, SectionTree, SectionKindTree, k_states, k_instructions, k_always, TextTree}
 use Rattle.ix_tree.specs.TypedTrees.{TypedExprTree, TypedStmtTree, TypedStateTree, TypedStateKindTree, tk_register, tk_table, TypedInstrTree, TypedBlockTree, TypedSectionTree, TypedSectionKindTree, tk_states, tk_instructions, tk_always, TypedTextTree, type_of, erased, erased_stmt, erased_state_kind, erased_state, erased_instr, erased_block, erased_section_kind, erased_section, erased_text}
 use Rattle.ix_typing.specs.declared.role.Named.{Named}
@@ -14,15 +13,13 @@ use Rattle.ix_typing.specs.declared.state.Setting.{Setting}
 use Rattle.ix_typing.specs.declared.state.Front.{Front}
 use Rattle.ix_typing.specs.declared.state.State.{State}
 use Rattle.ix_typing.specs.Names.{role_of, is_listed}
-use Rattle.ix_typing.specs.Refusals.{Refusal, and_then, Step, each}
+use Rattle.ix_typing.specs.Refusals.{Refusal, Step, each}
 use Rattle.ix_typing.specs.Expressions.{judged, embeds, written}
 use Rattle.ix_typing.specs.Assignments.{span_of, fits_into}
 use Rattle.ix_typing.specs.Statements.{judged_stmt}
-use Rattle.ix_typing.specs.Texts.{globals, is_numbered, constant_setting, constant, entries_of, state_kind, judged_state, Fields, fields, pieces_fault, behaviour, unless, judged_instr, judged_block, judged_kind, judged_section, no_front, global_state, judged_text}
+use Rattle.ix_typing.specs.Texts.{globals, is_numbered, constant_setting, constant, state_kind, judged_state, fields, pieces_fault, behaviour, unless, judged_instr, judged_block, judged_kind, judged_section, no_front, global_state, judged_text}
 use Rattle.ix_typing.proofs.Erasing.{on_answer}
 use Rattle.ix_typing.proofs.ErasingTexts.{text_erased}
-use Rattle.ix_typed.specs.Expressions.{IsWritten, IsExpr}
-use Rattle.ix_typed.specs.Statements.{IsStmt}
 use Rattle.ix_typed.specs.Texts.{IsConstant, AreConstants, IsStateKind, IsState, AreStates, IsBehaviour, IsInstr, AreInstrs, IsBlock, AreBlocks, IsKind, AreSections, IsText}
 use Rattle.ix_typed.proofs.Parts.{go, past, on_test, on_hold, got}
 use Rattle.ix_typed.proofs.Types.{written_is, is_written}

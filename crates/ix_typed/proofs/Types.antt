@@ -1,6 +1,6 @@
 -- Types of expressions: the rule, and what is judged.
-use Rattle.std.proofs.Common.{◌≡◌, ◌∙◌, sym, ap, subst, refl, arith, ℕ, zero, suc, ◌≤◌, ◌+◌, ◌-◌, pos, int_lt, int_le, unsigned_abs, List, [], Option, Some, None, Bool, true, false, cond, ◌&&◌, ◌||◌, Result, Ok, Err}
-use Rattle.std.specs.Prelude.{nat_lt, nat_eq, nat_le}
+use Rattle.std.proofs.Common.{◌≡◌, sym, ap, refl, arith, ℕ, zero, suc, ◌≤◌, ◌+◌, ◌-◌, pos, int_lt, int_le, unsigned_abs, Option, Some, None, Bool, true, false, ◌&&◌, Ok}
+use Rattle.std.specs.Prelude.{nat_lt, nat_eq}
 use Rattle.std.proofs.lemmas.Bool.{ltb-false, le-ltb, eqb-true, false≢true}
 use Rattle.ix_bits.specs.declared.number.Ty.{Ty}
 use Rattle.ix_bits.specs.declared.operator.BinOp.{BinOp}
@@ -13,12 +13,10 @@ use Rattle.ix_tree.specs.declared.expr.TypeKind.TheVariants as K
 use Rattle.ix_tree.specs.LoopHeads.{Valued}
 use Rattle.ix_typing.specs.declared.role.Role.{Role}
 use Rattle.ix_typing.specs.declared.role.Role.TheVariants as R
-use Rattle.ix_typing.specs.declared.role.Shape.{Shape}
 use Rattle.ix_typing.specs.declared.state.State.{State}
 use Rattle.ix_typing.specs.declared.targets.Target.TheVariants as T
 use Rattle.ix_typing.specs.Names.{is_among}
-use Rattle.ix_typing.specs.Refusals.{Refusal, and_then}
-use Rattle.ix_typing.specs.Expressions.{sized, written, unary_type, binary_type, common_type, type_of_role, read, bits_type, loaded_type, loaded_range, embeds, u32}
+use Rattle.ix_typing.specs.Expressions.{sized, written, unary_type, binary_type, common_type, type_of_role, bits_type, loaded_range, embeds, u32}
 use Rattle.ix_typed.specs.Expressions.{IsWritten, HasUnary, HasBinary, HasCommon, IsRead, AreBits, IsLoaded}
 use Rattle.ix_typed.proofs.Parts.{past, on_test, on_hold, got}
 

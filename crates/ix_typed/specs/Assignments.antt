@@ -1,5 +1,5 @@
 -- Typed assignments, one case a place: what is written, and which value goes into it (the rules are this project's choice).
-use Rattle.std.specs.Prelude.{◌≡◌, List, Option, Some, None, Bool, true, false}
+use Rattle.std.specs.Prelude.{◌≡◌, Option, Some, None, Bool, true, false}
 use Rattle.ix_bits.specs.declared.number.Ty.{Ty}
 use Rattle.ix_bits.specs.declared.operator.BinOp.{BinOp}
 use Rattle.ix_tree.specs.TypedTrees.{TypedLvalueTree, tl_name, tl_pc, tl_x, tl_mem, TypedAssignTree, type_of, erased}

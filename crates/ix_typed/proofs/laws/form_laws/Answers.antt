@@ -1,6 +1,5 @@
 use Rattle.std.proofs.Common.{◌≡◌, subst, Ok}
 use Rattle.ix_tree.specs.Trees.{ExprTree, TextTree}
-use Rattle.ix_tree.specs.TypedTrees.{type_of}
 use Rattle.ix_typing.specs.Expressions.{judged}
 use Rattle.ix_typing.specs.Texts.{judged_text}
 use Rattle.ix_typing.proofs.Erasing.{judged_erased}
