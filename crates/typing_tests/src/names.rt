@@ -33,7 +33,7 @@ fn targets_are_split_and_joined(rt: HostRuntime) -> Result<(), Fail> {
     let branch = written.split(alloc, 1)?;
     assert!(rt; written.contains(Target::Memory));
     assert!(rt; !written.contains(Target::Register(3)));
-    written.append(&branch)?;
+    written.append(branch.as_slice())?;
     assert!(rt; written.contains(Target::Register(3)));
     Ok(())
 }
