@@ -1,3 +1,3 @@
-pub mod Passing
-pub mod ResultTypes
-pub mod Branches
+mod Behaviours
+mod Sections
+mod Answers

@@ -1,23 +1,11 @@
-//! The checker: a tree without loops gets its types, or the first rule of the language that it breaks is told.
+//! The checker of whole texts: a tree without loops gets its types, or the first rule of the language that it breaks is told.
 #![tactic(auto)]
 
-mod assign;
-mod element;
-mod error;
-mod expression;
-mod judged;
-mod locals;
-mod node;
-mod parts;
-mod pieces;
-mod same;
-mod statement;
-mod states;
-mod target;
-mod types;
-mod words;
+mod always;
+mod behaviour;
+mod instruction;
+mod section;
+mod text;
 
-pub use error::CheckErr;
-pub use pieces::{declare_fields, pieces as check_pieces};
-pub use statement::statement as check_statement;
-pub use states::{globals, states as check_states};
+pub use ix_check_parts::CheckErr;
+pub use text::check;

@@ -14,9 +14,9 @@ use Rattle.ix_typing.specs.declared.role.Named.{Named}
 use Rattle.ix_typing.specs.declared.state.Body.TheVariants as B
 use Rattle.ix_typing.specs.declared.state.State.{State}
 use Rattle.ix_typing.specs.declared.state.Front.{Front}
-use Rattle.ix_typing.specs.Names.{role_of}
+use Rattle.ix_typing.specs.Names.{role_of, is_listed}
 use Rattle.ix_typing.specs.Refusals.{Refusal, range, Step, each}
-use Rattle.ix_typing.specs.Texts.{field_fault, piece_fault, pieces_fault, or_fault, fields, is_listed, behaviour, unless, judged_state, judged_instr, judged_block, judged_kind, judged_section, judged_text, global_state, globals, no_front}
+use Rattle.ix_typing.specs.Texts.{field_fault, piece_fault, pieces_fault, or_fault, fields, behaviour, unless, judged_state, judged_instr, judged_block, judged_kind, judged_section, judged_text, global_state, globals, no_front}
 use Rattle.ix_typing.proofs.Erasing.{on_answer, on_pass}
 use Rattle.ix_extension.specs.Encodings.{IsInWord, AreInWord}
 use Rattle.ix_extension.specs.Extensions.{instrs_in, all_instrs}

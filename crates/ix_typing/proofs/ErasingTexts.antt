@@ -14,12 +14,12 @@ use Rattle.ix_typing.specs.declared.state.Setting.{Setting}
 use Rattle.ix_typing.specs.declared.state.State.{State}
 use Rattle.ix_typing.specs.declared.state.Front.{Front}
 use Rattle.ix_typing.specs.declared.targets.Target.TheVariants as T
-use Rattle.ix_typing.specs.Names.{role_of, is_among}
+use Rattle.ix_typing.specs.Names.{role_of, is_among, is_listed}
 use Rattle.ix_typing.specs.Refusals.{Refusal, Step, each, in_spawn, rom, twice}
 use Rattle.ix_typing.specs.Expressions.{judged, written, u32, is_instruction, field_of, lies_in_destination, width_loaded}
 use Rattle.ix_typing.specs.Assignments.{Placed, judged_assign, placed, place_of_role, writable, stored_type, goes_into, fits_into, span_of, is_update}
 use Rattle.ix_typing.specs.Statements.{judged_stmt, judged_row, judged_decl, judged_decls, unless_visible, valued, may_spawn, with_spawn, below_if, below_spawn, condition, in_scope, other_path, spawned, joined}
-use Rattle.ix_typing.specs.Texts.{constant, constant_setting, state_kind, is_numbered, judged_state, fields, pieces_fault, is_listed, behaviour, unless, judged_instr, judged_block, judged_kind, judged_section, judged_text, global_state, globals, no_front}
+use Rattle.ix_typing.specs.Texts.{constant, constant_setting, state_kind, is_numbered, judged_state, fields, pieces_fault, behaviour, unless, judged_instr, judged_block, judged_kind, judged_section, judged_text, global_state, globals, no_front}
 use Rattle.ix_typing.proofs.Erasing.{on_answer, on_pass, judged_erased}
 
 -- ---- what is told of the answer of a step

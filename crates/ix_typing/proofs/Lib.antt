@@ -1,4 +1,6 @@
 pub mod Walks
+pub mod Keeping
+pub mod Marking
 pub mod Embedded
 pub mod Listed
 pub mod ListedRows

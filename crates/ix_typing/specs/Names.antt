@@ -1,5 +1,5 @@
 -- The roles of names, and which targets are written.
-use Rattle.std.specs.Prelude.{ℕ, List, [], ◌∷◌, Option, Some, None, Bool, true, false, ◌||◌, if◌then◌else◌, nat_eq}
+use Rattle.std.specs.Prelude.{ℕ, ◌+◌, List, [], ◌∷◌, Option, Some, None, Bool, true, false, ◌||◌, if◌then◌else◌, nat_eq}
 use Rattle.ix_tree.specs.Lexing.{same_bytes}
 use Rattle.ix_typing.specs.declared.role.Role.{Role}
 use Rattle.ix_typing.specs.declared.role.Named.{Named}
@@ -26,3 +26,15 @@ same_target _ _ = false
 abbrev pub is_among : List Target → Target → Bool
 is_among [] t = false
 is_among (x ∷ xs) t = same_target x t || is_among xs t
+
+-- the name is one of these
+abbrev pub is_listed : List (List ℕ) → List ℕ → Bool
+is_listed [] n = false
+is_listed (x ∷ xs) n = same_bytes x n || is_listed xs n
+
+-- the number of a target, which no other has
+abbrev pub number_of : Target → ℕ
+number_of T.Memory = 0
+number_of T.Rd = 1
+number_of T.Pc = 2
+number_of (T.Register k) = k + 3

@@ -8,7 +8,6 @@ use Rattle.ix_tree.specs.declared.expr.TypeKind.TheVariants as K
 use Rattle.ix_tree.specs.declared.section.PieceText.{PieceText}
 use Rattle.ix_tree.specs.declared.section.PieceKind.{PieceKind}
 use Rattle.ix_tree.specs.declared.section.PieceKind.TheVariants as P
-use Rattle.ix_tree.specs.Lexing.{same_bytes}
 use Rattle.ix_tree.specs.Trees.{ExprTree, StmtTree, StateTree, StateKindTree, k_register, k_table, InstrTree, BlockTree, SectionTree, SectionKindTree, k_states, k_instructions, k_always, TextTree}
 use Rattle.ix_tree.specs.TypedTrees.{TypedExprTree, TypedStmtTree, TypedStateTree, TypedStateKindTree, tk_register, tk_table, TypedInstrTree, TypedBlockTree, TypedSectionTree, TypedSectionKindTree, tk_states, tk_instructions, tk_always, TypedTextTree}
 use Rattle.ix_typing.specs.declared.role.Role.{Role}
@@ -20,7 +19,7 @@ use Rattle.ix_typing.specs.declared.state.Body.TheVariants as B
 use Rattle.ix_typing.specs.declared.state.Setting.{Setting}
 use Rattle.ix_typing.specs.declared.state.State.{State}
 use Rattle.ix_typing.specs.declared.state.Front.{Front}
-use Rattle.ix_typing.specs.Names.{role_of}
+use Rattle.ix_typing.specs.Names.{role_of, is_listed}
 use Rattle.ix_typing.specs.Refusals.{Refusal, twice, range, rom, refuse, and_then, Step, each}
 use Rattle.ix_typing.specs.Expressions.{judged, written}
 use Rattle.ix_typing.specs.Assignments.{span_of, fits_into}
@@ -157,10 +156,6 @@ pieces_fault names [] = None
 pieces_fault names (p ∷ ps) = or_fault (piece_fault names p.span p.kind) (pieces_fault names ps)
 
 -- ---- instructions and always-blocks, which share one space of names
-abbrev pub is_listed : List (List ℕ) → List ℕ → Bool
-is_listed [] n = false
-is_listed (x ∷ xs) n = same_bytes x n || is_listed xs n
-
 -- a behaviour, in which nothing is written yet
 abbrev pub behaviour : Body → List Named → StmtTree → Result TypedStmtTree Refusal
 behaviour body names x =

@@ -5,10 +5,12 @@ mod laws;
 mod names;
 mod role;
 mod state;
+mod taken;
 mod targets;
 
 pub use laws::typing_laws;
 pub use names::Names;
 pub use role::{Field, Named, Role, Shape};
 pub use state::{Body, Front, Setting, State};
+pub use taken::TakenNames;
 pub use targets::{Target, Targets};

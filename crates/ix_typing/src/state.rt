@@ -1,5 +1,4 @@
-use crate::{Names, Targets};
-use ix_bits::{List, Name};
+use crate::{Names, TakenNames, Targets};
 
 /// What an expression or a statement stands in.
 #[derive(Clone, Copy, Debug, PartialEq, Eq)]
@@ -38,5 +37,5 @@ pub struct Front {
     pub states: bool,
     pub instructions: bool,
     pub always: bool,
-    pub behaviours: List<Name>,
+    pub behaviours: TakenNames,
 }

@@ -1,4 +1,4 @@
-//! Tests of `ix_typing` and `ix_check`.
+//! Tests of `ix_typing` and `ix_check_parts`.
 #![tactic(auto)]
 
 #[cfg(test)]

@@ -1,5 +1,5 @@
 use ix_bits::{List, Memory, Name, Ty};
-use ix_check::{CheckErr, check_pieces, check_states, declare_fields, globals};
+use ix_check_parts::{CheckErr, check_pieces, check_states, declare_fields, globals};
 use ix_tree::{PieceKind, PieceText, Span};
 use ix_typing::{Names, Role, State, Target, Targets};
 use std::alloc::Global;
@@ -33,7 +33,7 @@ fn targets_are_split_and_joined(rt: HostRuntime) -> Result<(), Fail> {
     let branch = written.split(alloc, 1)?;
     assert!(rt; written.contains(Target::Memory));
     assert!(rt; !written.contains(Target::Register(3)));
-    written.append(&branch)?;
+    written.append(branch.as_slice())?;
     assert!(rt; written.contains(Target::Register(3)));
     Ok(())
 }

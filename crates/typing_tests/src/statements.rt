@@ -1,5 +1,5 @@
 use ix_bits::{Bits, List, Memory, Ty};
-use ix_check::{CheckErr, check_statement};
+use ix_check_parts::{CheckErr, check_statement};
 use ix_tree::{Assign, Expr, ExprKind, Lvalue, LvalueKind, Span, Stmt, StmtKind};
 use ix_typing::{Body, Names, Setting, State, Targets};
 use std::alloc::Global;

@@ -1,5 +1,0 @@
-use Rattle.ix_check.proofs.Passing.{span_is}
-use Rattle.ix_check.proofs.assign.span_of.Goals as goal
-
-pub returns : goal.returns
-returns c = span_is c.args.e.now.span c.args.e.now.kind

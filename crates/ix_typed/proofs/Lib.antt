@@ -1,0 +1,7 @@
+mod Parts
+mod Types
+mod ExprJudged
+mod ExprCases
+mod Assigning
+mod Stating
+mod Texting

@@ -1,0 +1,5 @@
+pub mod Expressions
+pub mod Assignments
+pub mod Statements
+pub mod Texts
+pub mod Laws
