@@ -1,3 +1,7 @@
+ghost use Rattle.std.specs.Prelude.{◌≡◌};
+ghost use Rattle.ix_verilog.specs.Words.{words_of};
+ghost use Rattle.ix_vform.specs.Found.{IsFound, IsFoundIn};
+
 use crate::scope::Scope;
 use crate::slot::reach_of;
 use ix_verilog::Token;
@@ -32,18 +36,28 @@ const KINDS: [Kind; 19] = [
     Kind::Finish,
 ];
 
-fn furthest(scope: &Scope, tokens: &[Token], kinds: &[Kind]) -> Found {
-    let mut most = 0;
-    for kind in kinds {
-        let reach = reach_of(scope, *kind, tokens);
-        if reach.is_whole {
-            return Found::Line(*kind, reach.words);
+/// What is found among these kinds.
+fn found_in(scope: &Scope, tokens: &[Token], kinds: &[Kind]) -> Found
+    ensures { IsFoundIn scope.now (words_of tokens.now) kinds.now result }
+{
+    match kinds {
+        [] => Found::Part(0),
+        [kind, others @ ..] => {
+            let reach = reach_of(scope, *kind, tokens);
+            if reach.is_whole {
+                return Found::Line(*kind, reach.words);
+            }
+            match found_in(scope, tokens, others) {
+                Found::Line(other, words) => Found::Line(other, words),
+                Found::Part(words) => Found::Part(words.max(reach.words)),
+            }
         }
-        most = most.max(reach.words);
     }
-    Found::Part(most)
 }
 
-pub fn line_in(scope: &Scope, tokens: &[Token]) -> Found {
-    furthest(scope, tokens, &KINDS)
+/// What stands at the front of the words, which are behind the lines of the scope.
+pub fn line_in(scope: &Scope, tokens: &[Token]) -> Found
+    ensures { IsFound scope.now (words_of tokens.now) result }
+{
+    found_in(scope, tokens, &KINDS)
 }

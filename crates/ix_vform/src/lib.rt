@@ -1,7 +1,8 @@
-//! What the lines of a Verilog text may be (IEEE 1364-2005, 12), and which of them stands at the front of words.
+//! Which line of a Verilog module (IEEE 1364-2005, 12) stands at the front of words, and what an open module has declared.
 #![tactic(auto)]
 
 mod found;
+mod guard;
 mod scope;
 mod slot;
 mod word;

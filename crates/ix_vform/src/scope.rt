@@ -1,9 +1,19 @@
+ghost use Rattle.std.specs.Prelude.{◌≡◌, ◌↔◌, ◌++◌, [], ◌∷◌, IsTrue, OnOk, Some, None, MatchOption, All, Any, Contains, map};
+ghost use Rattle.std.specs.List.{list_any};
+ghost use Rattle.std.specs.Str.{bytes_eq};
+ghost use Rattle.ix_net.specs.declared.netlist.Port.{Port as port_type};
+ghost use Rattle.ix_verilog.specs.declared.source.Assign.{Assign as assign_type};
+ghost use Rattle.ix_verilog.specs.declared.source.Update.{Update as update_type};
+ghost use Rattle.ix_verilog.specs.Subset.{Names, declared, IsNext, IsTarget, IsOperand, IsRegister, fresh};
+ghost use Rattle.ix_vform.specs.Roles.{IsRole};
+
 use crate::word::is_named;
 use ix_net::Port;
-use ix_verilog::{Source, Stage};
+use ix_verilog::Source;
+use std::marker::Model;
 
 /// What a name is first.
-#[derive(Clone, Copy, PartialEq, Eq)]
+#[derive(Clone, Copy)]
 pub enum Role {
     Input,
     /// An output that is no input, or a wire.
@@ -14,21 +24,38 @@ pub enum Role {
 /// The module that is open, if one is.
 #[derive(Drop)]
 pub struct Scope {
-    pub module: Option<Source>,
+    pub(crate) module: Option<Source>,
 }
 
-fn has(ports: &[Port], word: &[u8]) -> bool {
+impl Model for Scope {
+    ghost use Rattle.std.specs.Prelude.{Option};
+    ghost use Rattle.ix_verilog.specs.declared.source.Source.{Source};
+
+    ghost Value = { Option Source };
+
+    ghost view = { λ s. s.module };
+}
+
+/// Whether a port has this name.
+fn has(ports: &[Port], word: &[u8]) -> bool
+    ensures { result ≡ list_any (λ (p : port_type). bytes_eq p.name word.now) ports.now }
+{
     ports
         .iter()
         .any(|port| port.name.as_str().as_bytes() == word)
 }
 
 /// What a word is first, where it is declared.
-fn first_role(source: &Source, word: &[u8]) -> Option<Role> {
+fn first_role(source: &Source, word: &[u8]) -> Option<Role>
+    ensures { MatchOption result (Names (declared source.now) word.now → ⊥) (IsRole source.now word.now) }
+{
     if has(source.inputs.as_slice(), word) {
         return Some(Role::Input);
     }
-    if has(source.outputs.as_slice(), word) || has(source.wires.as_slice(), word) {
+    if has(source.outputs.as_slice(), word) {
+        return Some(Role::Assigned);
+    }
+    if has(source.wires.as_slice(), word) {
         return Some(Role::Assigned);
     }
     if has(source.registers.as_slice(), word) {
@@ -38,114 +65,50 @@ fn first_role(source: &Source, word: &[u8]) -> Option<Role> {
 }
 
 /// Whether the port that is declared next has this name.
-pub fn is_next(source: &Source, word: &[u8]) -> bool {
-    let declared = source.inputs.len() + source.outputs.len();
+pub fn is_next(source: &Source, word: &[u8]) -> bool
+    ensures { IsTrue result ↔ IsNext source.now word.now }
+{
+    let declared = source.inputs.as_slice().len() + source.outputs.as_slice().len();
     match source.ports.as_slice().get(declared) {
         Some(name) => name.as_str().as_bytes() == word,
         None => false,
     }
 }
 
-fn has_ports(source: &Source) -> bool {
-    source.ports.len() == source.inputs.len() + source.outputs.len()
+/// Whether the word is a declared name.
+pub fn is_operand(source: &Source, word: &[u8]) -> bool
+    ensures { IsTrue result ↔ IsOperand source.now word.now }
+{
+    match first_role(source, word) {
+        Some(_) => is_named(word),
+        None => false,
+    }
 }
 
-pub fn is_operand(source: &Source, word: &[u8]) -> bool {
-    is_named(word) && first_role(source, word).is_some()
-}
-
-pub fn is_target(source: &Source, word: &[u8]) -> bool {
-    is_named(word) && matches!(first_role(source, word), Some(Role::Assigned))
-}
-
-pub fn is_register(source: &Source, word: &[u8]) -> bool {
-    is_named(word) && matches!(first_role(source, word), Some(Role::Register))
-}
-
-fn has_target(source: &Source) -> bool {
-    source
-        .outputs
-        .as_slice()
-        .iter()
-        .any(|port| is_target(source, port.name.as_str().as_bytes()))
-        || source
-            .wires
-            .as_slice()
-            .iter()
-            .any(|port| is_target(source, port.name.as_str().as_bytes()))
-}
-
-fn has_register(source: &Source) -> bool {
-    source
-        .registers
-        .as_slice()
-        .iter()
-        .any(|port| is_register(source, port.name.as_str().as_bytes()))
-}
-
-fn is_driven(source: &Source) -> bool {
-    source
-        .outputs
-        .as_slice()
-        .iter()
-        .all(|port| is_assigned(source, port))
-        && source
-            .wires
-            .as_slice()
-            .iter()
-            .all(|port| is_assigned(source, port))
-        && source
-            .registers
-            .as_slice()
-            .iter()
-            .all(|port| is_updated(source, port))
-}
-
-fn is_assigned(source: &Source, port: &Port) -> bool {
-    source
-        .assigns
-        .as_slice()
-        .iter()
-        .any(|assign| assign.target.as_str() == port.name.as_str())
-}
-
-fn is_updated(source: &Source, port: &Port) -> bool {
-    source
-        .updates
-        .as_slice()
-        .iter()
-        .any(|update| update.target.as_str() == port.name.as_str())
-}
-
-use ix_vline::Kind;
-
-/// Whether some line of the kind may stand next in the module.
-pub fn may_start(source: &Source, kind: Kind) -> bool {
-    match kind {
-        Kind::Head => false,
-        Kind::Port => source.stage == Stage::Ports,
-        Kind::Heading => source.stage == Stage::Ports,
-        Kind::Input => source.stage == Stage::Lines
-            && !has_ports(source)
-            && source.outputs.is_empty(),
-        Kind::Output => source.stage == Stage::Lines && !has_ports(source),
-        Kind::Wire => source.stage == Stage::Lines
-            && has_ports(source)
-            && source.registers.is_empty()
-            && source.assigns.is_empty(),
-        Kind::Register => source.stage == Stage::Lines
-            && has_ports(source)
-            && source.assigns.is_empty(),
-        Kind::Assign(_) => source.stage == Stage::Lines && has_ports(source) && has_target(source),
-        Kind::Always => source.stage == Stage::Lines
-            && has_ports(source)
-            && !source.registers.is_empty(),
-        Kind::Update => source.stage == Stage::Clocked && has_register(source),
-        Kind::Done => source.stage == Stage::Clocked,
-        Kind::Finish => match source.stage {
-            Stage::Lines => has_ports(source) && is_driven(source),
-            Stage::Ended => is_driven(source),
-            _ => false,
+/// Whether an `assign` may drive the word.
+pub fn is_target(source: &Source, word: &[u8]) -> bool
+    ensures { IsTrue result ↔ IsTarget source.now word.now }
+{
+    match first_role(source, word) {
+        Some(role) => match role {
+            Role::Input => false,
+            Role::Assigned => is_named(word),
+            Role::Register => false,
         },
+        None => false,
+    }
+}
+
+/// Whether the word is a register.
+pub fn is_register(source: &Source, word: &[u8]) -> bool
+    ensures { IsTrue result ↔ IsRegister source.now word.now }
+{
+    match first_role(source, word) {
+        Some(role) => match role {
+            Role::Input => false,
+            Role::Assigned => false,
+            Role::Register => is_named(word),
+        },
+        None => false,
     }
 }

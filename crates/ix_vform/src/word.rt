@@ -1,10 +1,11 @@
-ghost use Rattle.std.specs.Prelude.{◌≡◌, ◌↔◌, ◌≤◌, ◌-◌, ◌+◌, IsTrue, MatchOption, IfOk, decimal, length, Contains};
+ghost use Rattle.std.specs.Prelude.{◌≡◌, ◌↔◌, ◌≤◌, true, take, drop, IsTrue, MatchOption, IfOk, decimal, length, Contains};
 ghost use Rattle.std.specs.List.{list_all};
 ghost use Rattle.ix_net.specs.Name.{IsName};
-ghost use Rattle.ix_verilog.specs.Words.{is_digit as specified_is_digit};
+ghost use Rattle.ix_verilog.specs.Words.{Stops, is_digit as specified_is_digit};
 ghost use Rattle.ix_verilog.specs.Lines.{is_hex_digit as specified_is_hex_digit, AreDigits, IsNumber, IsLiteral, operators};
 ghost use Rattle.ix_verilog.specs.Subset.{IsShortName};
 ghost use Rattle.ix_vline.specs.Slots.{IsHighest};
+ghost use Rattle.ix_vform.specs.Based.{IsBased};
 
 use itoa::Buffer;
 use ix_bits::{Memory, Name};
@@ -85,8 +86,12 @@ fn is_hex_number(word: &[u8]) -> bool
     }
 }
 
-/// The count of digits with which a word begins.
-fn digits(word: &[u8]) -> usize {
+/// The length of the longest front of decimal digits.
+fn digits(word: &[u8]) -> usize
+    ensures within { result ≤ length word.now }
+    ensures inside { list_all specified_is_digit (take result word.now) ≡ true }
+    ensures stops { Stops specified_is_digit (drop result word.now) }
+{
     for (i, byte) in word.iter().enumerate() {
         if !is_digit(*byte) {
             return i;
@@ -95,17 +100,25 @@ fn digits(word: &[u8]) -> usize {
     word.len()
 }
 
+/// Whether the bytes are `'h` and digits.
+fn is_based(bytes: &[u8]) -> bool
+    ensures { IsTrue result ↔ IsBased bytes.now }
+{
+    match bytes {
+        [quote, base, number @ ..] => *quote == b'\'' && *base == b'h' && is_hex_number(number),
+        _ => false,
+    }
+}
+
 /// Whether a word is a width, `'h` and digits, as `8'h2a`.
 pub fn is_literal(word: &[u8]) -> bool
     ensures { IsTrue result ↔ IsLiteral word.now }
 {
-    let width = digits(word);
-    match &word[width..] {
-        [quote, base, number @ ..] => {
-            *quote == b'\'' && *base == b'h' && is_number(&word[..width]) && is_hex_number(number)
-        }
-        _ => false,
+    let (width, rest) = word.split_at(digits(word));
+    if is_number(width) {
+        return is_based(rest);
     }
+    false
 }
 
 fn is_written(number: u8, word: &[u8]) -> bool
@@ -124,7 +137,10 @@ pub fn highest(word: &[u8]) -> Option<u8>
     let Ok(number) = text.parse::<u8>() else {
         return None;
     };
-    if number <= 127 && is_written(number, word) {
+    if number > 127 {
+        return None;
+    }
+    if is_written(number, word) {
         Some(number)
     } else {
         None

@@ -1,0 +1,4 @@
+pub mod Based
+pub mod Found
+pub mod Reach
+pub mod Roles
