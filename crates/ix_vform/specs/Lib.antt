@@ -1,3 +1,4 @@
+pub mod Added
 pub mod Based
 pub mod Found
 pub mod Reach

@@ -23,15 +23,12 @@ use Rattle.ix_vline.specs.declared.kind.Slot.TheVariants as slot
 use Rattle.ix_vline.specs.Slots.{Takes, slots, right_slots, declaring, first_word, MayStartIn, MayStart}
 use Rattle.ix_vline.specs.Reached.{Fits}
 use Rattle.ix_vline.specs.Laws.{Stands}
+use Rattle.ix_vline.specs.Picked.{nth, IsDeclaredBy}
 use Rattle.ix_vline.proofs.Fitting.{join, picks, picks_are}
 
 -- the line may stand, and has these words
 abbrev pub IsHere : Option Source → List Word → Line → Type 0
 IsHere o ws l = MayStand o l × (ws ≡ line_words l)
-
--- the word at a place
-abbrev pub nth : ℕ → List Word → Word
-nth k ws = get_or ws k []
 
 -- ---- the head, and a port
 pub head_line : (ws : List Word) → Fits None (slots Head) ws → IsHere None ws (line.head (nth 1 ws))
@@ -52,12 +49,6 @@ heading_line s ws f =
     (subst (λ (t : Stage). MayStandIn s t line.heading) (sym f.3.1) tt, e ∙ join f.3.0 (join f.4.3 (join f.4.4.3 (join f.4.4.4.3 (join f.4.4.4.4.3 refl)))))
 
 -- ---- declarations
--- the port is the one that the words declare
-pub record IsDeclaredBy (ws : List Word) (p : DeclaredPort) : Type 0 where
-  pub name : p.name ≡ nth 6 ws
-  pub highest : nth 2 ws ≡ decimal (p.width - 1)
-  pub wide : IsWidth p.width
-
 declared_words : (s : Source) (k : Kind) (name : Slot) (ws : List Word) (f : Fits (Some s) (declaring k name) ws) (p : DeclaredPort) → IsDeclaredBy ws p → ws ≡ port_words (first_word k) p
 declared_words s k name ws f p d =
     let e = picks_are (Some s) (declaring k name) ws f in
