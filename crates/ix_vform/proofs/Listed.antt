@@ -1,16 +1,15 @@
 -- Kinds one after another.
-use Rattle.std.proofs.Common.{◌≡◌, ℕ, suc, ◌<◌, ◌≤◌, List, [], ◌∷◌, length, take, drop, ◌-◌, get_or, Bool, true, false, refl, ap, sym, ◌∙◌, subst, arith, inl, inr, Option}
-use Rattle.std.specs.Prelude.{IsTrue, max}
+use Rattle.std.proofs.Common.{◌≡◌, ℕ, ◌≤◌, List, [], ◌∷◌, length, take, drop, ◌-◌, get_or, false, ap, sym, ◌∙◌, subst, arith, inl, inr, Option}
+use Rattle.std.specs.Prelude.{max}
 use Rattle.std.proofs.lemmas.Bool.{true≢false, cases_lt}
 use Rattle.std.proofs.Math.Seq.{take-length}
 use Rattle.ix_verilog.specs.declared.source.Source.{Source}
 use Rattle.ix_verilog.specs.Words.{Word}
 use Rattle.ix_vline.specs.declared.kind.Kind.{Kind}
 use Rattle.ix_vline.specs.declared.kind.Kind.TheVariants.{Head, Port, Heading, Input, Output, Wire, Register, Assign, Always, Update, Done, Finish}
-use Rattle.ix_vline.specs.declared.kind.Right.{Right}
 use Rattle.ix_vline.specs.declared.kind.Right.TheVariants as right
 use Rattle.ix_vline.specs.Slots.{slots}
-use Rattle.ix_vline.specs.Reached.{Reaches, StopsIn, NoneBeyond, SomeTo}
+use Rattle.ix_vline.specs.Reached.{StopsIn, NoneBeyond, SomeTo}
 use Rattle.ix_vform.specs.declared.slot.Reach.{Reach}
 use Rattle.ix_vform.specs.declared.found.Found.{Found}
 use Rattle.ix_vform.specs.declared.found.Found.TheVariants.{Line, Part}

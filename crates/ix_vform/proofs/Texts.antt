@@ -1,5 +1,5 @@
 -- Words as names, numbers and literals.
-use Rattle.std.proofs.Common.{◌≡◌, ℕ, suc, ◌+◌, ◌-◌, ◌<◌, ◌≤◌, ◌^◌, List, [], ◌∷◌, ◌++◌, length, take, drop, Bool, true, false, refl, ap, sym, ◌∙◌, subst, arith}
+use Rattle.std.proofs.Common.{◌≡◌, ℕ, ◌+◌, ◌-◌, ◌<◌, ◌≤◌, ◌^◌, [], ◌∷◌, ◌++◌, take, drop, Bool, true, false, refl, ap, sym, ◌∙◌, subst, arith}
 use Rattle.std.specs.Prelude.{codes, All, IsTrue, ◌↔◌, ◌||◌, IsUtf8, Result, Ok}
 use Rattle.std.specs.List.{list_all}
 use Rattle.std.specs.Fmt.{decimal}
@@ -13,9 +13,8 @@ use Rattle.std.proofs.lemmas.List.Elements.{All-head, All-tail}
 use Rattle.std.proofs.lemmas.Str.{IsUtf8-from_ascii}
 use Rattle.std.proofs.lemmas.Str.Ascii.{IsAscii-nil, IsAscii-cons}
 use Rattle.ix_net.specs.Name.{IsName, is_letter, is_mark}
-use Rattle.ix_net.specs.Valid.{IsWidth}
 use Rattle.ix_verilog.specs.Words.{Word, Stops, is_digit}
-use Rattle.ix_verilog.specs.Lines.{IsNumber, IsLiteral, AreDigits, is_hex_digit}
+use Rattle.ix_verilog.specs.Lines.{IsNumber, IsLiteral}
 use Rattle.ix_verilog.proofs.Fronts.{fronts}
 use Rattle.ix_vline.specs.Slots.{IsHighest}
 use Rattle.ix_vform.specs.Based.{IsBased}

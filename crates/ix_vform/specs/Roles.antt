@@ -3,7 +3,7 @@ use Rattle.std.specs.Prelude.{List, ◌++◌}
 use Rattle.ix_net.specs.declared.netlist.Port.{Port}
 use Rattle.ix_verilog.specs.declared.source.Source.{Source}
 use Rattle.ix_verilog.specs.Words.{Word}
-use Rattle.ix_verilog.specs.Subset.{Names, assigned, IsTarget, IsRegister}
+use Rattle.ix_verilog.specs.Subset.{Names, assigned}
 use Rattle.ix_vform.specs.declared.scope.Role.{Role}
 use Rattle.ix_vform.specs.declared.scope.Role.TheVariants.{Input, Assigned, Register}
 

@@ -1,24 +1,24 @@
 -- Behind its first word a line has a word for each slot.
-use Rattle.std.proofs.Common.{◌≡◌, ℕ, suc, ◌-◌, List, [], ◌∷◌, ◌++◌, length, take, true, false, refl, ap, sym, ◌∙◌, subst, inl, inr, Option, Some, None, arith}
+use Rattle.std.proofs.Common.{◌≡◌, ℕ, suc, ◌-◌, List, [], ◌∷◌, ◌++◌, length, take, true, refl, sym, subst, Option, Some, None, arith}
 use Rattle.std.specs.Prelude.{codes, decimal, Contains, All, nat_lt, ◌||◌}
-use Rattle.std.proofs.lemmas.Bool.{false≢true, true≢false}
+use Rattle.std.proofs.lemmas.Bool.{false≢true}
 use Rattle.std.proofs.lemmas.List.{map-append}
 use Rattle.std.proofs.lemmas.List.Folds.{Any-from_list_any}
 use Rattle.std.proofs.lemmas.List.Elements.{All-from_recursion, All-contains, Contains-append_left, Contains-append_right}
 use Rattle.ix_net.specs.declared.netlist.Port.{Port as DeclaredPort}
 use Rattle.ix_net.specs.Name.{IsName, keywords, is_letter, is_mark}
-use Rattle.ix_net.specs.Valid.{IsWidth, names}
+use Rattle.ix_net.specs.Valid.{names}
 use Rattle.ix_verilog.specs.declared.source.Source.{Source}
 use Rattle.ix_verilog.specs.Words.{Word}
-use Rattle.ix_verilog.specs.Lines.{IsNumber, IsLiteral, operators}
-use Rattle.ix_verilog.specs.Subset.{IsShortName, IsNext, IsOperand, IsTarget, IsRegister, declared, assigned}
+use Rattle.ix_verilog.specs.Lines.{IsNumber, IsLiteral}
+use Rattle.ix_verilog.specs.Subset.{IsShortName, IsOperand, IsTarget, IsRegister, assigned}
 use Rattle.ix_vline.specs.declared.kind.Kind.{Kind}
 use Rattle.ix_vline.specs.declared.kind.Kind.TheVariants.{Head, Port, Heading, Input, Output, Wire, Register, Assign, Always, Update, Done, Finish}
 use Rattle.ix_vline.specs.declared.kind.Right.{Right}
 use Rattle.ix_vline.specs.declared.kind.Right.TheVariants as right
 use Rattle.ix_vline.specs.declared.kind.Slot.{Slot}
 use Rattle.ix_vline.specs.declared.kind.Slot.TheVariants as slot
-use Rattle.ix_vline.specs.Slots.{Takes, slots, right_slots, declaring, first_word, MayStartIn, MayStart, HasTarget, HasRegister}
+use Rattle.ix_vline.specs.Slots.{Takes, slots, right_slots, declaring, first_word, MayStartIn, MayStart}
 use Rattle.ix_vline.specs.Reached.{Reaches, Fits}
 use Rattle.ix_vline.proofs.Fitting.{AllHave, completed}
 

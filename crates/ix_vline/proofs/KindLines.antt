@@ -1,30 +1,29 @@
 -- What fits the slots of a kind is a line that may stand.
-use Rattle.std.proofs.Common.{◌≡◌, ◌⊎◌, ℕ, ◌-◌, ◌+◌, List, [], ◌∷◌, ◌++◌, length, take, drop, get_or, refl, ap, sym, ◌∙◌, subst, inl, inr, Option, Some, None, arith}
+use Rattle.std.proofs.Common.{◌≡◌, ℕ, ◌-◌, ◌+◌, List, [], ◌∷◌, ◌++◌, length, take, drop, refl, ap, sym, ◌∙◌, subst, inl, inr, Option, Some, None, arith}
 use Rattle.std.specs.Prelude.{codes, decimal}
 use Rattle.std.proofs.Math.Seq.{take-append_seam}
 use Rattle.std.proofs.lemmas.List.{length-append}
 use Rattle.ix_net.specs.declared.netlist.Port.{Port as DeclaredPort}
-use Rattle.ix_net.specs.Valid.{IsWidth}
 use Rattle.ix_verilog.specs.declared.source.Source.{Source}
 use Rattle.ix_verilog.specs.declared.source.Assign.{Assign as Assignment}
 use Rattle.ix_verilog.specs.declared.source.Update.{Update as Change}
 use Rattle.ix_verilog.specs.declared.source.Stage.{Stage}
-use Rattle.ix_verilog.specs.declared.source.Stage.TheVariants.{Ports, Lines, Clocked, Ended}
+use Rattle.ix_verilog.specs.declared.source.Stage.TheVariants.{Lines}
 use Rattle.ix_verilog.specs.Words.{Word}
 use Rattle.ix_verilog.specs.Lines as line
 use Rattle.ix_verilog.specs.Lines.{Line, line_words, port_words, IsRight, literal, copy, both, turned, signed, joined, range, choice}
-use Rattle.ix_verilog.specs.Subset.{MayStand, MayStandIn, IsShortName, IsNext, IsOperand, IsTarget, IsRegister, IsDriven, HasPorts, MayDeclare}
+use Rattle.ix_verilog.specs.Subset.{MayStand, MayStandIn, IsShortName, IsNext, IsOperand, IsTarget, IsRegister}
 use Rattle.ix_vline.specs.declared.kind.Kind.{Kind}
 use Rattle.ix_vline.specs.declared.kind.Kind.TheVariants.{Head, Port, Heading, Input, Output, Wire, Register, Assign, Always, Update, Done, Finish}
 use Rattle.ix_vline.specs.declared.kind.Right.{Right}
 use Rattle.ix_vline.specs.declared.kind.Right.TheVariants as right
 use Rattle.ix_vline.specs.declared.kind.Slot.{Slot}
 use Rattle.ix_vline.specs.declared.kind.Slot.TheVariants as slot
-use Rattle.ix_vline.specs.Slots.{Takes, slots, right_slots, declaring, first_word, MayStartIn, MayStart}
+use Rattle.ix_vline.specs.Slots.{Takes, slots, right_slots, declaring, first_word, MayStartIn}
 use Rattle.ix_vline.specs.Reached.{Fits}
 use Rattle.ix_vline.specs.Laws.{Stands}
 use Rattle.ix_vline.specs.Picked.{nth, IsDeclaredBy}
-use Rattle.ix_vline.proofs.Fitting.{join, picks, picks_are}
+use Rattle.ix_vline.proofs.Fitting.{join, picks_are}
 
 -- the line may stand, and has these words
 abbrev pub IsHere : Option Source → List Word → Line → Type 0

@@ -9,14 +9,12 @@ use Rattle.ix_verilog.specs.declared.source.Stage.TheVariants.{Ports, Lines, Clo
 use Rattle.ix_verilog.specs.Words.{Word}
 use Rattle.ix_verilog.specs.Lines as line
 use Rattle.ix_verilog.specs.Lines.{Line, line_words, IsRight, literal, copy, both, turned, signed, joined, range, choice}
-use Rattle.ix_verilog.specs.Subset.{MayStand, MayStandIn, IsShortName, IsNext, IsOperand, IsTarget, IsRegister, IsDriven, HasPorts, MayDeclare}
-use Rattle.ix_net.specs.Valid.{IsWidth}
+use Rattle.ix_verilog.specs.Subset.{MayStand, MayStandIn, IsShortName, IsOperand, IsDriven, HasPorts}
 use Rattle.ix_vline.specs.declared.kind.Kind.{Kind}
 use Rattle.ix_vline.specs.declared.kind.Kind.TheVariants.{Head, Port, Heading, Input, Output, Wire, Register, Assign, Always, Update, Done, Finish}
 use Rattle.ix_vline.specs.declared.kind.Right.{Right}
 use Rattle.ix_vline.specs.declared.kind.Right.TheVariants as right
-use Rattle.ix_vline.specs.declared.kind.Slot.{Slot}
-use Rattle.ix_vline.specs.Slots.{Takes, slots, right_slots, MayStartIn, MayStart}
+use Rattle.ix_vline.specs.Slots.{slots, right_slots}
 use Rattle.ix_vline.specs.Reached.{Fits}
 
 port_at : (s : Source) (stage : Stage) (n : Word) → MayStandIn s stage (line.port n) → (stage ≡ Ports) × IsShortName n

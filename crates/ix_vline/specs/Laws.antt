@@ -1,5 +1,5 @@
 -- Kinds and slots are what may stand behind the lines of a module.
-use Rattle.std.specs.Prelude.{◌≡◌, ℕ, ◌<◌, ◌≤◌, suc, List, ◌++◌, length, take, Option}
+use Rattle.std.specs.Prelude.{◌≡◌, ℕ, suc, List, ◌++◌, take, Option}
 use Rattle.ix_verilog.specs.declared.source.Source.{Source}
 use Rattle.ix_verilog.specs.Words.{Word}
 use Rattle.ix_verilog.specs.Lines.{Line, line_words}

@@ -1,5 +1,5 @@
 -- How far lines lead, and where words leave the subset.
-use Rattle.std.proofs.Common.{◌≡◌, ◌≢◌, ◌⊎◌, ℕ, zero, suc, ◌+◌, ◌-◌, ◌<◌, ◌≤◌, List, [], ◌∷◌, ◌++◌, length, take, drop, refl, ap, sym, ◌∙◌, subst, arith, append_assoc, inl, inr, Option, Some, None}
+use Rattle.std.proofs.Common.{◌≡◌, ◌≢◌, ℕ, zero, suc, ◌+◌, ◌-◌, ◌<◌, ◌≤◌, List, [], ◌∷◌, ◌++◌, length, take, drop, refl, ap, sym, ◌∙◌, subst, arith, append_assoc, inl, inr, Option, None}
 use Rattle.std.specs.List.{flat_map}
 use Rattle.std.proofs.lemmas.Grind.{flat_map-append}
 use Rattle.std.proofs.lemmas.List.{append-nil, take-append-drop, length-drop}
@@ -7,7 +7,7 @@ use Rattle.std.proofs.Math.Seq.{take-length}
 use Rattle.ix_verilog.specs.declared.source.Source.{Source}
 use Rattle.ix_verilog.specs.Words.{Word}
 use Rattle.ix_verilog.specs.Lines.{Line, line_words}
-use Rattle.ix_verilog.specs.Subset.{State, start, after, Leads, MayStand, AreModules, Begins}
+use Rattle.ix_verilog.specs.Subset.{State, start, after, Leads, AreModules, Begins}
 use Rattle.ix_verilog.proofs.OneReading.{GoesOn, goes_on, some_words}
 use Rattle.ix_vline.specs.declared.kind.Kind.{Kind}
 use Rattle.ix_vline.specs.declared.kind.Slot.{Slot}
@@ -18,8 +18,7 @@ use Rattle.ix_vline.proofs.Fitting.{no_line, whole_line, fits_taken}
 use Rattle.ix_vline.proofs.Going.{started_goes_on}
 use Rattle.ix_vline.proofs.KindLines.{fitting_stands}
 use Rattle.ix_vline.proofs.Standing.{lines_fit}
-use Rattle.ix_vform.specs.declared.found.Found.{Found}
-use Rattle.ix_vform.specs.declared.found.Found.TheVariants.{Line as a_line, Part}
+use Rattle.ix_vform.specs.declared.found.Found.TheVariants.{Part}
 use Rattle.ix_vform.specs.Found.{IsFound}
 use Rattle.ix_vparse.specs.Answers.{Leaves}
 use Rattle.ix_vparse.specs.Taken.{Steps}

@@ -1,5 +1,5 @@
 -- Lines that are taken.
-use Rattle.std.proofs.Common.{◌≡◌, ◌≢◌, ℕ, ◌+◌, ◌-◌, ◌<◌, ◌≤◌, List, [], ◌∷◌, ◌++◌, length, take, drop, get_or, map, refl, ap, sym, ◌∙◌, subst, arith, Option, Some, None}
+use Rattle.std.proofs.Common.{◌≡◌, ℕ, ◌-◌, ◌<◌, ◌≤◌, List, [], ◌∷◌, ◌++◌, length, take, drop, get_or, ap, sym, ◌∙◌, subst, arith, Option, Some, None}
 use Rattle.std.specs.Prelude.{Result, Ok, Err, OnOk}
 use Rattle.std.proofs.lemmas.List.{take-map, drop-map, take_all, length-drop, get_or-map, length-map}
 use Rattle.std.proofs.lemmas.Option.{same_Some}
@@ -11,14 +11,13 @@ use Rattle.ix_verilog.specs.declared.token.Token.{Token}
 use Rattle.ix_verilog.specs.Words.{Word, words_of}
 use Rattle.ix_verilog.specs.Lines as line
 use Rattle.ix_verilog.specs.Lines.{Line, line_words}
-use Rattle.ix_verilog.specs.Subset.{MayStand, State, after_in, fresh}
+use Rattle.ix_verilog.specs.Subset.{State, fresh}
 use Rattle.ix_vline.specs.declared.kind.Kind.{Kind}
 use Rattle.ix_vline.specs.declared.kind.Kind.TheVariants.{Head, Port, Heading, Input, Output, Wire, Register, Assign, Always, Update, Done, Finish}
 use Rattle.ix_vline.specs.declared.kind.Right.{Right}
 use Rattle.ix_vline.specs.declared.kind.Right.TheVariants as right
 use Rattle.ix_vline.specs.declared.kind.Slot.{Slot}
-use Rattle.ix_vline.specs.Slots.{slots, declaring, Takes, IsHighest}
-use Rattle.ix_vline.specs.declared.kind.Slot.TheVariants as slot
+use Rattle.ix_vline.specs.Slots.{slots, declaring, IsHighest}
 use Rattle.ix_vline.specs.Reached.{Fits}
 use Rattle.ix_vline.specs.Picked.{nth, IsDeclaredBy}
 use Rattle.ix_vline.proofs.Fitting.{picks_are, fits_length}

@@ -1,11 +1,8 @@
-use Rattle.std.proofs.Common.{◌≡◌, refl, arith, length, subst, sym, ap, ◌∙◌, map, Contains, true, false, Bool}
-use Rattle.std.specs.Prelude.{IsTrue, ◌↔◌}
-use Rattle.std.specs.List.{list_any}
-use Rattle.std.specs.Str.{bytes_eq}
+use Rattle.std.proofs.Common.{refl, arith, subst, sym, ◌∙◌, map, Contains}
 use Rattle.std.proofs.lemmas.Bool.{true≢false}
 use Rattle.ix_verilog.specs.declared.source.Update.{Update}
 use Rattle.ix_verilog.specs.Words.{Word}
-use Rattle.ix_vform.proofs.Named.{EachPassed, each_more, any_named}
+use Rattle.ix_vform.proofs.Named.{each_more, any_named}
 use Rattle.ix_vform.proofs.guard.are_updated.Goals as goal
 
 pub returns : goal.returns

@@ -1,4 +1,4 @@
-use Rattle.std.proofs.Common.{◌≡◌, refl, arith, length, subst, sym, ◌∙◌, true, false}
+use Rattle.std.proofs.Common.{refl, arith, length, subst, sym, ◌∙◌}
 use Rattle.std.proofs.lemmas.Bool.{true≢false}
 use Rattle.ix_verilog.specs.Subset.{IsRegister}
 use Rattle.ix_vform.proofs.Named.{NonePassed, none_more, none_at_all, one_named}

@@ -1,4 +1,4 @@
-use Rattle.std.proofs.Common.{◌≡◌, sym, ap, ◌∙◌, subst, arith}
+use Rattle.std.proofs.Common.{sym, ap, ◌∙◌, arith}
 use Rattle.std.specs.Fmt.{decimal}
 use Rattle.ix_vform.proofs.Texts.{highest_utf8, highest_read, highest_same}
 use Rattle.ix_vform.proofs.word.highest.Goals as goal

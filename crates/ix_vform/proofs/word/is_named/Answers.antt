@@ -1,4 +1,3 @@
-use Rattle.std.proofs.Common.{sym}
 use Rattle.ix_vform.proofs.Texts.{name_utf8}
 use Rattle.ix_vform.proofs.word.is_named.Goals as goal
 

@@ -1,6 +1,6 @@
 use Rattle.std.proofs.Common.{sym, ◌∙◌}
 use Rattle.ix_verilog.specs.Words.{words_of}
-use Rattle.ix_vparse.proofs.Taking.{took_finish, no_finish, then_ok}
+use Rattle.ix_vparse.proofs.Taking.{took_finish, then_ok}
 use Rattle.ix_vparse.proofs.line.take_finish.Goals as goal
 
 pub returns : goal.returns
