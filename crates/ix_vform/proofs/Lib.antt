@@ -1,0 +1,4 @@
+pub mod Driven
+pub mod Listed
+pub mod Named
+pub mod Texts

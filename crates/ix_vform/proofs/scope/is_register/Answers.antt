@@ -1,0 +1,18 @@
+use Rattle.std.proofs.Common.{subst, ◌++◌}
+use Rattle.ix_verilog.specs.Subset.{assigned}
+use Rattle.ix_vform.specs.Roles.{IsRole}
+use Rattle.ix_vform.proofs.Named.{names_right}
+use Rattle.ix_vform.proofs.scope.is_register.Goals as goal
+
+pub returns-in-Assigned : goal.returns-in-Assigned
+returns-in-Assigned c =
+    let s = c.args.source.now in
+    let n = c.args.word.now in
+    let h = subst (λ r. IsRole s n r) c.in-Assigned.is c.in-Some.ensures in
+    ((λ t. absurd (cc)), λ r. absurd (r.no_other (names_right s.inputs (assigned s) n h.1)))
+
+pub returns-in-None : goal.returns-in-None
+returns-in-None c =
+    let s = c.args.source.now in
+    let n = c.args.word.now in
+    ((λ t. absurd (cc)), λ r. absurd (c.in-None.ensures (names_right (s.inputs ++ assigned s) s.registers n r.declared_so)))

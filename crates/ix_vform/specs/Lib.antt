@@ -1,0 +1,5 @@
+pub mod Added
+pub mod Based
+pub mod Found
+pub mod Reach
+pub mod Roles

@@ -1,0 +1,4 @@
+pub mod Fitting
+pub mod Going
+pub mod KindLines
+pub mod Standing

@@ -1,0 +1,4 @@
+pub mod Slots
+pub mod Reached
+pub mod Laws
+pub mod Picked

@@ -1,0 +1,9 @@
+//! From the words of a Verilog text to its modules (IEEE 1364-2005, 12).
+#![tactic(auto)]
+
+mod error;
+mod line;
+mod modules;
+
+pub use error::ParseErr;
+pub use modules::modules_in;
