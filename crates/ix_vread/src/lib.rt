@@ -1,0 +1,8 @@
+//! From Verilog text to the modules that it is (IEEE 1364-2005), or the first place at which it is none.
+#![tactic(auto)]
+
+mod error;
+mod sources;
+
+pub use error::VErr;
+pub use sources::sources_in;

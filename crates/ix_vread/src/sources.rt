@@ -1,0 +1,39 @@
+ghost use Rattle.std.specs.Prelude.{◌≡◌, ◌<◌, ◌^◌, length, IfOk, IfErr};
+ghost use Rattle.ix_verilog.specs.Subset.{IsWritten, place_of_token};
+ghost use Rattle.ix_vread.specs.Told.{IsTold};
+
+use crate::error::VErr;
+use ix_bits::List;
+use ix_verilog::{Source, Token};
+use ix_vlex::words_in;
+use ix_vparse::{ParseErr, modules_in};
+use std::alloc::Global;
+
+/// The place of a token by number, in bytes, or the end of the text.
+fn place_of(tokens: &[Token], number: usize, end: u32) -> u32
+    ensures { result ≡ place_of_token end number tokens.now }
+{
+    match tokens.get(number) {
+        Some(token) => token.place,
+        None => end,
+    }
+}
+
+/// The modules that a text is, in their order. It has fewer than 2^32 bytes.
+pub fn sources_in(alloc: Global, bytes: &[u8]) -> Result<List<Source>, VErr>
+    requires { length bytes.now < 2 ^ 32 }
+    ensures written { IfOk result (IsWritten bytes.now) }
+    ensures refused { IfErr result (IsTold bytes.now) }
+{
+    let Ok(tokens) = words_in(alloc, bytes) else {
+        return Err(VErr::Memory);
+    };
+    let tokens = tokens.as_slice();
+    match modules_in(alloc, tokens) {
+        Ok(modules) => Ok(modules),
+        Err(ParseErr::At { word }) => Err(VErr::At {
+            byte: place_of(tokens, word, bytes.len() as u32),
+        }),
+        Err(ParseErr::Memory) => Err(VErr::Memory),
+    }
+}
