@@ -149,9 +149,8 @@ fn needs(p: &Problem) -> u64 {
     let edges = p.edges.as_slice();
     let mut sum = 0;
     for op in 0..p.ops.len() {
-        let op = op as u32;
-        let ins = edges.iter().filter(|edge| edge.1 == op).count() as u64;
-        let outs = edges.iter().filter(|edge| edge.0 == op).count() as u64;
+        let ins = edges.iter().filter(|edge| edge.1 as usize == op).count() as u64;
+        let outs = edges.iter().filter(|edge| edge.0 as usize == op).count() as u64;
         sum = (1 + ins).saturating_sub(outs).saturating_add(sum);
     }
     sum

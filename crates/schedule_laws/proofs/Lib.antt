@@ -1,0 +1,4 @@
+mod Deciding
+mod Legal
+mod Boxes
+mod Existing
