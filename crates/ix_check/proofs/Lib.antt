@@ -1,3 +1,2 @@
 mod Behaviours
-mod Sections
 mod Answers
