@@ -16,7 +16,7 @@ use Rattle.rv_seq.specs.SequentialRun.{run, step, answer_to}
 use Rattle.rv_trace.specs.Trace.{Setting, Course, stages_of, Stands, has_serial, is_flushed, is_retired, place, retirements}
 use Rattle.rv_trace.specs.LawfulTrace.{destination_of, reads_of, IsWordOf, IsOlder, IsDueToStop, WaitsForOperand, WaitsToDrain, OwnHold, StopsRun, WaitsBehind, TrueHold, ComesFirst, ShowsHold}
 use Rattle.rv_pipe.specs.PlainMachine.{Slots, or_else, writer, operand, waits_for, operand_hold, stop_of, drain, staying, own_hold, stops_now, is_blocked, shown, cells_of}
-use Rattle.rv_pipe.specs.Placed.{one_more, count, Placed, IsShape}
+use Rattle.rv_pipe.specs.Placed.{one_more, count, HasWord, Placed, IsShape}
 use Rattle.rv_pipe.proofs.Runs.{goes_on, step_word, stops_as, stopped_as}
 use Rattle.rv_pipe.proofs.Tokens.{same_test, test_eq, test_ne, Decided}
 
@@ -37,7 +37,7 @@ pub record Told (k : Setting) (earlier : List Row) (row : Row) (seen : Slots) : 
   pub placed : Placed k (retirements earlier) 0 seen
   pub decided : Decided k 0 seen
   pub unflushed : (s : ℕ) → is_flushed (row ∷ earlier) s ≡ false
-  pub words : (s word : ℕ) → IsWordOf k (row ∷ earlier) s word → slice_get k.image s ≡ Some word
+  pub words : (s word : ℕ) → IsWordOf k (row ∷ earlier) s word → HasWord seen s word
   pub before : (s : ℕ) → is_retired earlier s ≡ nat_lt s (retirements earlier)
   pub now : (s : ℕ) → is_retired (row ∷ earlier) s ≡ nat_lt s (retirements earlier + out_of seen)
 
@@ -114,7 +114,7 @@ stands_older k row seen older s stage n c e =
     ∙ ap (λ l. slice_get l n) (cells_drop (suc stage) seen ∙ ap cells_of (drop_more seen older s stage e))
 
 -- the token of a serial
-token_of : (k : Setting) (r stage j : ℕ) (older : Slots) → Placed k r stage older → r ≤ j → j < r + count older → (n : ℕ) × (u : Token) × (slice_get (cells_of older) n ≡ Some (Some u.cell)) × (u.cell.serial ≡ j)
+token_of : (k : Setting) (r stage j : ℕ) (older : Slots) → Placed k r stage older → r ≤ j → j < r + count older → (n : ℕ) × (u : Token) × (slice_get older n ≡ Some (Some u)) × (u.cell.serial ≡ j)
 token_of k r stage j [] h le lt = absurd (omega arith)
 token_of k r stage j (None ∷ older) h le lt = let t = token_of k r (suc stage) j older h.1 le lt in (suc t.0, t.1, t.2, t.3)
 token_of k r stage j (Some t ∷ older) h le lt =
@@ -123,64 +123,108 @@ token_of k r stage j (Some t ∷ older) h le lt =
       | inr more ↦ (0, t, refl, h.0.serial ∙ omega (arith, lt, more))
     ]
 
+-- serials go up from the oldest token
+same_token : (t u : Token) → ◌≡◌ {A = Option (Option Token)} (Some (Some t)) (Some (Some u)) → t ≡ u
+same_token t u e = cc
+
+pub serial_below : (k : Setting) (r stage n : ℕ) (seen : Slots) (u : Token) → Placed k r stage seen → slice_get seen n ≡ Some (Some u) → u.cell.serial < r + count seen
+serial_below k r stage n [] u h e = cc
+serial_below k r stage zero (None ∷ older) u h e = cc
+serial_below k r stage zero (Some t ∷ older) u h e =
+    let s = h.0.serial in
+    let same = ap (λ (v : Token). v.cell.serial) (same_token t u e) in
+    omega (arith, s, same)
+serial_below k r stage (suc n) (None ∷ older) u h e = serial_below k r (suc stage) n older u h.1 e
+serial_below k r stage (suc n) (Some t ∷ older) u h e = let lt = serial_below k r (suc stage) n older u h.1 e in omega (arith, lt)
+
+pub one_token : (k : Setting) (r stage n m : ℕ) (seen : Slots) (u v : Token) → Placed k r stage seen → slice_get seen n ≡ Some (Some u) → slice_get seen m ≡ Some (Some v) → u.cell.serial ≡ v.cell.serial → u ≡ v
+one_token k r stage n m [] u v h a b e = cc
+one_token k r stage zero zero (s ∷ older) u v h a b e = same_token u v (sym a ∙ b)
+one_token k r stage zero (suc m) (None ∷ older) u v h a b e = cc
+one_token k r stage zero (suc m) (Some t ∷ older) u v h a b e =
+    let s = h.0.serial in
+    let same = ap (λ (w : Token). w.cell.serial) (same_token t u a) in
+    let lt = serial_below k r (suc stage) m older v h.1 b in
+    absurd (omega (arith, s, same, lt, e))
+one_token k r stage (suc n) zero (None ∷ older) u v h a b e = cc
+one_token k r stage (suc n) zero (Some t ∷ older) u v h a b e =
+    let s = h.0.serial in
+    let same = ap (λ (w : Token). w.cell.serial) (same_token t v b) in
+    let lt = serial_below k r (suc stage) n older u h.1 a in
+    absurd (omega (arith, s, same, lt, e))
+one_token k r stage (suc n) (suc m) (s ∷ older) u v h a b e = one_token k r (suc stage) n m older u v h.1 a b e
+
+decoded_at : (k : Setting) (r stage n : ℕ) (seen : Slots) (u : Token) → Placed k r stage seen → slice_get seen n ≡ Some (Some u) → u.instruction ≡ instruction_of u.cell.word
+decoded_at k r stage n [] u h e = cc
+decoded_at k r stage zero (None ∷ older) u h e = cc
+decoded_at k r stage zero (Some t ∷ older) u h e = subst (λ (v : Token). v.instruction ≡ instruction_of v.cell.word) (same_token t u e) h.0.decoded
+decoded_at k r stage (suc n) (s ∷ older) u h e = decoded_at k r (suc stage) n older u h.1 e
+
+pub here_of : (seen older : Slots) (t : Token) (n : ℕ) → drop n seen ≡ Some t ∷ older → slice_get seen n ≡ Some (Some t)
+here_of [] older t zero e = cc
+here_of [] older t (suc n) e = cc
+here_of (x ∷ seen) older t zero e = cc
+here_of (x ∷ seen) older t (suc n) e = here_of seen older t n e
+
+cell_here : (seen : Slots) (n : ℕ) (u : Token) → slice_get seen n ≡ Some (Some u) → slice_get (cells_of seen) n ≡ Some (Some u.cell)
+cell_here [] n u e = cc
+cell_here (None ∷ seen) zero u e = cc
+cell_here (Some t ∷ seen) zero u e = ap (λ (v : Token). Some (Some v.cell)) (same_token t u e)
+cell_here (s ∷ seen) (suc n) u e = cell_here seen n u e
+
 -- Operands
 
--- the word at index j writes this register
-abbrev pub Writes : Setting → ℕ → ℕ → Type 0
-Writes k reg j = (word : ℕ) × (slice_get k.image j ≡ Some word) × (destination_of (instruction_of word) ≡ reg)
+-- the token of the serial j writes this register
+abbrev pub Writes : Slots → ℕ → ℕ → Type 0
+Writes seen reg j = (n : ℕ) × (u : Token) × (slice_get seen n ≡ Some (Some u)) × (u.cell.serial ≡ j) × (destination_of u.instruction ≡ reg)
 
 -- the least place among the older ones that writes the register
-abbrev pub WriterIs : Setting → ℕ → ℕ → ℕ → Option ℕ → Type 0
-WriterIs k r n reg None = (j : ℕ) → r ≤ j → j < r + n → Writes k reg j → ⊥
-WriterIs k r n reg (Some i) = (r ≤ i) × (i < r + n) × Writes k reg i × ((j : ℕ) → r ≤ j → j < r + n → Writes k reg j → i ≤ j)
+abbrev pub WriterIs : Slots → ℕ → ℕ → ℕ → Option ℕ → Type 0
+WriterIs seen r n reg None = (j : ℕ) → r ≤ j → j < r + n → Writes seen reg j → ⊥
+WriterIs seen r n reg (Some i) = (r ≤ i) × (i < r + n) × Writes seen reg i × ((j : ℕ) → r ≤ j → j < r + n → Writes seen reg j → i ≤ j)
 
-one_word : (k : Setting) (j v w : ℕ) → slice_get k.image j ≡ Some v → slice_get k.image j ≡ Some w → v ≡ w
-one_word k j v w p q = cc
-
-writer_more : (k : Setting) (r n reg serial word : ℕ) (o : Option ℕ) → WriterIs k r n reg o → serial ≡ r + n → slice_get k.image (r + n) ≡ Some word → WriterIs k r (suc n) reg (or_else o (if destination_of (instruction_of word) == reg then Some serial else None))
-writer_more k r n reg serial word (Some i) h e w =
+writer_more : (k : Setting) (r n reg stage : ℕ) (seen : Slots) (t : Token) (o : Option ℕ) → Placed k r 0 seen → slice_get seen stage ≡ Some (Some t) → WriterIs seen r n reg o → t.cell.serial ≡ r + n → WriterIs seen r (suc n) reg (or_else o (if destination_of t.instruction == reg then Some t.cell.serial else None))
+writer_more k r n reg stage seen t (Some i) p here h e =
     (h.0, omega (arith, h.1), h.2, λ j le lt writes. elim (cases_lt j (r + n)) [ inl less ↦ h.3 j le less writes | inr more ↦ omega (arith, h.1, more) ])
-writer_more k r n reg serial word None h e w = by_case (destination_of (instruction_of word) == reg) refl where
+writer_more k r n reg stage seen t None p here h e = by_case (destination_of t.instruction == reg) refl where
   last : (j : ℕ) → j < r + suc n → r + n ≤ j → j ≡ r + n
   last j lt le = omega arith
 
-  by_case : (b : Bool) → (destination_of (instruction_of word) == reg) ≡ b → WriterIs k r (suc n) reg (if b then Some serial else None)
+  by_case : (b : Bool) → (destination_of t.instruction == reg) ≡ b → WriterIs seen r (suc n) reg (if b then Some t.cell.serial else None)
   by_case true q = (
     omega (arith, e),
     omega (arith, e),
-    subst (λ j. Writes k reg j) (sym e) (word, w, test_eq (destination_of (instruction_of word)) reg q),
+    (stage, t, here, refl, test_eq (destination_of t.instruction) reg q),
     λ j le lt writes. elim (cases_lt j (r + n)) [ inl less ↦ absurd (h j le less writes) | inr more ↦ omega (arith, e, more) ],
   )
   by_case false q =
       λ j le lt writes. elim (cases_lt j (r + n)) [
         | inl less ↦ h j le less writes
         | inr more ↦
-            let at = ap (λ i. slice_get k.image i) (last j lt more) in
-            let same = one_word k (r + n) writes.0 word (sym at ∙ writes.1) w in
-            test_ne (destination_of (instruction_of word)) reg q (ap (λ v. destination_of (instruction_of v)) (sym same) ∙ writes.2)
+            let same = one_token k r 0 writes.0 stage seen writes.1 t p writes.2 here (writes.3 ∙ last j lt more ∙ sym e) in
+            test_ne (destination_of t.instruction) reg q (ap (λ (u : Token). destination_of u.instruction) (sym same) ∙ writes.4)
       ]
 
-writer_is : (k : Setting) (r stage reg : ℕ) (older : Slots) → Placed k r stage older → WriterIs k r (count older) reg (writer reg older)
-writer_is k r stage reg [] h = λ j le lt writes. omega arith
-writer_is k r stage reg (None ∷ older) h = writer_is k r (suc stage) reg older h.1
-writer_is k r stage reg (Some t ∷ older) h =
-    subst (λ i. WriterIs k r (suc (count older)) reg (or_else (writer reg older) (if destination_of i == reg then Some t.cell.serial else None))) (sym h.0.decoded)
-    (writer_more k r (count older) reg t.cell.serial t.cell.word (writer reg older) (writer_is k r (suc stage) reg older h.1) h.0.serial h.0.word)
+writer_is : (k : Setting) (r stage reg : ℕ) (seen older : Slots) → Placed k r 0 seen → drop stage seen ≡ older → Placed k r stage older → WriterIs seen r (count older) reg (writer reg older)
+writer_is k r stage reg seen [] p d h = λ j le lt writes. omega arith
+writer_is k r stage reg seen (None ∷ older) p d h = writer_is k r (suc stage) reg seen older p (drop_more seen older None stage d) h.1
+writer_is k r stage reg seen (Some t ∷ older) p d h =
+    writer_more k r (count older) reg stage seen t (writer reg older) p (here_of seen older t stage d) (writer_is k r (suc stage) reg seen older p (drop_more seen older (Some t) stage d) h.1) h.0.serial
 
 -- what is waited for, of one register
-abbrev pub WaitIs : Setting → ℕ → ℕ → ℕ → Option Hold → Type 0
-WaitIs k r n reg None = (reg ≡ 0) ⊎ ((j : ℕ) → r ≤ j → j < r + n → Writes k reg j → ⊥)
-WaitIs k r n reg (Some h) = (i : ℕ) × (h ≡ Operand reg i) × (reg ≢ 0) × (r ≤ i) × (i < r + n) × Writes k reg i × ((j : ℕ) → r ≤ j → j < r + n → Writes k reg j → i ≤ j)
+abbrev pub WaitIs : Slots → ℕ → ℕ → ℕ → Option Hold → Type 0
+WaitIs seen r n reg None = (reg ≡ 0) ⊎ ((j : ℕ) → r ≤ j → j < r + n → Writes seen reg j → ⊥)
+WaitIs seen r n reg (Some h) = (i : ℕ) × (h ≡ Operand reg i) × (reg ≢ 0) × (r ≤ i) × (i < r + n) × Writes seen reg i × ((j : ℕ) → r ≤ j → j < r + n → Writes seen reg j → i ≤ j)
 
-operand_is : (k : Setting) (r n reg : ℕ) (o : Option ℕ) → reg ≢ 0 → WriterIs k r n reg o → WaitIs k r n reg (operand reg o)
-operand_is k r n reg None ne h = inr h
-operand_is k r n reg (Some i) ne h = (i, refl, ne, h.0, h.1, h.2, h.3)
+operand_is : (seen : Slots) (r n reg : ℕ) (o : Option ℕ) → reg ≢ 0 → WriterIs seen r n reg o → WaitIs seen r n reg (operand reg o)
+operand_is seen r n reg None ne h = inr h
+operand_is seen r n reg (Some i) ne h = (i, refl, ne, h.0, h.1, h.2, h.3)
 
-wait_is : (k : Setting) (r stage reg : ℕ) (older : Slots) → Placed k r stage older → WaitIs k r (count older) reg (waits_for reg older)
-wait_is k r stage reg older h = by_case (reg == 0) refl where
-  by_case : (b : Bool) → (reg == 0) ≡ b → WaitIs k r (count older) reg (if b then None else operand reg (writer reg older))
+wait_is : (k : Setting) (r stage reg : ℕ) (seen older : Slots) → Placed k r 0 seen → drop stage seen ≡ older → Placed k r stage older → WaitIs seen r (count older) reg (waits_for reg older)
+wait_is k r stage reg seen older p d h = by_case (reg == 0) refl where
+  by_case : (b : Bool) → (reg == 0) ≡ b → WaitIs seen r (count older) reg (if b then None else operand reg (writer reg older))
   by_case true e = inl (test_eq reg 0 e)
-  by_case false e = operand_is k r (count older) reg (writer reg older) (test_ne reg 0 e) (writer_is k r stage reg older h)
+  by_case false e = operand_is seen r (count older) reg (writer reg older) (test_ne reg 0 e) (writer_is k r stage reg seen older p d h)
 
 pub all_three : (a b c : Bool) → a ≡ true → b ≡ true → c ≡ true → (a && b && c) ≡ true
 all_three a b c p q r = rw (p, q, r)
@@ -273,23 +317,26 @@ module _ (k : Setting) (shape : IsShape k) (earlier : List Row) (row : Row) (see
     not_lt a b h = grind (arith, nat_tests)
 
   -- the word of an older token
-  word_of : (j : ℕ) → retirements earlier ≤ j → j < retirements earlier + count older → (reg : ℕ) → Writes k reg j → (word : ℕ) × IsWordOf k (row ∷ earlier) j word × (destination_of (instruction_of word) ≡ reg)
-  word_of j le lt reg writes =
-      let u = token_of k (retirements earlier) (suc stage) j older placed.1 le lt in
-      let stands : Stands k row (suc stage + u.0) u.1.cell = stands_older k row seen older (Some t) stage u.0 told.cells rest ∙ u.2 in
-      let known : IsWordOf k (row ∷ earlier) j u.1.cell.word = inl (suc stage + u.0, u.1.cell, stands, u.3, refl) in
-      let same = one_word k j u.1.cell.word writes.0 (told.words j u.1.cell.word known) writes.1 in
-      (u.1.cell.word, known, ap (λ v. destination_of (instruction_of v)) same ∙ writes.2)
+  word_of : (j reg : ℕ) → Writes seen reg j → (word : ℕ) × IsWordOf k (row ∷ earlier) j word × (destination_of (instruction_of word) ≡ reg)
+  word_of j reg writes =
+      let stands : Stands k row writes.0 writes.1.cell = ap (λ l. slice_get l writes.0) told.cells ∙ cell_here seen writes.0 writes.1 writes.2 in
+      let known : IsWordOf k (row ∷ earlier) j writes.1.cell.word = inl (writes.0, writes.1.cell, stands, writes.3, refl) in
+      let decoded = decoded_at k (retirements earlier) 0 writes.0 seen writes.1 told.placed writes.2 in
+      (writes.1.cell.word, known, sym (ap destination_of decoded) ∙ writes.4)
 
   -- what waits for an operand, in places
-  from_wait : (reg j : ℕ) → WaitsForOperand k earlier row stage t.cell reg j → (retirements earlier ≤ j) × (j < retirements earlier + count older) × Writes k reg j
+  from_wait : (reg j : ℕ) → WaitsForOperand k earlier row stage t.cell reg j → (retirements earlier ≤ j) × (j < retirements earlier + count older) × Writes seen reg j
   from_wait reg j w =
       let b = waiting j w.older w.unretired in
-      (b.0, b.1, (w.writes.0, told.words j w.writes.0 w.writes.1, w.writes.2))
+      let u = token_of k (retirements earlier) (suc stage) j older placed.1 b.0 b.1 in
+      let here : slice_get seen (suc stage + u.0) ≡ Some (Some u.1) = sym (slice_get-drop seen (suc stage) u.0) ∙ ap (λ l. slice_get l u.0) (drop_more seen older (Some t) stage rest) ∙ u.2 in
+      let word = told.words j w.writes.0 w.writes.1 (suc stage + u.0) u.1 here u.3 in
+      let decoded = decoded_at k (retirements earlier) 0 (suc stage + u.0) seen u.1 told.placed here in
+      (b.0, b.1, (suc stage + u.0, u.1, here, u.3, ap destination_of decoded ∙ ap (λ v. destination_of (instruction_of v)) word ∙ w.writes.2))
 
-  to_wait : (reg j : ℕ) → stage ≡ k.shape.rd → reads_of (instruction_of t.cell.word) reg ≡ true → retirements earlier ≤ j → j < retirements earlier + count older → Writes k reg j → WaitsForOperand k earlier row stage t.cell reg j
+  to_wait : (reg j : ℕ) → stage ≡ k.shape.rd → reads_of (instruction_of t.cell.word) reg ≡ true → retirements earlier ≤ j → j < retirements earlier + count older → Writes seen reg j → WaitsForOperand k earlier row stage t.cell reg j
   to_wait reg j at reads le lt writes =
-      record { reading = at; reads = reads; older = is_older j lt; unretired = unretired j le; writes = word_of j le lt reg writes }
+      record { reading = at; reads = reads; older = is_older j lt; unretired = unretired j le; writes = word_of j reg writes }
 
   -- the operand that is waited for, by the reading of the instruction
   abbrev OperandIs : Option Hold → Type 0
@@ -329,14 +376,14 @@ module _ (k : Setting) (shape : IsShape k) (earlier : List Row) (row : Row) (see
   most_reads reg a b ne e = grind (arith, nat_tests)
 
   -- one source register
-  one_source : stage ≡ k.shape.rd → (rs : ℕ) → ((reg : ℕ) → reads_of (instruction_of t.cell.word) reg ≡ (not (reg == 0) && (reg == rs))) → (o : Option Hold) → WaitIs k (retirements earlier) (count older) rs o → OperandIs o
+  one_source : stage ≡ k.shape.rd → (rs : ℕ) → ((reg : ℕ) → reads_of (instruction_of t.cell.word) reg ≡ (not (reg == 0) && (reg == rs))) → (o : Option Hold) → WaitIs seen (retirements earlier) (count older) rs o → OperandIs o
   one_source at rs reads None (inl zero_rs) = λ reg j w.
       let q = reads_one reg rs (sym (reads reg) ∙ w.reads) in
       q.0 (q.1 ∙ zero_rs)
   one_source at rs reads None (inr f) = λ reg j w.
       let q = reads_one reg rs (sym (reads reg) ∙ w.reads) in
       let b = from_wait reg j w in
-      f j b.0 b.1 (subst (λ m. Writes k m j) q.1 b.2)
+      f j b.0 b.1 (subst (λ m. Writes seen m j) q.1 b.2)
   one_source at rs reads (Some h) w = (
     rs,
     w.0,
@@ -345,20 +392,20 @@ module _ (k : Setting) (shape : IsShape k) (earlier : List Row) (row : Row) (see
     λ other j v.
         let q = reads_one other rs (sym (reads other) ∙ v.reads) in
         let b = from_wait other j v in
-        inr (sym q.1, w.6 j b.0 b.1 (subst (λ m. Writes k m j) q.1 b.2)),
+        inr (sym q.1, w.6 j b.0 b.1 (subst (λ m. Writes seen m j) q.1 b.2)),
   )
 
   -- no older token writes the register
-  none_waits : (reg rs : ℕ) → reg ≢ 0 → reg ≡ rs → WaitIs k (retirements earlier) (count older) rs None → (j : ℕ) → (retirements earlier ≤ j) × (j < retirements earlier + count older) × Writes k reg j → ⊥
+  none_waits : (reg rs : ℕ) → reg ≢ 0 → reg ≡ rs → WaitIs seen (retirements earlier) (count older) rs None → (j : ℕ) → (retirements earlier ≤ j) × (j < retirements earlier + count older) × Writes seen reg j → ⊥
   none_waits reg rs ne e (inl z) j b = ne (e ∙ z)
-  none_waits reg rs ne e (inr f) j b = f j b.0 b.1 (subst (λ m. Writes k m j) e b.2)
+  none_waits reg rs ne e (inr f) j b = f j b.0 b.1 (subst (λ m. Writes seen m j) e b.2)
 
   least_below : (reg a b : ℕ) → (reg ≡ min a b) ⊎ (reg ≡ max a b) → min a b ≤ reg
   least_below reg a b (inl e) = omega (arith, e)
   least_below reg a b (inr e) = omega (arith, e)
 
   -- two source registers
-  two_sources : stage ≡ k.shape.rd → (a b : ℕ) → ((reg : ℕ) → reads_of (instruction_of t.cell.word) reg ≡ (not (reg == 0) && ((reg == a) || (reg == b)))) → (o p : Option Hold) → WaitIs k (retirements earlier) (count older) (min a b) o → WaitIs k (retirements earlier) (count older) (max a b) p → OperandIs (or_else o p)
+  two_sources : stage ≡ k.shape.rd → (a b : ℕ) → ((reg : ℕ) → reads_of (instruction_of t.cell.word) reg ≡ (not (reg == 0) && ((reg == a) || (reg == b)))) → (o p : Option Hold) → WaitIs seen (retirements earlier) (count older) (min a b) o → WaitIs seen (retirements earlier) (count older) (max a b) p → OperandIs (or_else o p)
   two_sources at a b reads None None u v = λ reg j w.
       let q = reads_two reg a b (sym (reads reg) ∙ w.reads) in
       elim q.1 [ inl e ↦ none_waits reg (min a b) q.0 e u j (from_wait reg j w) | inr e ↦ none_waits reg (max a b) q.0 e v j (from_wait reg j w) ]
@@ -372,7 +419,7 @@ module _ (k : Setting) (shape : IsShape k) (earlier : List Row) (row : Row) (see
         let f = from_wait other j w in
         elim q.1 [
           | inl e ↦ absurd (none_waits other (min a b) q.0 e u j f)
-          | inr e ↦ inr (sym e, v.6 j f.0 f.1 (subst (λ m. Writes k m j) e f.2))
+          | inr e ↦ inr (sym e, v.6 j f.0 f.1 (subst (λ m. Writes seen m j) e f.2))
         ],
   )
   two_sources at a b reads (Some h) p u v = (
@@ -388,7 +435,7 @@ module _ (k : Setting) (shape : IsShape k) (earlier : List Row) (row : Row) (see
           | inl less ↦ inl less
           | inr more ↦
               let e : other ≡ min a b = omega (arith, le, more) in
-              inr (sym e, u.6 j f.0 f.1 (subst (λ m. Writes k m j) e f.2))
+              inr (sym e, u.6 j f.0 f.1 (subst (λ m. Writes seen m j) e f.2))
         ],
   )
 
@@ -401,10 +448,10 @@ module _ (k : Setting) (shape : IsShape k) (earlier : List Row) (row : Row) (see
     by_case None e = nothing_read None e (λ reg. refl)
     by_case (Some Break) e = nothing_read (Some Break) e (λ reg. refl)
     by_case (Some (AddImmediate rd rs1 immediate)) e =
-        one_source at rs1 (λ reg. ap (λ i. reads_of i reg) e) (waits_for rs1 older) (wait_is k (retirements earlier) (suc stage) rs1 older placed.1)
+        one_source at rs1 (λ reg. ap (λ i. reads_of i reg) e) (waits_for rs1 older) (wait_is k (retirements earlier) (suc stage) rs1 seen older told.placed (drop_more seen older (Some t) stage rest) placed.1)
     by_case (Some (Add rd rs1 rs2)) e =
         two_sources at rs1 rs2 (λ reg. ap (λ i. reads_of i reg) e) (waits_for (min rs1 rs2) older) (waits_for (max rs1 rs2) older)
-        (wait_is k (retirements earlier) (suc stage) (min rs1 rs2) older placed.1) (wait_is k (retirements earlier) (suc stage) (max rs1 rs2) older placed.1)
+        (wait_is k (retirements earlier) (suc stage) (min rs1 rs2) seen older told.placed (drop_more seen older (Some t) stage rest) placed.1) (wait_is k (retirements earlier) (suc stage) (max rs1 rs2) seen older told.placed (drop_more seen older (Some t) stage rest) placed.1)
 
   operand_where : OperandIs (if stage == k.shape.rd then operand_hold older t.instruction else None)
   operand_where = by_case (stage == k.shape.rd) refl where

@@ -18,12 +18,12 @@ use Rattle.rv_trace.specs.Trace.{Setting, Course, place, stages_of, Stands, has_
 use Rattle.rv_trace.specs.LawfulTrace.{AreEmpty, AscendFrom, IsInForm, name_of, names_of, leaves, front, fetch_address, next_serial, plain_fetch, Moves, MovesInto, Retires, IsWordOf, StopsRun, Settles, successor, IsNextYounger, HasNoYounger, IsMismatch, Successors, IsEmptyAfter, StopsRightly, LawfulRow}
 use Rattle.rv_trace.specs.Headline.{AgreesWithRun}
 use Rattle.rv_pipe.specs.PlainMachine.{Machine, Slots, or_else, stop_of, value_of, own_hold, stops_now, staying, drain, fill_first, next_after, gone, going, advanced, leaving, commit_for, with_serial, retired_of, slot_stop, remains, fetch_after, first_slot, cell_of, cells_of, seen_by, arch_after, IsRowOf, machine_after}
-use Rattle.rv_pipe.specs.Placed.{one_more, count, tail, to_go, rank, IsPlaced, IsPlacedSlot, Placed, IsShape, Inv}
+use Rattle.rv_pipe.specs.Placed.{one_more, count, HasWord, tail, to_go, rank, IsPlaced, IsPlacedSlot, Placed, IsShape, Inv}
 use Rattle.rv_pipe.proofs.Runs.{word_at-four, step_at, run_suc, goes_on, slice_get_below}
 use Rattle.rv_pipe.proofs.Tokens.{or_else_none, or_else_none_b, is_none_of, same_test, Decided, decided_is, decided_length, decided_names, decided_placed, decided_count, NoStops, own_none, not_due, count_advanced, placed_advanced, last_placed, advanced_length}
-use Rattle.rv_pipe.proofs.Moving.{FlushesNone, moves_on, fill_moves, fill_length, last_slot, out_going}
+use Rattle.rv_pipe.proofs.Moving.{Named, decided_from, filled_from, advanced_from, FlushesNone, moves_on, fill_moves, fill_length, last_slot, out_going}
 use Rattle.rv_pipe.proofs.Filling.{fill_placed, next_count, decided_first, few_more, serial_told, fetch_told, fetch_place}
-use Rattle.rv_pipe.proofs.Holds.{out_of, out_le, out_drop, drop_more, on_path, staying_is, Told, At, at_stage, place_is, shows, then_stops, stops_then}
+use Rattle.rv_pipe.proofs.Holds.{serial_below, one_token, here_of, out_of, out_le, out_drop, drop_more, on_path, staying_is, Told, At, at_stage, place_is, shows, then_stops, stops_then}
 use Rattle.rv_pipe.proofs.Bound.{rank_falls, to_go-decided, to_go-le, first_le, fill_rank, nothing_there}
 use Rattle.rv_pipe.proofs.Stopping.{Stopper, stopper, slot_stop_at, no_stops, remains_none, none_remains, remains_count}
 
@@ -80,14 +80,48 @@ module _ (k : Setting) (shape : IsShape k) (earlier : List Row) (m : Machine) (r
   cell_at : (stage : ℕ) (c : Cell) → Stands k row stage c → At k (retirements earlier) stage c (seen_by k m)
   cell_at stage c s = at_stage k (retirements earlier) stage c (seen_by k m) seen_placed seen_decided (stands_seen stage c s)
 
-  pub words_now : (s word : ℕ) → IsWordOf k (row ∷ earlier) s word → slice_get k.image s ≡ Some word
-  words_now s word (inr h) = inv.words s word h
-  words_now s word (inl h) =
+  -- a token in the row stood before, or is the new one
+  seen_from : (n : ℕ) (u : Token) → slice_get (seen_by k m) n ≡ Some (Some u) → Named m.slots n u ⊎ (u.cell.serial ≡ m.next)
+  seen_from n u here =
+      let d = decided_from k.shape 0 n (fill_first m.slots m.next m.fetch (word_at k.image m.fetch)) u here in
+      elim (filled_from m.slots m.next m.fetch n (word_at k.image m.fetch) d.token d.here) [
+        | inl before ↦ inl (record { token = d.token; here = before; serial = d.serial; word = d.word })
+        | inr new ↦ inr (d.serial ∙ new)
+      ]
+
+  pub words_now : (s word : ℕ) → IsWordOf k (row ∷ earlier) s word → HasWord (seen_by k m) s word
+  words_now s word (inr h) n u here serial = elim (seen_from n u here) [
+    | inl x ↦ x.word ∙ inv.words s word h n x.token x.here (sym x.serial ∙ serial)
+    | inr new ↦ let lt = inv.fresh s word h in absurd (omega (arith, lt, new, serial))
+  ]
+  words_now s word (inl h) n u here serial =
       let at = cell_at h.0 h.1 h.2 in
-      let p = at.placed.0.word in
-      let e : retirements earlier + count at.older ≡ s = sym at.placed.0.serial ∙ ap (λ (c : Cell). c.serial) at.is ∙ h.3 in
-      let w : at.token.cell.word ≡ word = ap (λ (c : Cell). c.word) at.is ∙ h.4 in
-      ap (λ n. slice_get k.image n) (sym e) ∙ p ∙ ap Some w
+      let there = here_of (seen_by k m) at.older at.token h.0 at.rest in
+      let e : u.cell.serial ≡ at.token.cell.serial = serial ∙ sym (ap (λ (c : Cell). c.serial) at.is ∙ h.3) in
+      let same = one_token k (retirements earlier) 0 n h.0 (seen_by k m) u at.token seen_placed here there e in
+      ap (λ (v : Token). v.cell.word) same ∙ ap (λ (c : Cell). c.word) at.is ∙ h.4
+
+  next_more : (s : Option Token) (o : Option ℕ) → m.next ≤ next_after m.next s o
+  next_more (Some t) o = omega arith
+  next_more None None = omega arith
+  next_more None (Some word) = omega arith
+
+  fresh_now : (s word : ℕ) → IsWordOf k (row ∷ earlier) s word → s < next_after m.next (first_slot m.slots) (word_at k.image m.fetch)
+  fresh_now s word (inr h) =
+      let lt = inv.fresh s word h in
+      let le = next_more (first_slot m.slots) (word_at k.image m.fetch) in
+      omega (arith, lt, le)
+  fresh_now s word (inl h) =
+      let at = cell_at h.0 h.1 h.2 in
+      let lt = serial_below k (retirements earlier) 0 h.0 (seen_by k m) at.token seen_placed (here_of (seen_by k m) at.older at.token h.0 at.rest) in
+      let e : at.token.cell.serial ≡ s = ap (λ (c : Cell). c.serial) at.is ∙ h.3 in
+      omega (arith, lt, e, seen_count)
+
+  words_next : (s word : ℕ) → IsWordOf k (row ∷ earlier) s word → HasWord (advanced k.shape m.arch.x 0 None (seen_by k m)) s word
+  words_next s word h n u here serial = elim (advanced_from k.shape m.arch.x 0 n None (seen_by k m) u here) [
+    | inl y ↦ ap (λ (c : Cell). c.word) (sym y.3) ∙ words_now s word h y.0 y.1 y.2 (ap (λ (c : Cell). c.serial) y.3 ∙ serial)
+    | inr y ↦ cc (y.1)
+  ]
 
   -- The last stage
 
@@ -618,7 +652,8 @@ module _ (k : Setting) (shape : IsShape k) (earlier : List Row) (m : Machine) (r
         fetch_is = fetch_now;
         next_is = serial_now;
         moved = moves_now (no_stop e);
-        words = words_now;
+        words = words_next;
+        fresh = fresh_now;
         retired = λ s. told_retired s ∙ ap (λ n. nat_lt s n) (sym retired_now);
         unflushed = unflushed_now;
         state = architecture_now;

@@ -71,6 +71,7 @@ first_inv shape image few =
       next_is = refl;
       moved = moves_none shape.stages 5;
       words = λ s word h. absurd h;
+      fresh = λ s word h. absurd h;
       retired = λ s. sym (none_below s);
       unflushed = λ s. refl;
       state = refl;

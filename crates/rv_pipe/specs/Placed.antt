@@ -39,6 +39,10 @@ abbrev pub Placed : Setting → ℕ → ℕ → Slots → Type 0
 Placed k r stage [] = Unit {0}
 Placed k r stage (s ∷ older) = IsPlacedSlot k (r + count older) stage s × Placed k r (suc stage) older
 
+-- a token of this serial has this word
+abbrev pub HasWord : Slots → ℕ → ℕ → Type 0
+HasWord slots s word = (n : ℕ) (u : Token) → slice_get slots n ≡ Some (Some u) → u.cell.serial ≡ s → u.cell.word ≡ word
+
 -- the slots behind stage 0
 abbrev pub tail : Slots → Slots
 tail [] = []
@@ -81,7 +85,8 @@ pub record Inv (k : Setting) (earlier : List Row) (m : Machine) : Type 0 where
   pub fetch_is : m.fetch ≡ fetch_address k earlier
   pub next_is : m.next ≡ next_serial k earlier
   pub moved : MovesInto (newest earlier) None (stages_of k (newest earlier)) (names_of (cells_of m.slots))
-  pub words : (s word : ℕ) → IsWordOf k earlier s word → slice_get k.image s ≡ Some word
+  pub words : (s word : ℕ) → IsWordOf k earlier s word → HasWord m.slots s word
+  pub fresh : (s word : ℕ) → IsWordOf k earlier s word → s < m.next
   pub retired : (s : ℕ) → is_retired earlier s ≡ nat_lt s (retirements earlier)
   pub unflushed : (s : ℕ) → is_flushed earlier s ≡ false
   pub state : architecture earlier ≡ run k.image (retirements earlier)
