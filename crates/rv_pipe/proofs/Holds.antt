@@ -1,5 +1,5 @@
 -- The holds that the machine decides are the first true ones.
-use Rattle.std.proofs.Common.{◌≡◌, ◌≢◌, ℕ, zero, suc, ◌+◌, ◌*◌, ◌<◌, ◌≤◌, List, [], ◌∷◌, drop, Option, Some, None, Bool, true, false, refl, sym, ap, ◌∙◌, subst, arith, add-zero, add-suc, ◌⊎◌, inl, inr}
+use Rattle.std.proofs.Common.{◌≡◌, ◌≢◌, ℕ, zero, suc, ◌+◌, ◌<◌, ◌≤◌, List, [], ◌∷◌, drop, Option, Some, None, Bool, true, false, refl, sym, ap, ◌∙◌, subst, arith, add-zero, ◌⊎◌, inl, inr}
 use Rattle.std.specs.Prelude.{◌&&◌, ◌||◌, not, if◌then◌else◌, ◌==◌, is_some, is_none, slice_get, nat_lt, min, max}
 use Rattle.std.proofs.lemmas.Bool.{cases_lt}
 use Rattle.std.proofs.lemmas.Bool.Decides.{nat_tests}
@@ -17,8 +17,8 @@ use Rattle.rv_trace.specs.Trace.{Setting, Course, stages_of, Stands, has_serial,
 use Rattle.rv_trace.specs.LawfulTrace.{destination_of, reads_of, IsWordOf, IsOlder, IsDueToStop, WaitsForOperand, WaitsToDrain, OwnHold, StopsRun, WaitsBehind, TrueHold, ComesFirst, ShowsHold}
 use Rattle.rv_pipe.specs.PlainMachine.{Slots, or_else, writer, operand, waits_for, operand_hold, stop_of, drain, staying, own_hold, stops_now, is_blocked, shown, cells_of}
 use Rattle.rv_pipe.specs.Placed.{one_more, count, HasWord, Placed, IsShape}
-use Rattle.rv_pipe.proofs.Runs.{goes_on, step_word, stops_as, stopped_as}
-use Rattle.rv_pipe.proofs.Tokens.{same_test, test_eq, test_ne, Decided}
+use Rattle.rv_pipe.proofs.Runs.{step_word, stops_as, stopped_as}
+use Rattle.rv_pipe.proofs.Tokens.{word_of_run, same_test, test_eq, test_ne, Decided}
 
 -- how many tokens go out of the last stage
 abbrev pub out_last : Option Token → ℕ
@@ -33,7 +33,6 @@ out_of (s ∷ u ∷ rest) = out_of (u ∷ rest)
 -- what is told of a row with these slots
 pub record Told (k : Setting) (earlier : List Row) (row : Row) (seen : Slots) : Type 0 where
   pub cells : stages_of k row ≡ cells_of seen
-  pub pc : (run k.image (retirements earlier)).pc ≡ 4 * retirements earlier
   pub placed : Placed k (retirements earlier) 0 seen
   pub decided : Decided k 0 seen
   pub unflushed : (s : ℕ) → is_flushed (row ∷ earlier) s ≡ false
@@ -279,14 +278,6 @@ staying_is k r stage (Some t ∷ u ∷ rest) h =
     ap (λ o. or_else o (Some t.cell.serial)) (staying_is k r (suc stage) (u ∷ rest) h.1)
     ∙ staying_next r (out_of (u ∷ rest)) (count (u ∷ rest)) t.cell.serial (out_le (u ∷ rest)) h.0.serial
 
--- past EX every token goes on, so the run comes to the place behind them
-pub on_path : (k : Setting) (shape : IsShape k) (r stage : ℕ) (l : Slots) → Placed k r stage l → k.shape.ex < stage → (run k.image r).pc ≡ 4 * r → (run k.image (r + count l)).pc ≡ 4 * (r + count l)
-on_path k shape r stage [] h lt pc = rw add-zero pc
-on_path k shape r stage (None ∷ l) h lt pc = on_path k shape r (suc stage) l h.1 (omega arith) pc
-on_path k shape r stage (Some t ∷ l) h lt pc =
-    let ih = on_path k shape r (suc stage) l h.1 (omega arith) pc in
-    rw (add-suc r (count l)) ((goes_on k.image (r + count l) t.cell.word shape.few_words ih h.0.word (sym (ap stop_of h.0.decoded) ∙ h.0.goes lt)).pc)
-
 pub place_is : (rows : List Row) (s : ℕ) → ((j : ℕ) → is_flushed rows j ≡ false) → place rows s ≡ s
 unfolding place
 place_is rows zero h = refl
@@ -464,8 +455,8 @@ module _ (k : Setting) (shape : IsShape k) (earlier : List Row) (row : Row) (see
   pub at_ex : stage ≡ k.shape.ex → k.course.answer (place (row ∷ earlier) t.cell.serial) ≡ answer_to (run k.image (retirements earlier + count older)) t.cell.word (instruction_of t.cell.word)
   at_ex e =
       let p = place_is (row ∷ earlier) t.cell.serial told.unflushed ∙ placed.0.serial in
-      let path = on_path k shape (retirements earlier) (suc stage) older placed.1 (omega (arith, e)) told.pc in
-      ap (λ (c : Course). c.answer (place (row ∷ earlier) t.cell.serial)) shape.course ∙ ap (λ n. step k.image (run k.image n)) p ∙ step_word k.image (run k.image (retirements earlier + count older)) (retirements earlier + count older) t.cell.word path placed.0.word
+      let word = word_of_run k (retirements earlier) stage t older (omega (arith, e)) placed.0 in
+      ap (λ (c : Course). c.answer (place (row ∷ earlier) t.cell.serial)) shape.course ∙ ap (λ n. step k.image (run k.image n)) p ∙ step_word k.image (run k.image (retirements earlier + count older)) t.cell.word word
 
   due_word : (stop : Stop) → stage ≡ k.shape.ex → IsDueToStop k (row ∷ earlier) t.cell stop → stop_of t.instruction ≡ Some stop
   due_word stop e d = ap stop_of placed.0.decoded ∙ stopped_as (run k.image (retirements earlier + count older)) t.cell.word (instruction_of t.cell.word) stop (sym (at_ex e) ∙ d)
