@@ -7,29 +7,22 @@ use Rattle.rv_trace.specs.declared.row.Row.{Row}
 use Rattle.rv_pipe.specs.declared.stages.Token.{Token}
 use Rattle.rv_trace.specs.Trace.{Setting}
 use Rattle.rv_trace.specs.LawfulTrace.{name_of, leaves, front, serial_after, address_after}
-use Rattle.rv_pipe.specs.PlainMachine.{Slots, decided, new_token, fill_first, next_after, fetch_after, first_slot, cells_of, gone, going, advanced, leaving}
+use Rattle.rv_pipe.specs.PlainMachine.{Slots, decided, new_token, fill_first, next_after, fetch_after, first_slot, cell_of, cells_of, gone, going, advanced, leaving}
 use Rattle.rv_pipe.specs.Placed.{one_more, count, tail, expected_after, expected, IsPlaced, Placed, IsShape}
 use Rattle.rv_pipe.proofs.Tokens.{decided_count, decided_expected, Decided, NoStops, decided_tail, no_stops_tail, free_ahead, Guesses, Guessed, expected_advanced}
 use Rattle.rv_pipe.proofs.Moving.{FlushesNone}
 
-new_placed : (k : Setting) (shape : IsShape k) (p address serial at word : ℕ) → serial ≡ p → at ≡ address → word_at k.image at ≡ Some word → IsPlaced k p address 0 (new_token serial at word)
-new_placed k shape p address serial at word e a w =
+new_placed : (k : Setting) (shape : IsShape k) (p address serial at word : ℕ) → at ≡ address → word_at k.image at ≡ Some word → IsPlaced k p address 0 (new_token serial at word)
+new_placed k shape p address serial at word a w =
     let rd = shape.rd_pos in
     let ex = shape.rd_ex in
-    record { serial = e; at = a; word = w; decoded = refl; value = λ lt. absurd (omega arith); goes = λ lt. absurd (omega arith) }
+    record { at = a; word = w; decoded = refl; value = λ lt. absurd (omega arith); goes = λ lt. absurd (omega arith) }
 
-pub fill_placed : (k : Setting) (shape : IsShape k) (r serial at : ℕ) (slots : Slots) (o : Option ℕ) → Placed k r 0 slots → serial ≡ r + count slots → at ≡ expected k r 1 (tail slots) → word_at k.image at ≡ o → Placed k r 0 (fill_first slots serial at o)
-fill_placed k shape r serial at [] o h s a w = tt
-fill_placed k shape r serial at (Some t ∷ older) o h s a w = h
-fill_placed k shape r serial at (None ∷ older) None h s a w = h
-fill_placed k shape r serial at (None ∷ older) (Some word) h s a w = (new_placed k shape (r + count older) (expected k r 1 older) serial at word s a w, h.1)
-
--- the count of tokens after the fetch, and the next serial
-pub next_count : (r serial at : ℕ) (slots : Slots) (o : Option ℕ) → 0 < length slots → serial ≡ r + count slots → next_after serial (first_slot slots) o ≡ r + count (fill_first slots serial at o)
-next_count r serial at [] o lt h = absurd (omega arith)
-next_count r serial at (Some t ∷ older) o lt h = h
-next_count r serial at (None ∷ older) None lt h = h
-next_count r serial at (None ∷ older) (Some word) lt h = omega (arith, h)
+pub fill_placed : (k : Setting) (shape : IsShape k) (r serial at : ℕ) (slots : Slots) (o : Option ℕ) → Placed k r 0 slots → at ≡ expected k r 1 (tail slots) → word_at k.image at ≡ o → Placed k r 0 (fill_first slots serial at o)
+fill_placed k shape r serial at [] o h a w = tt
+fill_placed k shape r serial at (Some t ∷ older) o h a w = h
+fill_placed k shape r serial at (None ∷ older) None h a w = h
+fill_placed k shape r serial at (None ∷ older) (Some word) h a w = (new_placed k shape (r + count older) (expected k r 1 older) serial at word a w, h.1)
 
 pub decided_front : (k : Setting) (r : ℕ) (slots : Slots) (serial at : ℕ) (o : Option ℕ) → expected k r 1 (tail (decided k.shape 0 (fill_first slots serial at o))) ≡ expected k r 1 (tail slots)
 decided_front k r [] serial at o = refl
@@ -46,11 +39,11 @@ next_within next rows None None le = omega (arith, le)
 next_within next rows None (Some word) le = omega (arith, le)
 
 -- the next serial is the one that the rows tell
-pub serial_told : (k : Setting) (r serial at : ℕ) (slots : Slots) (o : Option ℕ) → 0 < length slots → Placed k r 0 slots → serial ≡ r + count slots → serial_after serial (front (cells_of (decided k.shape 0 (fill_first slots serial at o)))) ≡ next_after serial (first_slot slots) o
-serial_told k r serial at [] o lt h e = absurd (omega arith)
-serial_told k r serial at (Some t ∷ older) o lt h e = let s = h.0.serial in omega (arith, s, e)
-serial_told k r serial at (None ∷ older) None lt h e = refl
-serial_told k r serial at (None ∷ older) (Some word) lt h e = refl
+pub serial_told : (k : Setting) (serial at : ℕ) (slots : Slots) (o : Option ℕ) → 0 < length slots → serial_after serial (cell_of (first_slot slots)) ≡ serial → serial_after serial (front (cells_of (decided k.shape 0 (fill_first slots serial at o)))) ≡ next_after serial (first_slot slots) o
+serial_told k serial at [] o lt e = absurd (omega arith)
+serial_told k serial at (Some t ∷ older) o lt e = e
+serial_told k serial at (None ∷ older) None lt e = refl
+serial_told k serial at (None ∷ older) (Some word) lt e = refl
 
 -- the fetch address is the one that the rows tell
 pub fetch_told : (row : Row) (fetch : ℕ) (seen : Slots) → FlushesNone row → fetch_after fetch seen ≡ address_after fetch (leaves row (front (cells_of seen)))

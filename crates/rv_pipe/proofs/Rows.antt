@@ -1,5 +1,5 @@
 -- Each row that the machine makes is lawful and agrees with the run, and the machine stays tied to the rows.
-use Rattle.std.proofs.Common.{◌≡◌, ℕ, zero, suc, ◌+◌, ◌-◌, ◌%◌, ◌^◌, ◌<◌, ◌≤◌, List, [], ◌∷◌, drop, length, Option, Some, None, Bool, true, false, refl, sym, ap, ◌∙◌, subst, arith, add-zero, ◌⊎◌, inl, inr}
+use Rattle.std.proofs.Common.{◌≡◌, ◌≢◌, ℕ, zero, suc, ◌+◌, ◌-◌, ◌%◌, ◌^◌, ◌<◌, ◌≤◌, List, [], ◌∷◌, drop, length, Option, Some, None, Bool, true, false, refl, sym, ap, ◌∙◌, subst, arith, add-zero, ◌⊎◌, inl, inr}
 use Rattle.std.specs.Prelude.{◌&&◌, ◌||◌, if◌then◌else◌, ◌==◌, is_some, is_none, slice_get, nat_lt, replicate}
 use Rattle.std.proofs.lemmas.List.{length-drop}
 use Rattle.std.proofs.lemmas.Bool.Decides.{nat_tests}
@@ -17,12 +17,13 @@ use Rattle.rv_trace.specs.Trace.{Setting, Course, place, stages_of, Stands, has_
 use Rattle.rv_trace.specs.LawfulTrace.{AreEmpty, AscendFrom, IsInForm, name_of, names_of, leaves, front, fetch_address, next_serial, plain_fetch, Moves, MovesInto, Retires, IsWordOf, StopsRun, Settles, successor, IsNextYounger, HasNoYounger, IsMismatch, Successors, IsEmptyAfter, StopsRightly, LawfulRow}
 use Rattle.rv_trace.specs.Headline.{AgreesWithRun}
 use Rattle.rv_pipe.specs.PlainMachine.{Machine, Slots, or_else, stop_of, value_of, own_hold, stops_now, staying, drain, fill_first, next_after, gone, going, advanced, leaving, commit_for, with_serial, retired_of, slot_stop, remains, fetch_after, first_slot, cell_of, cells_of, seen_by, arch_after, IsRowOf, machine_after}
-use Rattle.rv_pipe.specs.Placed.{one_more, count, HasWord, expected, tail, to_go, rank, IsPlaced, IsPlacedSlot, Placed, IsShape, Inv}
+use Rattle.rv_pipe.specs.Placed.{one_more, count, HasWord, Serials, expected, tail, to_go, rank, IsPlaced, IsPlacedSlot, Placed, IsShape, Inv}
 use Rattle.rv_pipe.proofs.Runs.{step_at, run_suc, goes_on}
-use Rattle.rv_pipe.proofs.Tokens.{lt_true, expected_run, Guessed, guessed, or_else_none, or_else_none_b, is_none_of, same_test, Decided, decided_is, decided_length, decided_names, decided_placed, decided_count, NoStops, own_none, not_due, count_advanced, placed_advanced, last_placed, advanced_length}
+use Rattle.rv_pipe.proofs.Places.{stood, one_token, serials_drop, serials_more, serials_decided, serials_filled, place_same, flushed_same, one_place, lower_place, next_placed, first_fetched, first_kept}
+use Rattle.rv_pipe.proofs.Tokens.{serials_advanced, lt_true, expected_run, Guessed, guessed, or_else_none, or_else_none_b, is_none_of, same_test, Decided, decided_is, decided_length, decided_names, decided_placed, decided_count, NoStops, own_none, not_due, count_advanced, placed_advanced, last_placed, advanced_length}
 use Rattle.rv_pipe.proofs.Moving.{Named, decided_from, filled_from, advanced_from, FlushesNone, moves_on, fill_moves, fill_length, last_slot, out_going}
-use Rattle.rv_pipe.proofs.Filling.{fill_placed, next_count, decided_front, next_within, serial_told, fetch_told, fetch_place}
-use Rattle.rv_pipe.proofs.Holds.{serial_below, one_token, here_of, out_of, out_le, out_drop, drop_more, staying_is, Told, At, at_stage, place_is, shows, then_stops, stops_then}
+use Rattle.rv_pipe.proofs.Filling.{fill_placed, decided_front, next_within, serial_told, fetch_told, fetch_place}
+use Rattle.rv_pipe.proofs.Holds.{ordered, StayingIs, here_of, out_of, out_le, out_drop, drop_more, staying_is, Told, At, at_stage, shows, then_stops, stops_then}
 use Rattle.rv_pipe.proofs.Bound.{rank_falls, to_go-decided, to_go-le, first_le, fill_rank, nothing_there}
 use Rattle.rv_pipe.proofs.Stopping.{Stopper, stopper, slot_stop_at, no_stops, remains_none, none_remains}
 
@@ -41,7 +42,7 @@ module _ (k : Setting) (shape : IsShape k) (earlier : List Row) (m : Machine) (r
 
   seen_placed : Placed k (retirements earlier) 0 (seen_by k m)
   seen_placed = decided_placed k (retirements earlier) 0 (fill_first m.slots m.next m.fetch (word_at k.image m.fetch))
-      (fill_placed k shape (retirements earlier) m.next m.fetch m.slots (word_at k.image m.fetch) inv.placed inv.next inv.fetch refl)
+      (fill_placed k shape (retirements earlier) m.next m.fetch m.slots (word_at k.image m.fetch) inv.placed inv.fetch refl)
 
   seen_decided : Decided k 0 (seen_by k m)
   seen_decided = decided_is k 0 (fill_first m.slots m.next m.fetch (word_at k.image m.fetch))
@@ -52,13 +53,6 @@ module _ (k : Setting) (shape : IsShape k) (earlier : List Row) (m : Machine) (r
   some_stages : 0 < length (seen_by k m)
   some_stages = let a = shape.ex_last in omega (arith, seen_length, a)
 
-  seen_count : next_after m.next (first_slot m.slots) (word_at k.image m.fetch) ≡ retirements earlier + count (seen_by k m)
-  seen_count =
-      let a = shape.ex_last in
-      let lt : 0 < length m.slots = omega (arith, inv.stages, a) in
-      next_count (retirements earlier) m.next m.fetch m.slots (word_at k.image m.fetch) lt inv.next
-      ∙ ap (λ n. retirements earlier + n) (sym (decided_count k 0 (fill_first m.slots m.next m.fetch (word_at k.image m.fetch))))
-
   seen_tail : m.fetch ≡ expected k (retirements earlier) 1 (tail (seen_by k m))
   seen_tail = inv.fetch ∙ sym (decided_front k (retirements earlier) m.slots m.next m.fetch (word_at k.image m.fetch))
 
@@ -66,9 +60,31 @@ module _ (k : Setting) (shape : IsShape k) (earlier : List Row) (m : Machine) (r
   pub flushes_none : FlushesNone row
   flushes_none s = ap (λ l. has_serial l s) is.flushed ∙ none_in s
 
-  pub unflushed_now : (s : ℕ) → is_flushed (row ∷ earlier) s ≡ false
-  unfolding is_flushed
-  unflushed_now s = or_false (has_serial row.flushed s) (is_flushed earlier s) (flushes_none s) (inv.unflushed s)
+  seen_serials : Serials (row ∷ earlier) (retirements earlier) (seen_by k m)
+  seen_serials =
+      serials_more row earlier (retirements earlier) (seen_by k m) flushes_none
+      (serials_decided k.shape earlier (retirements earlier) 0 (fill_first m.slots m.next m.fetch (word_at k.image m.fetch))
+      (serials_filled earlier (retirements earlier) m.next m.fetch m.slots (word_at k.image m.fetch) inv.serials inv.next_place (inv.unflushed m.next (omega arith))))
+
+  some_slots : 0 < length m.slots
+  some_slots = let a = shape.ex_last in omega (arith, inv.stages, a)
+
+  -- the place of the next serial
+  seen_count : place (row ∷ earlier) (next_after m.next (first_slot m.slots) (word_at k.image m.fetch)) ≡ retirements earlier + count (seen_by k m)
+  seen_count =
+      place_same row earlier (next_after m.next (first_slot m.slots) (word_at k.image m.fetch)) flushes_none
+      ∙ next_placed earlier (retirements earlier) m.next m.fetch m.slots (word_at k.image m.fetch) some_slots inv.next_place (inv.unflushed m.next (omega arith))
+      ∙ ap (λ n. retirements earlier + n) (sym (decided_count k 0 (fill_first m.slots m.next m.fetch (word_at k.image m.fetch))))
+
+  next_more : (s : Option Token) (o : Option ℕ) → m.next ≤ next_after m.next s o
+  next_more (Some t) o = omega arith
+  next_more None None = omega arith
+  next_more None (Some word) = omega arith
+
+  unflushed_next : (s : ℕ) → next_after m.next (first_slot m.slots) (word_at k.image m.fetch) ≤ s → is_flushed (row ∷ earlier) s ≡ false
+  unflushed_next s le =
+      let more = next_more (first_slot m.slots) (word_at k.image m.fetch) in
+      flushed_same row earlier s flushes_none ∙ inv.unflushed s (omega (arith, le, more))
 
   stands_seen : (stage : ℕ) (c : Cell) → Stands k row stage c → slice_get (cells_of (seen_by k m)) stage ≡ Some (Some c)
   stands_seen stage c s = ap (λ l. slice_get l stage) (sym is.cells) ∙ s
@@ -94,13 +110,8 @@ module _ (k : Setting) (shape : IsShape k) (earlier : List Row) (m : Machine) (r
       let at = cell_at h.0 h.1 h.2 in
       let there = here_of (seen_by k m) at.older at.token h.0 at.rest in
       let e : u.cell.serial ≡ at.token.cell.serial = serial ∙ sym (ap (λ (c : Cell). c.serial) at.is ∙ h.3) in
-      let same = one_token k (retirements earlier) 0 n h.0 (seen_by k m) u at.token seen_placed here there e in
+      let same = one_token (row ∷ earlier) (retirements earlier) n h.0 (seen_by k m) u at.token seen_serials here there e in
       ap (λ (v : Token). v.cell.word) same ∙ ap (λ (c : Cell). c.word) at.is ∙ h.4
-
-  next_more : (s : Option Token) (o : Option ℕ) → m.next ≤ next_after m.next s o
-  next_more (Some t) o = omega arith
-  next_more None None = omega arith
-  next_more None (Some word) = omega arith
 
   fresh_now : (s word : ℕ) → IsWordOf k (row ∷ earlier) s word → s < next_after m.next (first_slot m.slots) (word_at k.image m.fetch)
   fresh_now s word (inr h) =
@@ -109,9 +120,10 @@ module _ (k : Setting) (shape : IsShape k) (earlier : List Row) (m : Machine) (r
       omega (arith, lt, le)
   fresh_now s word (inl h) =
       let at = cell_at h.0 h.1 h.2 in
-      let lt = serial_below k (retirements earlier) 0 h.0 (seen_by k m) at.token seen_placed (here_of (seen_by k m) at.older at.token h.0 at.rest) in
+      let x = stood (row ∷ earlier) (retirements earlier) h.0 (seen_by k m) at.token seen_serials (here_of (seen_by k m) at.older at.token h.0 at.rest) in
+      let hi = x.high in
       let e : at.token.cell.serial ≡ s = ap (λ (c : Cell). c.serial) at.is ∙ h.3 in
-      omega (arith, lt, e, seen_count)
+      subst (λ n. n < next_after m.next (first_slot m.slots) (word_at k.image m.fetch)) e (lower_place (row ∷ earlier) at.token.cell.serial (next_after m.next (first_slot m.slots) (word_at k.image m.fetch)) (omega (arith, hi, seen_count)))
 
   words_next : (s word : ℕ) → IsWordOf k (row ∷ earlier) s word → HasWord (advanced k.shape m.arch.x 0 None (seen_by k m)) s word
   words_next s word h n u here serial = elim (advanced_from k.shape m.arch.x 0 n None (seen_by k m) u here) [
@@ -139,13 +151,31 @@ module _ (k : Setting) (shape : IsShape k) (earlier : List Row) (m : Machine) (r
       (subst (λ (s : Arch). IsPlacedSlot k (retirements earlier) (run k.image (retirements earlier)).pc (0 + length (seen_by k m)) (leaving k.shape s.x 0 None (seen_by k m))) (sym inv.arch)
       (last_placed k shape (retirements earlier) 0 None (seen_by k m) (omega (arith, seen_length, a)) (omega arith) seen_placed seen_decided))
 
+  -- the token that goes out is the oldest
+  left_serial : (t : Token) → leaving k.shape m.arch.x 0 None (seen_by k m) ≡ Some t → (place (row ∷ earlier) t.cell.serial ≡ retirements earlier) × (is_flushed (row ∷ earlier) t.cell.serial ≡ false)
+  left_serial t e =
+      let a = shape.ex_last in
+      let len : suc (k.shape.stages - 1) ≡ length (seen_by k m) = omega (arith, seen_length, a) in
+      let l = last_slot k m.arch.x 0 (k.shape.stages - 1) (seen_by k m) len in
+      let s = subst (λ z. Serials (row ∷ earlier) (retirements earlier) z) l.rest (serials_drop (row ∷ earlier) (retirements earlier) (k.shape.stages - 1) (seen_by k m) seen_serials) in
+      by_slot l.slot s (sym (l.leaving_is None) ∙ e) where
+        by_slot : (s : Option Token) → Serials (row ∷ earlier) (retirements earlier) (s ∷ []) → going k.shape m.arch.x (0 + (k.shape.stages - 1)) s ≡ Some t → (place (row ∷ earlier) t.cell.serial ≡ retirements earlier) × (is_flushed (row ∷ earlier) t.cell.serial ≡ false)
+        by_slot None s g = cc
+        by_slot (Some u) s g = by_case (is_some u.cell.hold) g where
+          by_case : (b : Bool) → (if b then None else Some (gone k.shape m.arch.x (0 + (k.shape.stages - 1)) u)) ≡ Some t → (place (row ∷ earlier) t.cell.serial ≡ retirements earlier) × (is_flushed (row ∷ earlier) t.cell.serial ≡ false)
+          by_case true q = cc
+          by_case false q =
+              let same : gone k.shape m.arch.x (0 + (k.shape.stages - 1)) u ≡ t = cc in
+              let p = s.0.0 in
+              let serial = ap (λ (v : Token). v.cell.serial) same in
+              (ap (λ n. place (row ∷ earlier) n) (sym serial) ∙ p ∙ add-zero (retirements earlier), ap (λ n. is_flushed (row ∷ earlier) n) (sym serial) ∙ s.0.1)
+
   -- what is retired, where something goes out
   pub record Retirement (o : Option Token) (p : Option (ℕ × Commit)) : Type 0 where
     pub token : Token
     pub is_left : o ≡ Some token
     pub commit : Commit
-    pub is_retired : p ≡ Some (retirements earlier, commit)
-    pub serial_is : token.cell.serial ≡ retirements earlier
+    pub is_retired : p ≡ Some (token.cell.serial, commit)
     pub recorded : step k.image (run k.image (retirements earlier)) ≡ Done commit
 
   retirement : (t : Token) → IsPlaced k (retirements earlier) (run k.image (retirements earlier)).pc k.shape.stages t → Retirement (Some t) (retired_of (Some t))
@@ -160,8 +190,7 @@ module _ (k : Setting) (shape : IsShape k) (earlier : List Row) (m : Machine) (r
         token = t;
         is_left = refl;
         commit = commit_of t.cell.at t.cell.word g.instruction t.value;
-        is_retired = ap (λ o. with_serial t.cell.serial o) c ∙ ap (λ s. Some (s, commit_of t.cell.at t.cell.word g.instruction t.value)) h.serial;
-        serial_is = h.serial;
+        is_retired = ap (λ o. with_serial t.cell.serial o) c;
         recorded = g.done ∙ ap (λ w. Done (commit_of t.cell.at t.cell.word g.instruction w)) (sym v);
       }
 
@@ -173,7 +202,7 @@ module _ (k : Setting) (shape : IsShape k) (earlier : List Row) (m : Machine) (r
     by_case (Some t) e h =
         let x = retirement t h in
         inr (
-          record { token = x.token; is_left = e ∙ x.is_left; commit = x.commit; is_retired = is.retired ∙ ap retired_of e ∙ x.is_retired; serial_is = x.serial_is; recorded = x.recorded },
+          record { token = x.token; is_left = e ∙ x.is_left; commit = x.commit; is_retired = is.retired ∙ ap retired_of e ∙ x.is_retired; recorded = x.recorded },
           sym left_out ∙ ap (λ s. one_more s 0) e,
         )
 
@@ -184,18 +213,42 @@ module _ (k : Setting) (shape : IsShape k) (earlier : List Row) (m : Machine) (r
     | inr y ↦ rw (y.0.is_retired, y.1) (omega arith)
   ]
 
-  less_more : (s n : ℕ) → ((n == s) || nat_lt s n) ≡ nat_lt s (n + 1)
-  less_more s n = grind (arith, nat_tests)
+  -- those before the oldest place are retired, and the one that goes out
+  retired_then : (s n place_s place_n : ℕ) → (n ≡ s → place_s ≡ place_n) → (place_s ≡ place_n → n ≡ s) → ((n == s) || nat_lt place_s place_n) ≡ nat_lt place_s (place_n + 1)
+  retired_then s n p q f g = by_case (n == s) refl where
+    by_case : (b : Bool) → (n == s) ≡ b → (b || nat_lt p q) ≡ nat_lt p (q + 1)
+    by_case true e = let same = f (eq_of n s e) in less p q same where
+      eq_of : (a b : ℕ) → (a == b) ≡ true → a ≡ b
+      eq_of a b e = grind (arith, nat_tests)
 
-  pub told_retired : (s : ℕ) → is_retired (row ∷ earlier) s ≡ nat_lt s (retirements earlier + out_of (seen_by k m))
-  unfolding is_retired
-  told_retired s = elim goes_out [
-    | inl n ↦ rw (n.1, n.2, add-zero) (inv.retired s)
-    | inr y ↦ rw (y.0.is_retired, y.1, inv.retired s) (less_more s (retirements earlier))
+      less : (a b : ℕ) → a ≡ b → true ≡ nat_lt a (b + 1)
+      less a b e = grind (arith, nat_tests)
+    by_case false e = other p q (λ same. ne_of n s e (g same)) where
+      ne_of : (a b : ℕ) → (a == b) ≡ false → a ≢ b
+      ne_of a b e = λ x. absurd_of a b e x where
+        absurd_of : (a b : ℕ) → (a == b) ≡ false → a ≡ b → ⊥
+        absurd_of a b e x = grind (arith, nat_tests)
+
+      other : (a b : ℕ) → a ≢ b → nat_lt a b ≡ nat_lt a (b + 1)
+      other a b ne = grind (arith, nat_tests)
+
+  before_retired : (s : ℕ) → is_flushed (row ∷ earlier) s ≡ false → is_retired earlier s ≡ nat_lt (place (row ∷ earlier) s) (retirements earlier)
+  before_retired s alive =
+      inv.retired s (sym (flushed_same row earlier s flushes_none) ∙ alive) ∙ ap (λ n. nat_lt n (retirements earlier)) (sym (place_same row earlier s flushes_none))
+
+  pub told_retired : (s : ℕ) → is_flushed (row ∷ earlier) s ≡ false → is_retired (row ∷ earlier) s ≡ nat_lt (place (row ∷ earlier) s) (retirements earlier + out_of (seen_by k m))
+  unfolding is_retired place is_flushed
+  told_retired s alive = elim goes_out [
+    | inl n ↦ rw (n.1, n.2, add-zero) (before_retired s alive)
+    | inr y ↦
+        let x = left_serial y.0.token y.0.is_left in
+        let same : y.0.token.cell.serial ≡ s → place (row ∷ earlier) s ≡ retirements earlier = λ e. ap (λ n. place (row ∷ earlier) n) (sym e) ∙ x.0 in
+        let other : place (row ∷ earlier) s ≡ retirements earlier → y.0.token.cell.serial ≡ s = λ e. one_place (row ∷ earlier) y.0.token.cell.serial s x.1 alive (x.0 ∙ sym e) in
+        rw (y.0.is_retired, y.1, before_retired s alive) (retired_then s y.0.token.cell.serial (place (row ∷ earlier) s) (retirements earlier) same other)
   ]
 
   pub told : Told k earlier row (seen_by k m)
-  told = record { cells = is.cells; placed = seen_placed; decided = seen_decided; unflushed = unflushed_now; words = words_now; before = inv.retired; now = told_retired }
+  told = record { cells = is.cells; placed = seen_placed; serials = seen_serials; decided = seen_decided; words = words_now; before = before_retired; now = told_retired }
 
   -- the state after the row
   pub state_now : arch_after m.arch row.retired ≡ run k.image (retirements (row ∷ earlier))
@@ -261,23 +314,25 @@ module _ (k : Setting) (shape : IsShape k) (earlier : List Row) (m : Machine) (r
                 | inl n ↦ absurd (omega (arith, out, n.2))
                 | inr y ↦
                     let same : gone k.shape m.arch.x (0 + stage) t ≡ y.0.token = cc (sym g ∙ y.0.is_left) in
-                    let serial : t.cell.serial ≡ retirements earlier = ap (λ (u : Token). u.cell.serial) same ∙ y.0.serial_is in
+                    let serial : t.cell.serial ≡ y.0.token.cell.serial = ap (λ (u : Token). u.cell.serial) same in
                     let none = is_none_of t.cell.hold q in
                     record {
                       leaver = λ s commit p.
-                          let pair : ◌≡◌ {A = ℕ × Commit} (retirements earlier, y.0.commit) (s, commit) = cc (sym y.0.is_retired ∙ p) in
+                          let pair : ◌≡◌ {A = ℕ × Commit} (y.0.token.cell.serial, y.0.commit) (s, commit) = cc (sym y.0.is_retired ∙ p) in
                           (t.cell, stands_t, unheld_leaves t.cell none, serial ∙ ap (λ (z : ℕ × Commit). z.0) pair);
                       retired = λ c stands p.
                           let cell : t.cell ≡ c = cc (sym here ∙ stands_seen stage c stands) in
-                          let at : retirements earlier ≡ c.serial = sym serial ∙ ap (λ (d : Cell). d.serial) cell in
+                          let at : y.0.token.cell.serial ≡ c.serial = sym serial ∙ ap (λ (d : Cell). d.serial) cell in
                           (y.0.commit, y.0.is_retired ∙ ap (λ n. Some (n, y.0.commit)) at);
                     }
               ]
 
   -- Successors: each next younger cell has its older one's successor
 
-  serial_place : (stage : ℕ) (c : Cell) (s : Stands k row stage c) → c.serial ≡ retirements earlier + count (cell_at stage c s).older
-  serial_place stage c s = let at = cell_at stage c s in ap (λ (d : Cell). d.serial) (sym at.is) ∙ at.placed.0.serial
+  serial_place : (stage : ℕ) (c : Cell) (s : Stands k row stage c) → place (row ∷ earlier) c.serial ≡ retirements earlier + count (cell_at stage c s).older
+  serial_place stage c s =
+      let at = cell_at stage c s in
+      ap (λ (d : Cell). place (row ∷ earlier) d.serial) (sym at.is) ∙ (ordered k shape earlier row (seen_by k m) told stage at.token at.older at.rest at.placed).0.0
 
   settled_successor : (stage : ℕ) (c : Cell) (s : Stands k row stage c) → Settles k earlier row stage c → successor k (row ∷ earlier) c ≡ ((cell_at stage c s).token.cell.at + 4) % 2 ^ 32
   settled_successor stage c s settles =
@@ -286,7 +341,7 @@ module _ (k : Setting) (shape : IsShape k) (earlier : List Row) (m : Machine) (r
       let stops : stops_now k.shape stage at.token.instruction at.older ≡ false = free at in
       let own = own_none k stage at.token.instruction at.older at.token.cell.hold at.decided.0 (ap (λ o. is_some o) none) stops in
       let word = sym (ap stop_of at.placed.0.decoded) ∙ not_due k stage at.token.instruction at.older own stops settles.settling in
-      let p = place_is (row ∷ earlier) c.serial unflushed_now ∙ serial_place stage c s in
+      let p = serial_place stage c s in
       let path = sym (at.placed.0.at ∙ expected_run k (retirements earlier) (suc stage) at.older (past settles.settling)) in
       ap (λ (x : Course). x.pc (suc (place (row ∷ earlier) c.serial))) shape.course ∙ ap (λ n. (run k.image (suc n)).pc) p ∙ (goes_on k.image (retirements earlier + count at.older) at.token.cell.at at.token.cell.word path at.placed.0.word word).pc where
         past : stage ≡ k.shape.ex → k.shape.ex < suc stage
@@ -479,12 +534,14 @@ module _ (k : Setting) (shape : IsShape k) (earlier : List Row) (m : Machine) (r
 
   -- Agreement with the run
 
-  retired_at : (s : ℕ) (c : Commit) → row.retired ≡ Some (s, c) → (s ≡ retirements earlier) × (step k.image (run k.image (retirements earlier)) ≡ Done c)
+  retired_at : (s : ℕ) (c : Commit) → row.retired ≡ Some (s, c) → (place (row ∷ earlier) s ≡ retirements earlier) × (step k.image (run k.image (retirements earlier)) ≡ Done c)
   retired_at s c e = elim goes_out [
     | inl n ↦ cc (n.1, e)
     | inr y ↦
-        let pair : ◌≡◌ {A = ℕ × Commit} (retirements earlier, y.0.commit) (s, c) = cc (sym y.0.is_retired ∙ e) in
-        (sym (ap (λ (x : ℕ × Commit). x.0) pair), y.0.recorded ∙ ap (λ (x : ℕ × Commit). Done x.1) pair)
+        let pair : ◌≡◌ {A = ℕ × Commit} (y.0.token.cell.serial, y.0.commit) (s, c) = cc (sym y.0.is_retired ∙ e) in (
+          ap (λ (x : ℕ × Commit). place (row ∷ earlier) x.0) (sym pair) ∙ (left_serial y.0.token y.0.is_left).0,
+          y.0.recorded ∙ ap (λ (x : ℕ × Commit). Done x.1) pair,
+        )
   ]
 
   -- at the stop every older token goes out
@@ -513,10 +570,11 @@ module _ (k : Setting) (shape : IsShape k) (earlier : List Row) (m : Machine) (r
 
         by_older : (older : Slots) (t : Token) → drop x.index (seen_by k m) ≡ Some t ∷ older → Placed k (retirements earlier) x.index (Some t ∷ older) → stops_now k.shape x.index t.instruction older ≡ true → retirements earlier + count older ≡ retirements earlier + out_of (seen_by k m)
         by_older older t rest placed n =
-            let stay = sym (staying_is k (retirements earlier) (suc x.index) older placed.1) ∙ no_drain older t.instruction n in
+            let o = ordered k shape earlier row (seen_by k m) told x.index t older rest placed in
+            let all = subst (λ z. StayingIs (row ∷ earlier) (retirements earlier) older z) (no_drain older t.instruction n) (staying_is (row ∷ earlier) (retirements earlier) older o.1) in
             let le = out_le older in
             let some = longer x.index older t rest s.executing in
-            all_out older (nat_lt (out_of older) (count older)) refl stay some rest where
+            all_out older all some rest where
               longer : (n : ℕ) (older : Slots) (t : Token) → drop n (seen_by k m) ≡ Some t ∷ older → n ≡ k.shape.ex → 0 < length older
               longer n older t rest e =
                   let l = ap length rest in
@@ -524,16 +582,12 @@ module _ (k : Setting) (shape : IsShape k) (earlier : List Row) (m : Machine) (r
                   let a = shape.ex_last in
                   omega (arith, l, d, a, e, seen_length)
 
-              all_out : (older : Slots) (b : Bool) → nat_lt (out_of older) (count older) ≡ b → (if b then Some (retirements earlier + out_of older) else None) ≡ None → 0 < length older → drop x.index (seen_by k m) ≡ Some t ∷ older → retirements earlier + count older ≡ retirements earlier + out_of (seen_by k m)
-              all_out older true q e lt rest = cc
-              all_out [] false q e lt rest = absurd (omega arith)
-              all_out (u ∷ rest') false q e lt rest =
+              all_out : (older : Slots) → count older ≤ out_of older → 0 < length older → drop x.index (seen_by k m) ≡ Some t ∷ older → retirements earlier + count older ≡ retirements earlier + out_of (seen_by k m)
+              all_out [] ge lt rest = absurd (omega arith)
+              all_out (u ∷ rest') ge lt rest =
                   let same = out_drop (seen_by k m) (u ∷ rest') (Some t) x.index rest in
                   let le = out_le (u ∷ rest') in
-                  let ge = above (out_of (u ∷ rest')) (count (u ∷ rest')) q in
-                  omega (arith, same, le, ge) where
-                    above : (a b : ℕ) → nat_lt a b ≡ false → b ≤ a
-                    above a b q = grind (arith, nat_tests)
+                  omega (arith, same, le, ge)
 
   stop_agrees : (stop : Stop) → row.stop ≡ Some stop → step k.image (run k.image (retirements (row ∷ earlier))) ≡ Stopped stop
   stop_agrees stop e = why (slot_stop k.shape 0 (seen_by k m)) refl (sym is.stop ∙ e) where
@@ -542,7 +596,7 @@ module _ (k : Setting) (shape : IsShape k) (earlier : List Row) (m : Machine) (r
         let x = stopper k 0 (seen_by k m) stop (q ∙ e) in
         let y = stopper_stops stop x in
         let at = cell_at x.index x.token.cell y.0 in
-        let p = place_is (row ∷ earlier) x.token.cell.serial unflushed_now ∙ serial_place x.index x.token.cell y.0 ∙ stop_place stop x at y.1 ∙ sym retired_now in
+        let p = serial_place x.index x.token.cell y.0 ∙ stop_place stop x at y.1 ∙ sym retired_now in
         ap (λ n. step k.image (run k.image n)) (sym p) ∙ sym (ap (λ (c : Course). c.answer (place (row ∷ earlier) x.token.cell.serial)) shape.course) ∙ y.1.due
     why None q e =
         let f = fetch_case (remains (seen_by k m)) (word_at k.image (fetch_after m.fetch (seen_by k m))) stop e in
@@ -569,7 +623,7 @@ module _ (k : Setting) (shape : IsShape k) (earlier : List Row) (m : Machine) (r
 
   pub agrees : AgreesWithRun k earlier row
   agrees = record {
-    placed = λ s c e. place_is (row ∷ earlier) s unflushed_now ∙ (retired_at s c e).0;
+    placed = λ s c e. (retired_at s c e).0;
     recorded = λ s c e. (retired_at s c e).1;
     state = architecture_now;
     stop = stop_agrees;
@@ -599,6 +653,11 @@ module _ (k : Setting) (shape : IsShape k) (earlier : List Row) (m : Machine) (r
       let p = placed_advanced k shape (retirements earlier) 0 None (seen_by k m) (omega (arith, long_enough)) seen_placed seen_decided (no_stop e) (λ _. refl) tt (guesses e) in
       let p' = subst (λ (s : Arch). Placed k (retirements earlier + one_more (leaving k.shape s.x 0 None (seen_by k m)) 0) 0 (advanced k.shape s.x 0 None (seen_by k m))) (sym inv.arch) p in
       subst (λ n. Placed k n 0 (advanced k.shape m.arch.x 0 None (seen_by k m))) (ap (λ n. retirements earlier + n) left_out ∙ sym retired_now) p'
+
+  serials_next : row.stop ≡ None → Serials (row ∷ earlier) (retirements (row ∷ earlier)) (advanced k.shape m.arch.x 0 None (seen_by k m))
+  serials_next e =
+      subst (λ n. Serials (row ∷ earlier) n (advanced k.shape m.arch.x 0 None (seen_by k m))) (ap (λ n. retirements earlier + n) left_out ∙ sym retired_now)
+      (serials_advanced k m.arch.x (row ∷ earlier) (retirements earlier) 0 None (seen_by k m) seen_serials seen_decided (no_stop e) (λ _. refl) tt)
 
   retired_left : row.retired ≡ retired_of (leaving k.shape m.arch.x 0 None (seen_by k m))
   retired_left = is.retired
@@ -635,7 +694,7 @@ module _ (k : Setting) (shape : IsShape k) (earlier : List Row) (m : Machine) (r
   unfolding next_serial
   serial_of_row =
       let a = shape.ex_last in
-      rw (is.cells, ← inv.next_is) (serial_told k (retirements earlier) m.next m.fetch m.slots (word_at k.image m.fetch) (omega (arith, inv.stages, a)) inv.placed inv.next)
+      rw (is.cells, ← inv.next_is) (serial_told k m.next m.fetch m.slots (word_at k.image m.fetch) (omega (arith, inv.stages, a)) inv.next_first)
 
   pub goes_next : row.stop ≡ None → Inv k (row ∷ earlier) (machine_after k m)
   goes_next e =
@@ -643,18 +702,20 @@ module _ (k : Setting) (shape : IsShape k) (earlier : List Row) (m : Machine) (r
       record {
         stages = advanced_length k m.arch.x 0 None (seen_by k m) ∙ seen_length;
         arch = ap (λ o. arch_after m.arch o) (sym is.retired) ∙ state_now;
-        next = seen_count ∙ omega (arith, c, retired_now);
+        next_place = seen_count ∙ omega (arith, c, retired_now);
+        next_first = first_kept k.shape m.arch.x (next_after m.next (first_slot m.slots) (word_at k.image m.fetch)) (seen_by k m) (first_fetched k.shape m.next m.fetch m.slots (word_at k.image m.fetch) some_slots inv.next_first);
         fetch = fetch_place k shape m.arch.x (retirements earlier) m.fetch (seen_by k m) long_enough seen_decided (no_stop e) (guesses e) seen_tail
             ∙ ap (λ n. expected k n 1 (tail (advanced k.shape m.arch.x 0 None (seen_by k m)))) (ap (λ n. retirements earlier + n) left_out ∙ sym retired_now);
         few = next_few;
         placed = placed_next e;
+        serials = serials_next e;
         fetch_is = fetch_now;
         next_is = serial_now;
         moved = moves_now (no_stop e);
         words = words_next;
         fresh = fresh_now;
-        retired = λ s. told_retired s ∙ ap (λ n. nat_lt s n) (sym retired_now);
-        unflushed = unflushed_now;
+        retired = λ s alive. told_retired s alive ∙ ap (λ n. nat_lt (place (row ∷ earlier) s) n) (sym retired_now);
+        unflushed = unflushed_next;
         state = architecture_now;
         progress = progress_next e;
       } where

@@ -7,11 +7,11 @@ use Rattle.rv_core.specs.declared.Shape.{Shape}
 use Rattle.rv_trace.specs.declared.row.Row.{Row}
 use Rattle.rv_pipe.specs.declared.stages.Kept.{Kept}
 use Rattle.rv_seq.specs.SequentialRun.{run}
-use Rattle.rv_trace.specs.Trace.{Setting, setting, newest, blank, is_flushed, is_retired, retirements, architecture, rows_without}
-use Rattle.rv_trace.specs.LawfulTrace.{MovesInto, names_of, fetch_address, next_serial}
+use Rattle.rv_trace.specs.Trace.{Setting, setting, newest, blank, place, is_flushed, is_retired, retirements, architecture, rows_without}
+use Rattle.rv_trace.specs.LawfulTrace.{MovesInto, names_of, fetch_address, next_serial, serial_after}
 use Rattle.rv_trace.specs.Headline.{Headline, progress_bound}
-use Rattle.rv_pipe.specs.PlainMachine.{Machine, Slots, machine_of, first_kept, cells_of, IsRowOf, machine_after, arch_after}
-use Rattle.rv_pipe.specs.Placed.{count, tail, expected, to_go, rank, first_of_two, Placed, IsShape, Inv, IsSound}
+use Rattle.rv_pipe.specs.PlainMachine.{Machine, Slots, first_slot, cell_of, machine_of, first_kept, cells_of, IsRowOf, machine_after, arch_after}
+use Rattle.rv_pipe.specs.Placed.{count, tail, Serials, expected, to_go, rank, first_of_two, Placed, IsShape, Inv, IsSound}
 use Rattle.rv_pipe.proofs.Rows.{lawful, agrees, goes_next, architecture_now, state_now}
 
 pub the_shape : (shape : Shape) (image : List ℕ) → IsShape (setting image shape)
@@ -32,6 +32,16 @@ placed_none : (k : Setting) (stage n m : ℕ) → Placed k 0 stage (nothing n m)
 placed_none k stage zero m = tt
 placed_none k stage (suc n) zero = tt
 placed_none k stage (suc n) (suc m) = (tt, placed_none k (suc stage) n m)
+
+serials_none : (rows : List Row) (n m : ℕ) → Serials rows 0 (nothing n m)
+serials_none rows zero m = tt
+serials_none rows (suc n) zero = tt
+serials_none rows (suc n) (suc m) = serials_none rows n m
+
+first_none : (n m : ℕ) → serial_after 0 (cell_of (first_slot (nothing n m))) ≡ 0
+first_none zero m = refl
+first_none (suc n) zero = refl
+first_none (suc n) (suc m) = refl
 
 count_none : (n m : ℕ) → count (nothing n m) ≡ 0
 count_none zero m = refl
@@ -57,7 +67,7 @@ none_below : (s : ℕ) → nat_lt s 0 ≡ false
 none_below s = grind (arith, nat_tests)
 
 first_inv : (shape : Shape) (image : List ℕ) → Inv (setting image shape) [] (machine_of shape first_kept)
-unfolding retirements is_flushed is_retired fetch_address next_serial run architecture rows_without
+unfolding retirements is_flushed is_retired place fetch_address next_serial run architecture rows_without
 first_inv shape image =
     let most = shape.lawful.most in
     let c = count_none shape.stages 5 in
@@ -66,17 +76,19 @@ first_inv shape image =
     record {
       stages = length-take shape.stages (replicate 5 None) ∙ omega (arith, most);
       arch = refl;
-      next = omega (arith, c);
+      next_place = omega (arith, c);
+      next_first = first_none shape.stages 5;
       fetch = sym t;
       few = omega arith;
       placed = placed_none (setting image shape) 0 shape.stages 5;
+      serials = serials_none [] shape.stages 5;
       fetch_is = refl;
       next_is = refl;
       moved = moves_none shape.stages 5;
       words = λ s word h. absurd h;
       fresh = λ s word h. absurd h;
-      retired = λ s. sym (none_below s);
-      unflushed = λ s. refl;
+      retired = λ s alive. sym (none_below (place [] s));
+      unflushed = λ s le. refl;
       state = refl;
       progress = rw g (omega arith);
     }

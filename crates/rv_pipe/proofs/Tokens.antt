@@ -9,10 +9,12 @@ use Rattle.rv_seq.specs.declared.instruction.Instruction.{Instruction}
 use Rattle.rv_seq.specs.declared.instruction.Instruction.TheVariants.{AddImmediate, Add, Break}
 use Rattle.rv_pipe.specs.declared.stages.Token.{Token}
 use Rattle.rv_seq.specs.SequentialRun.{word_at, run}
-use Rattle.rv_trace.specs.Trace.{Setting}
+use Rattle.rv_core.specs.declared.Shape.{Shape}
+use Rattle.rv_trace.specs.declared.row.Row.{Row}
+use Rattle.rv_trace.specs.Trace.{Setting, place, is_flushed}
 use Rattle.rv_trace.specs.LawfulTrace.{destination_of, name_of, names_of}
 use Rattle.rv_pipe.specs.PlainMachine.{Slots, or_else, writer, operand, waits_for, operand_hold, stop_of, own_hold, stops_now, is_blocked, shown, decided, value_of, gone, going, kept, advanced, leaving, first_slot, cells_of}
-use Rattle.rv_pipe.specs.Placed.{one_more, count, expected_after, expected, IsPlaced, IsPlacedSlot, Placed, IsShape}
+use Rattle.rv_pipe.specs.Placed.{one_more, count, Serials, expected_after, expected, IsPlaced, IsPlacedSlot, Placed, IsShape}
 use Rattle.rv_pipe.proofs.Runs.{run_other, run_zero, goes_on}
 
 -- Tests
@@ -81,7 +83,7 @@ pub decided_placed : (k : Setting) (r stage : ℕ) (slots : Slots) → Placed k 
 decided_placed k r stage [] h = tt
 decided_placed k r stage (None ∷ older) h = (tt, decided_placed k r (suc stage) older h.1)
 decided_placed k r stage (Some t ∷ older) h = (
-  rw (decided_count k (suc stage) older, decided_expected k r (suc stage) older) (record { serial = h.0.serial; at = h.0.at; word = h.0.word; decoded = h.0.decoded; value = h.0.value; goes = h.0.goes }),
+  rw (decided_count k (suc stage) older, decided_expected k r (suc stage) older) (record { at = h.0.at; word = h.0.word; decoded = h.0.decoded; value = h.0.value; goes = h.0.goes }),
   decided_placed k r (suc stage) older h.1,
 )
 
@@ -182,7 +184,6 @@ value_ready older (Some (Add rd rs1 rs2)) x y f h =
 pub going_one : (k : Setting) (shape : IsShape k) (r stage : ℕ) (t : Token) (older : Slots) → IsPlaced k (r + count older) (expected k r (suc stage) older) stage t → Placed k r (suc stage) older → own_hold k.shape stage t.instruction older ≡ None → stops_now k.shape stage t.instruction older ≡ false → IsPlaced k (r + count older) (expected k r (suc stage) older) (suc stage) (gone k.shape (run k.image r).x stage t)
 going_one k shape r stage t older h hs own n =
     record {
-      serial = h.serial;
       at = h.at;
       word = h.word;
       decoded = h.decoded;
@@ -263,6 +264,20 @@ place_advanced k x r stage come s older d n =
     let l = one_more_left (going k.shape x stage s) r (count older) in
     omega (arith, c, l)
 
+-- Serials
+
+abbrev pub IsSerial : List Row → ℕ → Option Token → Type 0
+IsSerial rows p None = Unit {0}
+IsSerial rows p (Some t) = (place rows t.cell.serial ≡ p) × (is_flushed rows t.cell.serial ≡ false)
+
+serials_parts : (rows : List Row) (r : ℕ) (s : Option Token) (older : Slots) → Serials rows r (s ∷ older) → IsSerial rows (r + count older) s × Serials rows r older
+serials_parts rows r None older h = (tt, h)
+serials_parts rows r (Some t) older h = (h.0, h.1)
+
+serials_join : (rows : List Row) (r : ℕ) (s : Option Token) (older : Slots) → IsSerial rows (r + count older) s → Serials rows r older → Serials rows r (s ∷ older)
+serials_join rows r None older p h = h
+serials_join rows r (Some t) older p h = (p, h)
+
 -- Addresses
 
 guess_or_known : (ex stage a g : ℕ) → (stage ≡ ex → a ≡ g) → (if nat_lt ex (suc stage) then a else g) ≡ (if nat_lt ex stage then a else g)
@@ -338,6 +353,31 @@ placed_advanced k shape r stage come (s ∷ older) lt h d n f c g =
           (slot_placed k x (r + count older) stage (expected k r (suc stage) older) come s f h.0 g.0 here),
       placed_advanced k shape r (suc stage) go older lt' h.1 d' n' f' (going_placed k shape r stage s older h d n) g.1,
     )
+
+-- each token has its serial after the moves too
+slot_serials : (k : Shape) (x : List ℕ) (rows : List Row) (r p stage : ℕ) (come s : Option Token) → Free come s → IsSerial rows p s → IsSerial rows (one_more s p) come → IsSerial rows (one_more (going k x stage s) p) (kept come s)
+slot_serials k x rows r p stage come None f h c = c
+slot_serials k x rows r p stage come (Some t) f h c = by_case (is_some t.cell.hold) where
+  by_case : (b : Bool) → IsSerial rows (one_more (if b then None else Some (gone k x stage t)) p) (if b then Some t else come)
+  by_case true = h
+  by_case false = c
+
+going_serial : (k : Shape) (x : List ℕ) (rows : List Row) (p stage : ℕ) (s : Option Token) → IsSerial rows p s → IsSerial rows p (going k x stage s)
+going_serial k x rows p stage None h = tt
+going_serial k x rows p stage (Some t) h = by_case (is_some t.cell.hold) where
+  by_case : (b : Bool) → IsSerial rows p (if b then None else Some (gone k x stage t))
+  by_case true = tt
+  by_case false = h
+
+pub serials_advanced : (k : Setting) (x : List ℕ) (rows : List Row) (r stage : ℕ) (come : Option Token) (seen : Slots) → Serials rows r seen → Decided k stage seen → NoStops k stage seen → Free come (first_slot seen) → IsSerial rows (r + count seen) come → Serials rows (r + one_more (leaving k.shape x stage come seen) 0) (advanced k.shape x stage come seen)
+serials_advanced k x rows r stage come [] h d n f c = tt
+serials_advanced k x rows r stage come (s ∷ older) h d n f c =
+    let go = going k.shape x stage s in
+    let parts = serials_parts rows r s older h in
+    let here : IsSerial rows (one_more s (r + count older)) come = rw one_more_left at c in
+    serials_join rows (r + one_more (leaving k.shape x stage come (s ∷ older)) 0) (kept come s) (advanced k.shape x (suc stage) go older)
+    (rw (place_advanced k x r stage come s older d n) (slot_serials k.shape x rows r (r + count older) stage come s f parts.0 here))
+    (serials_advanced k x rows r (suc stage) go older parts.1 (decided_tail k stage s older d) (no_stops_tail k stage s older n) (free_ahead k x stage s older d n) (going_serial k.shape x rows (r + count older) stage s parts.0))
 
 -- the token that leaves has the place r
 pub leaving_placed : (k : Setting) (shape : IsShape k) (r stage : ℕ) (come : Option Token) (seen : Slots) → Placed k r stage seen → Decided k stage seen → NoStops k stage seen → IsPlacedSlot k (r + count seen) (expected k r stage seen) stage come → IsPlacedSlot k r (run k.image r).pc (stage + length seen) (leaving k.shape (run k.image r).x stage come seen)

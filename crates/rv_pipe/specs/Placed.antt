@@ -1,5 +1,4 @@
--- Where the tokens of the machine stand in the sequential run, and what ties the machine to the rows before. The built rows have no jump,
--- so the serial of a token is its place in the run.
+-- Where the tokens of the machine stand in the sequential run, and what ties the machine to the rows before.
 use Rattle.std.specs.Prelude.{◌≡◌, ℕ, zero, suc, ◌+◌, ◌%◌, ◌^◌, ◌<◌, ◌≤◌, List, [], ◌∷◌, length, Option, Some, None, false, if◌then◌else◌, nat_lt, slice_get}
 use Rattle.rv_core.specs.declared.Shape.{Shape}
 use Rattle.rv_trace.specs.declared.row.Row.{Row}
@@ -7,10 +6,10 @@ use Rattle.rv_pipe.specs.declared.stages.Token.{Token}
 use Rattle.rv_pipe.specs.declared.stages.Kept.{Kept}
 use Rattle.rv_seq.specs.Instructions.{instruction_of}
 use Rattle.rv_seq.specs.SequentialRun.{word_at, run}
-use Rattle.rv_trace.specs.Trace.{Setting, course_of, setting, stages_of, newest, is_flushed, is_retired, retirements, architecture, rows_without}
-use Rattle.rv_trace.specs.LawfulTrace.{MovesInto, names_of, fetch_address, next_serial, IsWordOf}
+use Rattle.rv_trace.specs.Trace.{Setting, course_of, setting, stages_of, newest, place, is_flushed, is_retired, retirements, architecture, rows_without}
+use Rattle.rv_trace.specs.LawfulTrace.{MovesInto, names_of, fetch_address, next_serial, serial_after, IsWordOf}
 use Rattle.rv_trace.specs.Headline.{Headline}
-use Rattle.rv_pipe.specs.PlainMachine.{Machine, Slots, cells_of, stop_of, value_of, machine_of}
+use Rattle.rv_pipe.specs.PlainMachine.{Machine, Slots, first_slot, cell_of, cells_of, stop_of, value_of, machine_of}
 
 abbrev pub one_more : Option Token → ℕ → ℕ
 one_more None n = n
@@ -31,9 +30,8 @@ abbrev pub expected : Setting → ℕ → ℕ → Slots → ℕ
 expected k r stage [] = (run k.image r).pc
 expected k r stage (s ∷ older) = expected_after k (r + count older) stage s (expected k r (suc stage) older)
 
--- the token of the serial p stands in this stage, at this address
+-- the token of the place p stands in this stage, at this address
 pub record IsPlaced (k : Setting) (p address stage : ℕ) (t : Token) : Type 0 where
-  pub serial : t.cell.serial ≡ p
   pub at : t.cell.at ≡ address
   pub word : word_at k.image t.cell.at ≡ Some t.cell.word
   pub decoded : t.instruction ≡ instruction_of t.cell.word
@@ -48,6 +46,12 @@ IsPlacedSlot k p address stage (Some t) = IsPlaced k p address stage t
 abbrev pub Placed : Setting → ℕ → ℕ → Slots → Type 0
 Placed k r stage [] = Unit {0}
 Placed k r stage (s ∷ older) = IsPlacedSlot k (r + count older) (expected k r (suc stage) older) stage s × Placed k r (suc stage) older
+
+-- each token is not flushed, and has as its place the number of tokens beyond it and of those retired
+abbrev pub Serials : List Row → ℕ → Slots → Type 0
+Serials rows r [] = Unit {0}
+Serials rows r (None ∷ older) = Serials rows r older
+Serials rows r (Some t ∷ older) = ((place rows t.cell.serial ≡ r + count older) × (is_flushed rows t.cell.serial ≡ false)) × Serials rows r older
 
 -- a token of this serial has this word
 abbrev pub HasWord : Slots → ℕ → ℕ → Type 0
@@ -87,17 +91,19 @@ rank stages slots = first_of_two (to_go slots) (suc stages)
 pub record Inv (k : Setting) (earlier : List Row) (m : Machine) : Type 0 where
   pub stages : length m.slots ≡ k.shape.stages
   pub arch : m.arch ≡ run k.image (retirements earlier)
-  pub next : m.next ≡ retirements earlier + count m.slots
+  pub next_place : place earlier m.next ≡ retirements earlier + count m.slots
+  pub next_first : serial_after m.next (cell_of (first_slot m.slots)) ≡ m.next
   pub fetch : m.fetch ≡ expected k (retirements earlier) 1 (tail m.slots)
   pub few : m.next ≤ length earlier
   pub placed : Placed k (retirements earlier) 0 m.slots
+  pub serials : Serials earlier (retirements earlier) m.slots
   pub fetch_is : m.fetch ≡ fetch_address k earlier
   pub next_is : m.next ≡ next_serial k earlier
   pub moved : MovesInto (newest earlier) None (stages_of k (newest earlier)) (names_of (cells_of m.slots))
   pub words : (s word : ℕ) → IsWordOf k earlier s word → HasWord m.slots s word
   pub fresh : (s word : ℕ) → IsWordOf k earlier s word → s < m.next
-  pub retired : (s : ℕ) → is_retired earlier s ≡ nat_lt s (retirements earlier)
-  pub unflushed : (s : ℕ) → is_flushed earlier s ≡ false
+  pub retired : (s : ℕ) → is_flushed earlier s ≡ false → is_retired earlier s ≡ nat_lt (place earlier s) (retirements earlier)
+  pub unflushed : (s : ℕ) → m.next ≤ s → is_flushed earlier s ≡ false
   pub state : architecture earlier ≡ run k.image (retirements earlier)
   pub progress : rows_without earlier + rank k.shape.stages m.slots ≤ k.shape.stages + 1
 
