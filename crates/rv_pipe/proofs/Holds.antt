@@ -1,5 +1,5 @@
 -- The holds that the machine decides are the first true ones.
-use Rattle.std.proofs.Common.{◌≡◌, ◌≢◌, ℕ, zero, suc, ◌+◌, ◌*◌, ◌<◌, ◌≤◌, List, [], ◌∷◌, drop, Option, Some, None, Bool, true, false, refl, sym, ap, ◌∙◌, subst, arith, add-zero, add-suc, ◌⊎◌, inl, inr}
+use Rattle.std.proofs.Common.{◌≡◌, ◌≢◌, ℕ, zero, suc, ◌+◌, ◌<◌, ◌≤◌, List, [], ◌∷◌, drop, Option, Some, None, Bool, true, false, refl, sym, ap, ◌∙◌, subst, arith, add-zero, ◌⊎◌, inl, inr}
 use Rattle.std.specs.Prelude.{◌&&◌, ◌||◌, not, if◌then◌else◌, ◌==◌, is_some, is_none, slice_get, nat_lt, min, max}
 use Rattle.std.proofs.lemmas.Bool.{cases_lt}
 use Rattle.std.proofs.lemmas.Bool.Decides.{nat_tests}
@@ -16,9 +16,10 @@ use Rattle.rv_seq.specs.SequentialRun.{run, step, answer_to}
 use Rattle.rv_trace.specs.Trace.{Setting, Course, stages_of, Stands, has_serial, is_flushed, is_retired, place, retirements}
 use Rattle.rv_trace.specs.LawfulTrace.{destination_of, reads_of, IsWordOf, IsOlder, IsDueToStop, WaitsForOperand, WaitsToDrain, OwnHold, StopsRun, WaitsBehind, TrueHold, ComesFirst, ShowsHold}
 use Rattle.rv_pipe.specs.PlainMachine.{Slots, or_else, writer, operand, waits_for, operand_hold, stop_of, drain, staying, own_hold, stops_now, is_blocked, shown, cells_of}
-use Rattle.rv_pipe.specs.Placed.{one_more, count, Placed, IsShape}
-use Rattle.rv_pipe.proofs.Runs.{goes_on, step_word, stops_as, stopped_as}
-use Rattle.rv_pipe.proofs.Tokens.{same_test, test_eq, test_ne, Decided}
+use Rattle.rv_pipe.specs.Placed.{one_more, count, HasWord, Serials, Placed, IsShape}
+use Rattle.rv_pipe.proofs.Runs.{step_word, stops_as, stopped_as}
+use Rattle.rv_pipe.proofs.Places.{Stood, stood, older_lower, token_of, serials_drop, place_lt, place_order}
+use Rattle.rv_pipe.proofs.Tokens.{word_of_run, same_test, test_eq, test_ne, Decided}
 
 -- how many tokens go out of the last stage
 abbrev pub out_last : Option Token → ℕ
@@ -33,13 +34,12 @@ out_of (s ∷ u ∷ rest) = out_of (u ∷ rest)
 -- what is told of a row with these slots
 pub record Told (k : Setting) (earlier : List Row) (row : Row) (seen : Slots) : Type 0 where
   pub cells : stages_of k row ≡ cells_of seen
-  pub pc : (run k.image (retirements earlier)).pc ≡ 4 * retirements earlier
   pub placed : Placed k (retirements earlier) 0 seen
   pub decided : Decided k 0 seen
-  pub unflushed : (s : ℕ) → is_flushed (row ∷ earlier) s ≡ false
-  pub words : (s word : ℕ) → IsWordOf k (row ∷ earlier) s word → slice_get k.image s ≡ Some word
-  pub before : (s : ℕ) → is_retired earlier s ≡ nat_lt s (retirements earlier)
-  pub now : (s : ℕ) → is_retired (row ∷ earlier) s ≡ nat_lt s (retirements earlier + out_of seen)
+  pub serials : Serials (row ∷ earlier) (retirements earlier) seen
+  pub words : (s word : ℕ) → IsWordOf k (row ∷ earlier) s word → HasWord seen s word
+  pub before : (s : ℕ) → is_flushed (row ∷ earlier) s ≡ false → is_retired earlier s ≡ nat_lt (place (row ∷ earlier) s) (retirements earlier)
+  pub now : (s : ℕ) → is_flushed (row ∷ earlier) s ≡ false → is_retired (row ∷ earlier) s ≡ nat_lt (place (row ∷ earlier) s) (retirements earlier + out_of seen)
 
 -- Lists
 
@@ -113,74 +113,98 @@ stands_older k row seen older s stage n c e =
     ∙ sym (slice_get-drop (cells_of seen) (suc stage) n)
     ∙ ap (λ l. slice_get l n) (cells_drop (suc stage) seen ∙ ap cells_of (drop_more seen older s stage e))
 
--- the token of a serial
-token_of : (k : Setting) (r stage j : ℕ) (older : Slots) → Placed k r stage older → r ≤ j → j < r + count older → (n : ℕ) × (u : Token) × (slice_get (cells_of older) n ≡ Some (Some u.cell)) × (u.cell.serial ≡ j)
-token_of k r stage j [] h le lt = absurd (omega arith)
-token_of k r stage j (None ∷ older) h le lt = let t = token_of k r (suc stage) j older h.1 le lt in (suc t.0, t.1, t.2, t.3)
-token_of k r stage j (Some t ∷ older) h le lt =
-    elim (cases_lt j (r + count older)) [
-      | inl less ↦ let u = token_of k r (suc stage) j older h.1 le less in (suc u.0, u.1, u.2, u.3)
-      | inr more ↦ (0, t, refl, h.0.serial ∙ omega (arith, lt, more))
-    ]
+same_token : (t u : Token) → ◌≡◌ {A = Option (Option Token)} (Some (Some t)) (Some (Some u)) → t ≡ u
+same_token t u e = cc
+
+decoded_at : (k : Setting) (r stage n : ℕ) (seen : Slots) (u : Token) → Placed k r stage seen → slice_get seen n ≡ Some (Some u) → u.instruction ≡ instruction_of u.cell.word
+decoded_at k r stage n [] u h e = cc
+decoded_at k r stage zero (None ∷ older) u h e = cc
+decoded_at k r stage zero (Some t ∷ older) u h e = subst (λ (v : Token). v.instruction ≡ instruction_of v.cell.word) (same_token t u e) h.0.decoded
+decoded_at k r stage (suc n) (s ∷ older) u h e = decoded_at k r (suc stage) n older u h.1 e
+
+pub here_of : (seen older : Slots) (t : Token) (n : ℕ) → drop n seen ≡ Some t ∷ older → slice_get seen n ≡ Some (Some t)
+here_of [] older t zero e = cc
+here_of [] older t (suc n) e = cc
+here_of (x ∷ seen) older t zero e = cc
+here_of (x ∷ seen) older t (suc n) e = here_of seen older t n e
+
+cell_here : (seen : Slots) (n : ℕ) (u : Token) → slice_get seen n ≡ Some (Some u) → slice_get (cells_of seen) n ≡ Some (Some u.cell)
+cell_here [] n u e = cc
+cell_here (None ∷ seen) zero u e = cc
+cell_here (Some t ∷ seen) zero u e = ap (λ (v : Token). Some (Some v.cell)) (same_token t u e)
+cell_here (s ∷ seen) (suc n) u e = cell_here seen n u e
 
 -- Operands
 
--- the word at index j writes this register
-abbrev pub Writes : Setting → ℕ → ℕ → Type 0
-Writes k reg j = (word : ℕ) × (slice_get k.image j ≡ Some word) × (destination_of (instruction_of word) ≡ reg)
+-- the token of the serial j is among these, and writes this register
+abbrev pub Writes : Slots → ℕ → ℕ → Type 0
+Writes older reg j = (n : ℕ) × (u : Token) × (slice_get older n ≡ Some (Some u)) × (u.cell.serial ≡ j) × (destination_of u.instruction ≡ reg)
 
--- the least place among the older ones that writes the register
-abbrev pub WriterIs : Setting → ℕ → ℕ → ℕ → Option ℕ → Type 0
-WriterIs k r n reg None = (j : ℕ) → r ≤ j → j < r + n → Writes k reg j → ⊥
-WriterIs k r n reg (Some i) = (r ≤ i) × (i < r + n) × Writes k reg i × ((j : ℕ) → r ≤ j → j < r + n → Writes k reg j → i ≤ j)
+-- the least serial of those that do
+abbrev pub WriterIs : Slots → ℕ → Option ℕ → Type 0
+WriterIs older reg None = (j : ℕ) → Writes older reg j → ⊥
+WriterIs older reg (Some i) = Writes older reg i × ((j : ℕ) → Writes older reg j → i ≤ j)
 
-one_word : (k : Setting) (j v w : ℕ) → slice_get k.image j ≡ Some v → slice_get k.image j ≡ Some w → v ≡ w
-one_word k j v w p q = cc
+behind : (s : Option Token) (older : Slots) (reg j : ℕ) → Writes older reg j → Writes (s ∷ older) reg j
+behind s older reg j w = (suc w.0, w.1, w.2, w.3, w.4)
 
-writer_more : (k : Setting) (r n reg serial word : ℕ) (o : Option ℕ) → WriterIs k r n reg o → serial ≡ r + n → slice_get k.image (r + n) ≡ Some word → WriterIs k r (suc n) reg (or_else o (if destination_of (instruction_of word) == reg then Some serial else None))
-writer_more k r n reg serial word (Some i) h e w =
-    (h.0, omega (arith, h.1), h.2, λ j le lt writes. elim (cases_lt j (r + n)) [ inl less ↦ h.3 j le less writes | inr more ↦ omega (arith, h.1, more) ])
-writer_more k r n reg serial word None h e w = by_case (destination_of (instruction_of word) == reg) refl where
-  last : (j : ℕ) → j < r + suc n → r + n ≤ j → j ≡ r + n
-  last j lt le = omega arith
+-- what is written by these is written by the first of them, or by a later one
+front_or_behind : (t : Token) (older : Slots) (reg j : ℕ) → Writes (Some t ∷ older) reg j → ((t.cell.serial ≡ j) × (destination_of t.instruction ≡ reg)) ⊎ Writes older reg j
+front_or_behind t older reg j w = by_index w.0 w.2 where
+  by_index : (n : ℕ) → slice_get (Some t ∷ older) n ≡ Some (Some w.1) → ((t.cell.serial ≡ j) × (destination_of t.instruction ≡ reg)) ⊎ Writes older reg j
+  by_index zero e =
+      let same = same_token t w.1 e in
+      inl (ap (λ (u : Token). u.cell.serial) same ∙ w.3, ap (λ (u : Token). destination_of u.instruction) same ∙ w.4)
+  by_index (suc n) e = inr (n, w.1, e, w.3, w.4)
 
-  by_case : (b : Bool) → (destination_of (instruction_of word) == reg) ≡ b → WriterIs k r (suc n) reg (if b then Some serial else None)
-  by_case true q = (
-    omega (arith, e),
-    omega (arith, e),
-    subst (λ j. Writes k reg j) (sym e) (word, w, test_eq (destination_of (instruction_of word)) reg q),
-    λ j le lt writes. elim (cases_lt j (r + n)) [ inl less ↦ absurd (h j le less writes) | inr more ↦ omega (arith, e, more) ],
+only_behind : (older : Slots) (reg j : ℕ) → Writes (None ∷ older) reg j → Writes older reg j
+only_behind older reg j w = by_index w.0 w.2 where
+  by_index : (n : ℕ) → slice_get (None ∷ older) n ≡ Some (Some w.1) → Writes older reg j
+  by_index zero e = cc
+  by_index (suc n) e = (n, w.1, e, w.3, w.4)
+
+writer_is : (rows : List Row) (r reg : ℕ) (older : Slots) → Serials rows r older → WriterIs older reg (writer reg older)
+writer_is rows r reg [] h = λ j w. cc (w.2)
+writer_is rows r reg (None ∷ older) h = by_case (writer reg older) (writer_is rows r reg older h) where
+  by_case : (o : Option ℕ) → WriterIs older reg o → WriterIs (None ∷ older) reg o
+  by_case None f = λ j w. f j (only_behind older reg j w)
+  by_case (Some i) f = (behind None older reg i f.0, λ j w. f.1 j (only_behind older reg j w))
+writer_is rows r reg (Some t ∷ older) h = by_case (writer reg older) (writer_is rows r reg older h.1) where
+  last : (b : Bool) → (destination_of t.instruction == reg) ≡ b → ((j : ℕ) → Writes older reg j → ⊥) → WriterIs (Some t ∷ older) reg (if b then Some t.cell.serial else None)
+  last true q f = (
+    (0, t, refl, refl, test_eq (destination_of t.instruction) reg q),
+    λ j w. elim (front_or_behind t older reg j w) [ inl x ↦ omega (arith, x.0) | inr x ↦ absurd (f j x) ],
   )
-  by_case false q =
-      λ j le lt writes. elim (cases_lt j (r + n)) [
-        | inl less ↦ h j le less writes
-        | inr more ↦
-            let at = ap (λ i. slice_get k.image i) (last j lt more) in
-            let same = one_word k (r + n) writes.0 word (sym at ∙ writes.1) w in
-            test_ne (destination_of (instruction_of word)) reg q (ap (λ v. destination_of (instruction_of v)) (sym same) ∙ writes.2)
-      ]
+  last false q f = λ j w. elim (front_or_behind t older reg j w) [ inl x ↦ test_ne (destination_of t.instruction) reg q x.1 | inr x ↦ f j x ]
 
-writer_is : (k : Setting) (r stage reg : ℕ) (older : Slots) → Placed k r stage older → WriterIs k r (count older) reg (writer reg older)
-writer_is k r stage reg [] h = λ j le lt writes. omega arith
-writer_is k r stage reg (None ∷ older) h = writer_is k r (suc stage) reg older h.1
-writer_is k r stage reg (Some t ∷ older) h =
-    subst (λ i. WriterIs k r (suc (count older)) reg (or_else (writer reg older) (if destination_of i == reg then Some t.cell.serial else None))) (sym h.0.decoded)
-    (writer_more k r (count older) reg t.cell.serial t.cell.word (writer reg older) (writer_is k r (suc stage) reg older h.1) h.0.serial h.0.word)
+  by_case : (o : Option ℕ) → WriterIs older reg o → WriterIs (Some t ∷ older) reg (or_else o (if destination_of t.instruction == reg then Some t.cell.serial else None))
+  by_case None f = last (destination_of t.instruction == reg) refl f
+  by_case (Some i) f = (
+    behind (Some t) older reg i f.0,
+    λ j w. elim (front_or_behind t older reg j w) [
+      | inl x ↦
+          let w0 = f.0 in
+          let lt = older_lower rows r w0.0 t w0.1 older h w0.2 in
+          let e = w0.3 in
+          omega (arith, lt, e, x.0)
+      | inr x ↦ f.1 j x
+    ],
+  )
 
 -- what is waited for, of one register
-abbrev pub WaitIs : Setting → ℕ → ℕ → ℕ → Option Hold → Type 0
-WaitIs k r n reg None = (reg ≡ 0) ⊎ ((j : ℕ) → r ≤ j → j < r + n → Writes k reg j → ⊥)
-WaitIs k r n reg (Some h) = (i : ℕ) × (h ≡ Operand reg i) × (reg ≢ 0) × (r ≤ i) × (i < r + n) × Writes k reg i × ((j : ℕ) → r ≤ j → j < r + n → Writes k reg j → i ≤ j)
+abbrev pub WaitIs : Slots → ℕ → Option Hold → Type 0
+WaitIs older reg None = (reg ≡ 0) ⊎ ((j : ℕ) → Writes older reg j → ⊥)
+WaitIs older reg (Some h) = (i : ℕ) × (h ≡ Operand reg i) × (reg ≢ 0) × Writes older reg i × ((j : ℕ) → Writes older reg j → i ≤ j)
 
-operand_is : (k : Setting) (r n reg : ℕ) (o : Option ℕ) → reg ≢ 0 → WriterIs k r n reg o → WaitIs k r n reg (operand reg o)
-operand_is k r n reg None ne h = inr h
-operand_is k r n reg (Some i) ne h = (i, refl, ne, h.0, h.1, h.2, h.3)
+operand_is : (older : Slots) (reg : ℕ) (o : Option ℕ) → reg ≢ 0 → WriterIs older reg o → WaitIs older reg (operand reg o)
+operand_is older reg None ne h = inr h
+operand_is older reg (Some i) ne h = (i, refl, ne, h.0, h.1)
 
-wait_is : (k : Setting) (r stage reg : ℕ) (older : Slots) → Placed k r stage older → WaitIs k r (count older) reg (waits_for reg older)
-wait_is k r stage reg older h = by_case (reg == 0) refl where
-  by_case : (b : Bool) → (reg == 0) ≡ b → WaitIs k r (count older) reg (if b then None else operand reg (writer reg older))
+wait_is : (rows : List Row) (r reg : ℕ) (older : Slots) → Serials rows r older → WaitIs older reg (waits_for reg older)
+wait_is rows r reg older h = by_case (reg == 0) refl where
+  by_case : (b : Bool) → (reg == 0) ≡ b → WaitIs older reg (if b then None else operand reg (writer reg older))
   by_case true e = inl (test_eq reg 0 e)
-  by_case false e = operand_is k r (count older) reg (writer reg older) (test_ne reg 0 e) (writer_is k r stage reg older h)
+  by_case false e = operand_is older reg (writer reg older) (test_ne reg 0 e) (writer_is rows r reg older h)
 
 pub all_three : (a b c : Bool) → a ≡ true → b ≡ true → c ≡ true → (a && b && c) ≡ true
 all_three a b c p q r = rw (p, q, r)
@@ -210,43 +234,33 @@ out_drop (s ∷ []) rest u (suc zero) e = cc
 out_drop (s ∷ []) rest u (suc (suc n)) e = cc
 out_drop (s ∷ x ∷ seen) rest u (suc n) e = out_drop (x ∷ seen) rest u n e
 
-staying_last : (r : ℕ) (b : Bool) (serial : ℕ) → serial ≡ r + 0 → (if b then Some serial else None) ≡ (if nat_lt (if b then 0 else 1) 1 then Some (r + (if b then 0 else 1)) else None)
-staying_last r true serial e = ap Some e
-staying_last r false serial e = refl
+-- the oldest token that stays: its place follows those of the tokens that go out, of which all do where none stays
+abbrev pub StayingIs : List Row → ℕ → Slots → Option ℕ → Type 0
+StayingIs rows r l None = count l ≤ out_of l
+StayingIs rows r l (Some j) = (n : ℕ) × (u : Token) × (slice_get l n ≡ Some (Some u)) × (u.cell.serial ≡ j) × (place rows j ≡ r + out_of l) × (out_of l < count l)
 
-staying_next : (r o c serial : ℕ) → o ≤ c → serial ≡ r + c → or_else (if nat_lt o c then Some (r + o) else None) (Some serial) ≡ (if nat_lt o (suc c) then Some (r + o) else None)
-staying_next r o c serial le e = by_case (nat_lt o c) refl where
-  less : nat_lt o (suc c) ≡ true
-  less = grind (arith, nat_tests)
+staying_more : (rows : List Row) (r : ℕ) (s u : Option Token) (rest : Slots) (o : Option ℕ) → StayingIs rows r (u ∷ rest) o → (s ≡ None) ⊎ ((j : ℕ) × (o ≡ Some j)) → StayingIs rows r (s ∷ u ∷ rest) o
+staying_more rows r None u rest None h w = h
+staying_more rows r (Some t) u rest None h (inl e) = cc
+staying_more rows r (Some t) u rest None h (inr x) = cc (x.1)
+staying_more rows r None u rest (Some j) h w = (suc h.0, h.1, h.2, h.3, h.4, h.5)
+staying_more rows r (Some t) u rest (Some j) h w = let lt = h.5 in (suc h.0, h.1, h.2, h.3, h.4, omega (arith, lt))
 
-  reach : nat_lt o c ≡ false → serial ≡ r + o
-  reach q = grind (arith, nat_tests)
-
-  by_case : (b : Bool) → nat_lt o c ≡ b → or_else (if b then Some (r + o) else None) (Some serial) ≡ (if nat_lt o (suc c) then Some (r + o) else None)
-  by_case true q = rw less
-  by_case false q = rw (less, reach q)
-
-pub staying_is : (k : Setting) (r stage : ℕ) (l : Slots) → Placed k r stage l → staying l ≡ (if nat_lt (out_of l) (count l) then Some (r + out_of l) else None)
-staying_is k r stage [] h = refl
-staying_is k r stage (None ∷ []) h = refl
-staying_is k r stage (None ∷ u ∷ rest) h = staying_is k r (suc stage) (u ∷ rest) h.1
-staying_is k r stage (Some t ∷ []) h = staying_last r (is_some t.cell.hold) t.cell.serial h.0.serial
-staying_is k r stage (Some t ∷ u ∷ rest) h =
-    ap (λ o. or_else o (Some t.cell.serial)) (staying_is k r (suc stage) (u ∷ rest) h.1)
-    ∙ staying_next r (out_of (u ∷ rest)) (count (u ∷ rest)) t.cell.serial (out_le (u ∷ rest)) h.0.serial
-
--- past EX every token goes on, so the run comes to the place behind them
-pub on_path : (k : Setting) (shape : IsShape k) (r stage : ℕ) (l : Slots) → Placed k r stage l → k.shape.ex < stage → (run k.image r).pc ≡ 4 * r → (run k.image (r + count l)).pc ≡ 4 * (r + count l)
-on_path k shape r stage [] h lt pc = rw add-zero pc
-on_path k shape r stage (None ∷ l) h lt pc = on_path k shape r (suc stage) l h.1 (omega arith) pc
-on_path k shape r stage (Some t ∷ l) h lt pc =
-    let ih = on_path k shape r (suc stage) l h.1 (omega arith) pc in
-    rw (add-suc r (count l)) ((goes_on k.image (r + count l) t.cell.word shape.few_words ih h.0.word (sym (ap stop_of h.0.decoded) ∙ h.0.goes lt)).pc)
-
-pub place_is : (rows : List Row) (s : ℕ) → ((j : ℕ) → is_flushed rows j ≡ false) → place rows s ≡ s
-unfolding place
-place_is rows zero h = refl
-place_is rows (suc s) h = rw (h s) (ap suc (place_is rows s h))
+pub staying_is : (rows : List Row) (r : ℕ) (l : Slots) → Serials rows r l → StayingIs rows r l (staying l)
+staying_is rows r [] h = omega arith
+staying_is rows r (None ∷ []) h = omega arith
+staying_is rows r (None ∷ u ∷ rest) h = staying_more rows r None u rest (staying (u ∷ rest)) (staying_is rows r (u ∷ rest) h) (inl refl)
+staying_is rows r (Some t ∷ []) h = by_case (is_some t.cell.hold) refl where
+  by_case : (b : Bool) → is_some t.cell.hold ≡ b → StayingIs rows r (Some t ∷ []) (if b then Some t.cell.serial else None)
+  by_case true e = let p = h.0.0 in (0, t, refl, refl, rw e p, rw e (omega arith))
+  by_case false e = rw e (omega arith)
+staying_is rows r (Some t ∷ u ∷ rest) h = by_case (staying (u ∷ rest)) (staying_is rows r (u ∷ rest) h.1) where
+  by_case : (o : Option ℕ) → StayingIs rows r (u ∷ rest) o → StayingIs rows r (Some t ∷ u ∷ rest) (or_else o (Some t.cell.serial))
+  by_case (Some j) f = staying_more rows r (Some t) u rest (Some j) f (inr (j, refl))
+  by_case None f =
+      let p = h.0.0 in
+      let le = out_le (u ∷ rest) in
+      (0, t, refl, refl, omega (arith, p, le, f), omega (arith, le))
 
 -- a token in a stage, with what is told of the row
 module _ (k : Setting) (shape : IsShape k) (earlier : List Row) (row : Row) (seen : Slots) (told : Told k earlier row seen) (stage : ℕ) (t : Token) (older : Slots)
@@ -254,42 +268,61 @@ module _ (k : Setting) (shape : IsShape k) (earlier : List Row) (row : Row) (see
   r : ℕ
   r = retirements earlier
 
-  -- an older token that is not retired in an earlier row
-  waiting : (j : ℕ) → IsOlder (row ∷ earlier) t.cell.serial j → is_retired earlier j ≡ false → (retirements earlier ≤ j) × (j < retirements earlier + count older)
+  -- the serials of the token and of the older ones
+  pub ordered : Serials (row ∷ earlier) (retirements earlier) (Some t ∷ older)
+  ordered = subst (λ l. Serials (row ∷ earlier) (retirements earlier) l) rest (serials_drop (row ∷ earlier) (retirements earlier) stage seen told.serials)
+
+  not_lt : (a b : ℕ) → b ≤ a → nat_lt a b ≡ false
+  not_lt a b h = grind (arith, nat_tests)
+
+  not_below : (a b : ℕ) → nat_lt a b ≡ false → b ≤ a
+  not_below a b h = grind (arith, nat_tests)
+
+  -- an older cell that is not retired in an earlier row has a token here
+  waiting : (j : ℕ) → IsOlder (row ∷ earlier) t.cell.serial j → is_retired earlier j ≡ false → (n : ℕ) × (u : Token) × (slice_get older n ≡ Some (Some u)) × (u.cell.serial ≡ j)
   waiting j o u =
-      let b = sym (told.before j) ∙ u in
-      let s = placed.0.serial in
-      let lower = o.lower in
-      (not_below j (retirements earlier) b, omega (arith, lower, s)) where
-        not_below : (a b : ℕ) → nat_lt a b ≡ false → b ≤ a
-        not_below a b h = grind (arith, nat_tests)
+      let lower = place_lt (row ∷ earlier) j t.cell.serial o.unflushed o.lower in
+      let p = ordered.0.0 in
+      token_of (row ∷ earlier) (retirements earlier) j older ordered.1 o.unflushed (not_below (place (row ∷ earlier) j) (retirements earlier) (sym (told.before j o.unflushed) ∙ u)) (omega (arith, lower, p))
 
-  is_older : (j : ℕ) → j < retirements earlier + count older → IsOlder (row ∷ earlier) t.cell.serial j
-  is_older j lt = let s = placed.0.serial in record { lower = omega (arith, lt, s); unflushed = told.unflushed j }
+  older_stood : (n : ℕ) (u : Token) → slice_get older n ≡ Some (Some u) → Stood (row ∷ earlier) (retirements earlier) (count older) u
+  older_stood n u e = stood (row ∷ earlier) (retirements earlier) n older u ordered.1 e
 
-  unretired : (j : ℕ) → retirements earlier ≤ j → is_retired earlier j ≡ false
-  unretired j le = told.before j ∙ not_lt j (retirements earlier) le where
-    not_lt : (a b : ℕ) → b ≤ a → nat_lt a b ≡ false
-    not_lt a b h = grind (arith, nat_tests)
+  is_older : (n : ℕ) (u : Token) → slice_get older n ≡ Some (Some u) → IsOlder (row ∷ earlier) t.cell.serial u.cell.serial
+  is_older n u e = record { lower = older_lower (row ∷ earlier) (retirements earlier) n t u older ordered e; unflushed = (older_stood n u e).alive }
+
+  unretired : (n : ℕ) (u : Token) → slice_get older n ≡ Some (Some u) → is_retired earlier u.cell.serial ≡ false
+  unretired n u e = let s = older_stood n u e in told.before u.cell.serial s.alive ∙ not_lt (place (row ∷ earlier) u.cell.serial) (retirements earlier) s.low
+
+  here_in : (n : ℕ) (u : Token) → slice_get older n ≡ Some (Some u) → slice_get seen (suc stage + n) ≡ Some (Some u)
+  here_in n u e = sym (slice_get-drop seen (suc stage) n) ∙ ap (λ l. slice_get l n) (drop_more seen older (Some t) stage rest) ∙ e
+
+  decoded_in : (n : ℕ) (u : Token) → slice_get older n ≡ Some (Some u) → u.instruction ≡ instruction_of u.cell.word
+  decoded_in n u e = decoded_at k (retirements earlier) 0 (suc stage + n) seen u told.placed (here_in n u e)
 
   -- the word of an older token
-  word_of : (j : ℕ) → retirements earlier ≤ j → j < retirements earlier + count older → (reg : ℕ) → Writes k reg j → (word : ℕ) × IsWordOf k (row ∷ earlier) j word × (destination_of (instruction_of word) ≡ reg)
-  word_of j le lt reg writes =
-      let u = token_of k (retirements earlier) (suc stage) j older placed.1 le lt in
-      let stands : Stands k row (suc stage + u.0) u.1.cell = stands_older k row seen older (Some t) stage u.0 told.cells rest ∙ u.2 in
-      let known : IsWordOf k (row ∷ earlier) j u.1.cell.word = inl (suc stage + u.0, u.1.cell, stands, u.3, refl) in
-      let same = one_word k j u.1.cell.word writes.0 (told.words j u.1.cell.word known) writes.1 in
-      (u.1.cell.word, known, ap (λ v. destination_of (instruction_of v)) same ∙ writes.2)
+  word_of : (j reg : ℕ) → Writes older reg j → (word : ℕ) × IsWordOf k (row ∷ earlier) j word × (destination_of (instruction_of word) ≡ reg)
+  word_of j reg writes =
+      let stands : Stands k row (suc stage + writes.0) writes.1.cell = ap (λ l. slice_get l (suc stage + writes.0)) told.cells ∙ cell_here seen (suc stage + writes.0) writes.1 (here_in writes.0 writes.1 writes.2) in
+      let known : IsWordOf k (row ∷ earlier) j writes.1.cell.word = inl (suc stage + writes.0, writes.1.cell, stands, writes.3, refl) in
+      (writes.1.cell.word, known, sym (ap destination_of (decoded_in writes.0 writes.1 writes.2)) ∙ writes.4)
 
-  -- what waits for an operand, in places
-  from_wait : (reg j : ℕ) → WaitsForOperand k earlier row stage t.cell reg j → (retirements earlier ≤ j) × (j < retirements earlier + count older) × Writes k reg j
+  -- what waits for an operand, among the older tokens
+  from_wait : (reg j : ℕ) → WaitsForOperand k earlier row stage t.cell reg j → Writes older reg j
   from_wait reg j w =
-      let b = waiting j w.older w.unretired in
-      (b.0, b.1, (w.writes.0, told.words j w.writes.0 w.writes.1, w.writes.2))
+      let u = waiting j w.older w.unretired in
+      let word = told.words j w.writes.0 w.writes.1 (suc stage + u.0) u.1 (here_in u.0 u.1 u.2) u.3 in
+      (u.0, u.1, u.2, u.3, ap destination_of (decoded_in u.0 u.1 u.2) ∙ ap (λ v. destination_of (instruction_of v)) word ∙ w.writes.2)
 
-  to_wait : (reg j : ℕ) → stage ≡ k.shape.rd → reads_of (instruction_of t.cell.word) reg ≡ true → retirements earlier ≤ j → j < retirements earlier + count older → Writes k reg j → WaitsForOperand k earlier row stage t.cell reg j
-  to_wait reg j at reads le lt writes =
-      record { reading = at; reads = reads; older = is_older j lt; unretired = unretired j le; writes = word_of j le lt reg writes }
+  to_wait : (reg j : ℕ) → stage ≡ k.shape.rd → reads_of (instruction_of t.cell.word) reg ≡ true → Writes older reg j → WaitsForOperand k earlier row stage t.cell reg j
+  to_wait reg j at reads writes =
+      record {
+        reading = at;
+        reads = reads;
+        older = subst (λ s. IsOlder (row ∷ earlier) t.cell.serial s) writes.3 (is_older writes.0 writes.1 writes.2);
+        unretired = subst (λ s. is_retired earlier s ≡ false) writes.3 (unretired writes.0 writes.1 writes.2);
+        writes = word_of j reg writes;
+      }
 
   -- the operand that is waited for, by the reading of the instruction
   abbrev OperandIs : Option Hold → Type 0
@@ -329,36 +362,34 @@ module _ (k : Setting) (shape : IsShape k) (earlier : List Row) (row : Row) (see
   most_reads reg a b ne e = grind (arith, nat_tests)
 
   -- one source register
-  one_source : stage ≡ k.shape.rd → (rs : ℕ) → ((reg : ℕ) → reads_of (instruction_of t.cell.word) reg ≡ (not (reg == 0) && (reg == rs))) → (o : Option Hold) → WaitIs k (retirements earlier) (count older) rs o → OperandIs o
+  one_source : stage ≡ k.shape.rd → (rs : ℕ) → ((reg : ℕ) → reads_of (instruction_of t.cell.word) reg ≡ (not (reg == 0) && (reg == rs))) → (o : Option Hold) → WaitIs older rs o → OperandIs o
   one_source at rs reads None (inl zero_rs) = λ reg j w.
       let q = reads_one reg rs (sym (reads reg) ∙ w.reads) in
       q.0 (q.1 ∙ zero_rs)
   one_source at rs reads None (inr f) = λ reg j w.
       let q = reads_one reg rs (sym (reads reg) ∙ w.reads) in
-      let b = from_wait reg j w in
-      f j b.0 b.1 (subst (λ m. Writes k m j) q.1 b.2)
+      f j (subst (λ m. Writes older m j) q.1 (from_wait reg j w))
   one_source at rs reads (Some h) w = (
     rs,
     w.0,
     w.1,
-    to_wait rs w.0 at (reads rs ∙ one_reads rs rs w.2 refl) w.3 w.4 w.5,
+    to_wait rs w.0 at (reads rs ∙ one_reads rs rs w.2 refl) w.3,
     λ other j v.
         let q = reads_one other rs (sym (reads other) ∙ v.reads) in
-        let b = from_wait other j v in
-        inr (sym q.1, w.6 j b.0 b.1 (subst (λ m. Writes k m j) q.1 b.2)),
+        inr (sym q.1, w.4 j (subst (λ m. Writes older m j) q.1 (from_wait other j v))),
   )
 
   -- no older token writes the register
-  none_waits : (reg rs : ℕ) → reg ≢ 0 → reg ≡ rs → WaitIs k (retirements earlier) (count older) rs None → (j : ℕ) → (retirements earlier ≤ j) × (j < retirements earlier + count older) × Writes k reg j → ⊥
+  none_waits : (reg rs : ℕ) → reg ≢ 0 → reg ≡ rs → WaitIs older rs None → (j : ℕ) → Writes older reg j → ⊥
   none_waits reg rs ne e (inl z) j b = ne (e ∙ z)
-  none_waits reg rs ne e (inr f) j b = f j b.0 b.1 (subst (λ m. Writes k m j) e b.2)
+  none_waits reg rs ne e (inr f) j b = f j (subst (λ m. Writes older m j) e b)
 
   least_below : (reg a b : ℕ) → (reg ≡ min a b) ⊎ (reg ≡ max a b) → min a b ≤ reg
   least_below reg a b (inl e) = omega (arith, e)
   least_below reg a b (inr e) = omega (arith, e)
 
   -- two source registers
-  two_sources : stage ≡ k.shape.rd → (a b : ℕ) → ((reg : ℕ) → reads_of (instruction_of t.cell.word) reg ≡ (not (reg == 0) && ((reg == a) || (reg == b)))) → (o p : Option Hold) → WaitIs k (retirements earlier) (count older) (min a b) o → WaitIs k (retirements earlier) (count older) (max a b) p → OperandIs (or_else o p)
+  two_sources : stage ≡ k.shape.rd → (a b : ℕ) → ((reg : ℕ) → reads_of (instruction_of t.cell.word) reg ≡ (not (reg == 0) && ((reg == a) || (reg == b)))) → (o p : Option Hold) → WaitIs older (min a b) o → WaitIs older (max a b) p → OperandIs (or_else o p)
   two_sources at a b reads None None u v = λ reg j w.
       let q = reads_two reg a b (sym (reads reg) ∙ w.reads) in
       elim q.1 [ inl e ↦ none_waits reg (min a b) q.0 e u j (from_wait reg j w) | inr e ↦ none_waits reg (max a b) q.0 e v j (from_wait reg j w) ]
@@ -366,20 +397,20 @@ module _ (k : Setting) (shape : IsShape k) (earlier : List Row) (row : Row) (see
     max a b,
     v.0,
     v.1,
-    to_wait (max a b) v.0 at (reads (max a b) ∙ most_reads (max a b) a b v.2 refl) v.3 v.4 v.5,
+    to_wait (max a b) v.0 at (reads (max a b) ∙ most_reads (max a b) a b v.2 refl) v.3,
     λ other j w.
         let q = reads_two other a b (sym (reads other) ∙ w.reads) in
         let f = from_wait other j w in
         elim q.1 [
           | inl e ↦ absurd (none_waits other (min a b) q.0 e u j f)
-          | inr e ↦ inr (sym e, v.6 j f.0 f.1 (subst (λ m. Writes k m j) e f.2))
+          | inr e ↦ inr (sym e, v.4 j (subst (λ m. Writes older m j) e f))
         ],
   )
   two_sources at a b reads (Some h) p u v = (
     min a b,
     u.0,
     u.1,
-    to_wait (min a b) u.0 at (reads (min a b) ∙ least_reads (min a b) a b u.2 refl) u.3 u.4 u.5,
+    to_wait (min a b) u.0 at (reads (min a b) ∙ least_reads (min a b) a b u.2 refl) u.3,
     λ other j w.
         let q = reads_two other a b (sym (reads other) ∙ w.reads) in
         let f = from_wait other j w in
@@ -388,7 +419,7 @@ module _ (k : Setting) (shape : IsShape k) (earlier : List Row) (row : Row) (see
           | inl less ↦ inl less
           | inr more ↦
               let e : other ≡ min a b = omega (arith, le, more) in
-              inr (sym e, u.6 j f.0 f.1 (subst (λ m. Writes k m j) e f.2))
+              inr (sym e, u.4 j (subst (λ m. Writes older m j) e f))
         ],
   )
 
@@ -401,10 +432,10 @@ module _ (k : Setting) (shape : IsShape k) (earlier : List Row) (row : Row) (see
     by_case None e = nothing_read None e (λ reg. refl)
     by_case (Some Break) e = nothing_read (Some Break) e (λ reg. refl)
     by_case (Some (AddImmediate rd rs1 immediate)) e =
-        one_source at rs1 (λ reg. ap (λ i. reads_of i reg) e) (waits_for rs1 older) (wait_is k (retirements earlier) (suc stage) rs1 older placed.1)
+        one_source at rs1 (λ reg. ap (λ i. reads_of i reg) e) (waits_for rs1 older) (wait_is (row ∷ earlier) (retirements earlier) rs1 older ordered.1)
     by_case (Some (Add rd rs1 rs2)) e =
         two_sources at rs1 rs2 (λ reg. ap (λ i. reads_of i reg) e) (waits_for (min rs1 rs2) older) (waits_for (max rs1 rs2) older)
-        (wait_is k (retirements earlier) (suc stage) (min rs1 rs2) older placed.1) (wait_is k (retirements earlier) (suc stage) (max rs1 rs2) older placed.1)
+        (wait_is (row ∷ earlier) (retirements earlier) (min rs1 rs2) older ordered.1) (wait_is (row ∷ earlier) (retirements earlier) (max rs1 rs2) older ordered.1)
 
   operand_where : OperandIs (if stage == k.shape.rd then operand_hold older t.instruction else None)
   operand_where = by_case (stage == k.shape.rd) refl where
@@ -416,9 +447,9 @@ module _ (k : Setting) (shape : IsShape k) (earlier : List Row) (row : Row) (see
 
   pub at_ex : stage ≡ k.shape.ex → k.course.answer (place (row ∷ earlier) t.cell.serial) ≡ answer_to (run k.image (retirements earlier + count older)) t.cell.word (instruction_of t.cell.word)
   at_ex e =
-      let p = place_is (row ∷ earlier) t.cell.serial told.unflushed ∙ placed.0.serial in
-      let path = on_path k shape (retirements earlier) (suc stage) older placed.1 (omega (arith, e)) told.pc in
-      ap (λ (c : Course). c.answer (place (row ∷ earlier) t.cell.serial)) shape.course ∙ ap (λ n. step k.image (run k.image n)) p ∙ step_word k.image (run k.image (retirements earlier + count older)) (retirements earlier + count older) t.cell.word path placed.0.word
+      let p = ordered.0.0 in
+      let word = word_of_run k (retirements earlier) stage t older (omega (arith, e)) placed.0 in
+      ap (λ (c : Course). c.answer (place (row ∷ earlier) t.cell.serial)) shape.course ∙ ap (λ n. step k.image (run k.image n)) p ∙ step_word k.image (run k.image (retirements earlier + count older)) t.cell.word word
 
   due_word : (stop : Stop) → stage ≡ k.shape.ex → IsDueToStop k (row ∷ earlier) t.cell stop → stop_of t.instruction ≡ Some stop
   due_word stop e d = ap stop_of placed.0.decoded ∙ stopped_as (run k.image (retirements earlier + count older)) t.cell.word (instruction_of t.cell.word) stop (sym (at_ex e) ∙ d)
@@ -439,44 +470,36 @@ module _ (k : Setting) (shape : IsShape k) (earlier : List Row) (row : Row) (see
     by_case [] e lt = absurd (omega arith)
     by_case (u ∷ l) e lt = out_drop seen (u ∷ l) (Some t) stage (rest ∙ ap (λ o. Some t ∷ o) e)
 
-  still : (j : ℕ) → is_retired (row ∷ earlier) j ≡ false → retirements earlier + out_of seen ≤ j
-  still j u = not_below j (retirements earlier + out_of seen) (sym (told.now j) ∙ u) where
-    not_below : (a b : ℕ) → nat_lt a b ≡ false → b ≤ a
-    not_below a b h = grind (arith, nat_tests)
+  still : (j : ℕ) → is_flushed (row ∷ earlier) j ≡ false → is_retired (row ∷ earlier) j ≡ false → retirements earlier + out_of seen ≤ place (row ∷ earlier) j
+  still j alive u = not_below (place (row ∷ earlier) j) (retirements earlier + out_of seen) (sym (told.now j alive) ∙ u)
 
   drain_older : stage ≡ k.shape.ex → (stop : Stop) → stop_of t.instruction ≡ Some stop → DrainIs (drain (staying older))
-  drain_older at stop w = subst (λ o. DrainIs (drain o)) (sym (staying_is k (retirements earlier) (suc stage) older placed.1)) (by_case (nat_lt (out_of older) (count older)) refl) where
-    below : nat_lt (out_of older) (count older) ≡ true → out_of older < count older
-    below q = grind (arith, nat_tests)
-
-    above : nat_lt (out_of older) (count older) ≡ false → count older ≤ out_of older
-    above q = grind (arith, nat_tests)
-
-    not_lt : (a b : ℕ) → b ≤ a → nat_lt a b ≡ false
-    not_lt a b h = grind (arith, nat_tests)
-
-    by_case : (b : Bool) → nat_lt (out_of older) (count older) ≡ b → DrainIs (drain (if b then Some (retirements earlier + out_of older) else None))
-    by_case true q =
-        let lt = below q in
-        let same = out_older (omega (arith, lt)) in (
-          retirements earlier + out_of older,
+  drain_older at stop w = by_case (staying older) (staying_is (row ∷ earlier) (retirements earlier) older ordered.1) where
+    by_case : (o : Option ℕ) → StayingIs (row ∷ earlier) (retirements earlier) older o → DrainIs (drain o)
+    by_case (Some i) x =
+        let lt = x.5 in
+        let same = out_older (omega (arith, lt)) in
+        let p = x.4 in
+        let alive = subst (λ s. is_flushed (row ∷ earlier) s ≡ false) x.3 (older_stood x.0 x.1 x.2).alive in (
+          i,
           refl,
           record {
             executing = at;
             due = (stop, word_due stop at w);
-            older = is_older (retirements earlier + out_of older) (omega (arith, lt));
-            unretired = told.now (retirements earlier + out_of older) ∙ not_lt (retirements earlier + out_of older) (retirements earlier + out_of seen) (omega (arith, same));
+            older = subst (λ s. IsOlder (row ∷ earlier) t.cell.serial s) x.3 (is_older x.0 x.1 x.2);
+            unretired = told.now i alive ∙ not_lt (place (row ∷ earlier) i) (retirements earlier + out_of seen) (omega (arith, same, p));
           },
-          λ j d. let s = still j d.unretired in omega (arith, s, same),
+          λ j d.
+              let s = still j d.older.unflushed d.unretired in
+              place_order (row ∷ earlier) i j d.older.unflushed (omega (arith, s, same, p)),
         )
-    by_case false q = λ j d.
-        let s = still j d.unretired in
-        let lower = d.older.lower in
-        let serial = placed.0.serial in
-        let le = above q in
-        let some : 0 < count older = omega (arith, s, lower, serial) in
+    by_case None le = λ j d.
+        let s = still j d.older.unflushed d.unretired in
+        let lower = place_lt (row ∷ earlier) j t.cell.serial d.older.unflushed d.older.lower in
+        let p = ordered.0.0 in
+        let some : 0 < count older = omega (arith, s, lower, p) in
         let same = out_older some in
-        omega (arith, s, lower, serial, le, same)
+        omega (arith, s, lower, p, le, same)
 
   drain_where : DrainIs (if (stage == k.shape.ex) && is_some (stop_of t.instruction) then drain (staying older) else None)
   drain_where = by_case (stage == k.shape.ex) (stop_of t.instruction) refl refl where
@@ -626,7 +649,7 @@ module _ (k : Setting) (shape : IsShape k) (earlier : List Row) (row : Row) (see
         free = λ e u n h o. free_true (sym is ∙ e) n h o;
       } where
         unflushed_cell : has_serial row.flushed t.cell.serial ≡ false
-        unflushed_cell = not_flushed row earlier t.cell.serial (told.unflushed t.cell.serial)
+        unflushed_cell = not_flushed row earlier t.cell.serial (ordered k shape earlier row seen told stage t older rest placed).0.1
 
         blocked : (WaitsBehind k earlier row stage → is_blocked k.shape (suc stage) older ≡ true) × (is_blocked k.shape (suc stage) older ≡ true → WaitsBehind k earlier row stage)
         blocked = behind_stage k shape earlier row seen told (suc stage) older (drop_more seen older (Some t) stage rest) placed.1

@@ -1,4 +1,5 @@
 pub mod Runs
+pub mod Places
 pub mod Tokens
 pub mod Holds
 pub mod Moving

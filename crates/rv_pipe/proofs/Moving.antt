@@ -1,12 +1,13 @@
 -- Where the machine puts its tokens is where the law of moves wants them.
-use Rattle.std.proofs.Common.{◌≡◌, ℕ, zero, suc, ◌+◌, List, [], ◌∷◌, drop, length, Option, Some, None, Bool, true, false, refl, ap, ◌∙◌, arith, add-zero}
+use Rattle.std.proofs.Common.{◌≡◌, ℕ, zero, suc, ◌+◌, List, [], ◌∷◌, drop, length, Option, Some, None, Bool, true, false, refl, sym, ap, ◌∙◌, arith, add-zero, ◌⊎◌, inl, inr}
 use Rattle.std.specs.Prelude.{◌&&◌, ◌||◌, if◌then◌else◌, is_some, slice_get}
+use Rattle.rv_core.specs.declared.Shape.{Shape}
 use Rattle.rv_trace.specs.declared.row.Cell.{Cell}
 use Rattle.rv_trace.specs.declared.row.Row.{Row}
 use Rattle.rv_pipe.specs.declared.stages.Token.{Token}
 use Rattle.rv_trace.specs.Trace.{Setting, has_serial}
 use Rattle.rv_trace.specs.LawfulTrace.{Name, name_of, names_of, stays, leaves, comes, fetched, front, InStage, MovesInto}
-use Rattle.rv_pipe.specs.PlainMachine.{Slots, gone, going, kept, advanced, leaving, first_slot, cell_of, cells_of, fill, fill_first}
+use Rattle.rv_pipe.specs.PlainMachine.{Slots, decided, gone, going, kept, advanced, leaving, first_slot, cell_of, cells_of, fill, fill_first}
 use Rattle.rv_pipe.specs.Placed.{one_more}
 use Rattle.rv_pipe.proofs.Tokens.{Decided, NoStops, Free, decided_tail, no_stops_tail, free_ahead}
 use Rattle.rv_pipe.proofs.Holds.{out_of, out_last}
@@ -90,3 +91,55 @@ out_going k x stage (Some t) = by_case (is_some t.cell.hold) where
   by_case : (b : Bool) → one_more (if b then None else Some (gone k.shape x stage t)) 0 ≡ (if b then 0 else 1)
   by_case true = refl
   by_case false = refl
+
+-- Where a token comes from
+
+same_here : (t u : Token) → ◌≡◌ {A = Option (Option Token)} (Some (Some t)) (Some (Some u)) → t ≡ u
+same_here t u e = cc
+
+-- a token with its hold has the name that it had
+pub record Named (slots : Slots) (n : ℕ) (u : Token) : Type 0 where
+  pub token : Token
+  pub here : slice_get slots n ≡ Some (Some token)
+  pub serial : u.cell.serial ≡ token.cell.serial
+  pub word : u.cell.word ≡ token.cell.word
+
+pub decided_from : (k : Shape) (stage n : ℕ) (slots : Slots) (u : Token) → slice_get (decided k stage slots) n ≡ Some (Some u) → Named slots n u
+decided_from k stage n [] u e = cc
+decided_from k stage zero (None ∷ older) u e = cc
+decided_from k stage zero (Some t ∷ older) u e =
+    let same = same_here _ u e in
+    record { token = t; here = refl; serial = sym (ap (λ (v : Token). v.cell.serial) same); word = sym (ap (λ (v : Token). v.cell.word) same) }
+decided_from k stage (suc n) (s ∷ older) u e = let r = decided_from k (suc stage) n older u e in record { token = r.token; here = r.here; serial = r.serial; word = r.word }
+
+-- a token after the fetch is one from before, or the new one
+pub filled_from : (slots : Slots) (serial at n : ℕ) (o : Option ℕ) (u : Token) → slice_get (fill_first slots serial at o) n ≡ Some (Some u) → (slice_get slots n ≡ Some (Some u)) ⊎ (u.cell.serial ≡ serial)
+filled_from [] serial at n o u e = cc
+filled_from (Some t ∷ older) serial at zero o u e = inl e
+filled_from (Some t ∷ older) serial at (suc n) o u e = inl e
+filled_from (None ∷ older) serial at zero None u e = cc
+filled_from (None ∷ older) serial at zero (Some word) u e = inr (sym (ap (λ (v : Token). v.cell.serial) (same_here _ u e)))
+filled_from (None ∷ older) serial at (suc n) o u e = inl e
+
+some_token : (t u : Token) → ◌≡◌ {A = Option Token} (Some t) (Some u) → t ≡ u
+some_token t u e = cc
+
+-- a token after the moves has the cell of one before them
+pub advanced_from : (k : Shape) (x : List ℕ) (stage n : ℕ) (come : Option Token) (seen : Slots) (u : Token) → slice_get (advanced k x stage come seen) n ≡ Some (Some u)
+    → ((m : ℕ) × (v : Token) × (slice_get seen m ≡ Some (Some v)) × (v.cell ≡ u.cell)) ⊎ ((v : Token) × (come ≡ Some v) × (v.cell ≡ u.cell))
+advanced_from k x stage n come [] u e = cc
+advanced_from k x stage zero come (None ∷ older) u e = inr (u, cc, refl)
+advanced_from k x stage zero come (Some t ∷ older) u e = by_case (is_some t.cell.hold) e where
+  by_case : (b : Bool) → ◌≡◌ {A = Option (Option Token)} (Some (if b then Some t else come)) (Some (Some u)) → ((m : ℕ) × (v : Token) × (slice_get (Some t ∷ older) m ≡ Some (Some v)) × (v.cell ≡ u.cell)) ⊎ ((v : Token) × (come ≡ Some v) × (v.cell ≡ u.cell))
+  by_case true q = inl (0, t, refl, ap (λ (v : Token). v.cell) (same_here t u q))
+  by_case false q = inr (u, cc, refl)
+advanced_from k x stage (suc n) come (s ∷ older) u e = elim (advanced_from k x (suc stage) n (going k x stage s) older u e) [
+  | inl y ↦ inl (suc y.0, y.1, y.2, y.3)
+  | inr y ↦ by_slot s y.0 y.1 y.2
+] where
+  by_slot : (s : Option Token) (v : Token) → going k x stage s ≡ Some v → v.cell ≡ u.cell → ((m : ℕ) × (w : Token) × (slice_get (s ∷ older) m ≡ Some (Some w)) × (w.cell ≡ u.cell)) ⊎ ((w : Token) × (come ≡ Some w) × (w.cell ≡ u.cell))
+  by_slot None v g q = cc
+  by_slot (Some t) v g q = by_case (is_some t.cell.hold) g where
+    by_case : (b : Bool) → (if b then None else Some (gone k x stage t)) ≡ Some v → ((m : ℕ) × (w : Token) × (slice_get (Some t ∷ older) m ≡ Some (Some w)) × (w.cell ≡ u.cell)) ⊎ ((w : Token) × (come ≡ Some w) × (w.cell ≡ u.cell))
+    by_case true e = cc
+    by_case false e = inl (0, t, refl, ap (λ (w : Token). w.cell) (some_token (gone k x stage t) v e) ∙ q)

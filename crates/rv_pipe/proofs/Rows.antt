@@ -1,5 +1,5 @@
 -- Each row that the machine makes is lawful and agrees with the run, and the machine stays tied to the rows.
-use Rattle.std.proofs.Common.{◌≡◌, ℕ, zero, suc, ◌+◌, ◌*◌, ◌-◌, ◌<◌, ◌≤◌, List, [], ◌∷◌, drop, length, Option, Some, None, Bool, true, false, refl, sym, ap, ◌∙◌, subst, arith, add-zero, ◌⊎◌, inl, inr}
+use Rattle.std.proofs.Common.{◌≡◌, ◌≢◌, ℕ, zero, suc, ◌+◌, ◌-◌, ◌%◌, ◌^◌, ◌<◌, ◌≤◌, List, [], ◌∷◌, drop, length, Option, Some, None, Bool, true, false, refl, sym, ap, ◌∙◌, subst, arith, add-zero, ◌⊎◌, inl, inr}
 use Rattle.std.specs.Prelude.{◌&&◌, ◌||◌, if◌then◌else◌, ◌==◌, is_some, is_none, slice_get, nat_lt, replicate}
 use Rattle.std.proofs.lemmas.List.{length-drop}
 use Rattle.std.proofs.lemmas.Bool.Decides.{nat_tests}
@@ -12,20 +12,20 @@ use Rattle.rv_seq.specs.declared.instruction.Instruction.{Instruction}
 use Rattle.rv_seq.specs.declared.commit.Stop.{Stop}
 use Rattle.rv_seq.specs.declared.commit.Stop.TheVariants.{Fetch}
 use Rattle.rv_pipe.specs.declared.stages.Token.{Token}
-use Rattle.rv_seq.specs.Instructions.{instruction_of}
-use Rattle.rv_seq.specs.SequentialRun.{word_at, run, step, after, applied, commit_of, answer_at, Done, Stopped}
+use Rattle.rv_seq.specs.SequentialRun.{word_at, run, step, after, applied, commit_of, Done, Stopped}
 use Rattle.rv_trace.specs.Trace.{Setting, Course, place, stages_of, Stands, has_serial, is_flushed, is_retired, retirements, architecture, with_retired, newest, rows_without}
 use Rattle.rv_trace.specs.LawfulTrace.{AreEmpty, AscendFrom, IsInForm, name_of, names_of, leaves, front, fetch_address, next_serial, plain_fetch, Moves, MovesInto, Retires, IsWordOf, StopsRun, Settles, successor, IsNextYounger, HasNoYounger, IsMismatch, Successors, IsEmptyAfter, StopsRightly, LawfulRow}
 use Rattle.rv_trace.specs.Headline.{AgreesWithRun}
 use Rattle.rv_pipe.specs.PlainMachine.{Machine, Slots, or_else, stop_of, value_of, own_hold, stops_now, staying, drain, fill_first, next_after, gone, going, advanced, leaving, commit_for, with_serial, retired_of, slot_stop, remains, fetch_after, first_slot, cell_of, cells_of, seen_by, arch_after, IsRowOf, machine_after}
-use Rattle.rv_pipe.specs.Placed.{one_more, count, tail, to_go, rank, IsPlaced, IsPlacedSlot, Placed, IsShape, Inv}
-use Rattle.rv_pipe.proofs.Runs.{word_at-four, step_at, run_suc, goes_on, slice_get_below}
-use Rattle.rv_pipe.proofs.Tokens.{or_else_none, or_else_none_b, is_none_of, same_test, Decided, decided_is, decided_length, decided_names, decided_placed, decided_count, NoStops, own_none, not_due, count_advanced, placed_advanced, last_placed, advanced_length}
-use Rattle.rv_pipe.proofs.Moving.{FlushesNone, moves_on, fill_moves, fill_length, last_slot, out_going}
-use Rattle.rv_pipe.proofs.Filling.{fill_placed, next_count, decided_first, few_more, serial_told, fetch_told, fetch_place}
-use Rattle.rv_pipe.proofs.Holds.{out_of, out_le, out_drop, drop_more, on_path, staying_is, Told, At, at_stage, place_is, shows, then_stops, stops_then}
+use Rattle.rv_pipe.specs.Placed.{one_more, count, HasWord, Serials, expected, tail, to_go, rank, IsPlaced, IsPlacedSlot, Placed, IsShape, Inv}
+use Rattle.rv_pipe.proofs.Runs.{step_at, run_suc, goes_on}
+use Rattle.rv_pipe.proofs.Places.{stood, one_token, serials_drop, serials_more, serials_decided, serials_filled, place_same, flushed_same, one_place, lower_place, next_placed, first_fetched, first_kept}
+use Rattle.rv_pipe.proofs.Tokens.{serials_advanced, lt_true, expected_run, Guessed, guessed, or_else_none, or_else_none_b, is_none_of, same_test, Decided, decided_is, decided_length, decided_names, decided_placed, decided_count, NoStops, own_none, not_due, count_advanced, placed_advanced, last_placed, advanced_length}
+use Rattle.rv_pipe.proofs.Moving.{Named, decided_from, filled_from, advanced_from, FlushesNone, moves_on, fill_moves, fill_length, last_slot, out_going}
+use Rattle.rv_pipe.proofs.Filling.{fill_placed, decided_front, next_within, serial_told, fetch_told, fetch_place}
+use Rattle.rv_pipe.proofs.Holds.{ordered, StayingIs, here_of, out_of, out_le, out_drop, drop_more, staying_is, Told, At, at_stage, shows, then_stops, stops_then}
 use Rattle.rv_pipe.proofs.Bound.{rank_falls, to_go-decided, to_go-le, first_le, fill_rank, nothing_there}
-use Rattle.rv_pipe.proofs.Stopping.{Stopper, stopper, slot_stop_at, no_stops, remains_none, none_remains, remains_count}
+use Rattle.rv_pipe.proofs.Stopping.{Stopper, stopper, slot_stop_at, no_stops, remains_none, none_remains}
 
 none_in : (s : ℕ) → has_serial (replicate 5 None) s ≡ false
 none_in s = refl
@@ -40,12 +40,9 @@ module _ (k : Setting) (shape : IsShape k) (earlier : List Row) (m : Machine) (r
   abbrev r : ℕ
   r = retirements earlier
 
-  fetched_word : word_at k.image m.fetch ≡ slice_get k.image (retirements earlier + count (tail m.slots))
-  fetched_word = ap (λ n. word_at k.image n) inv.fetch ∙ word_at-four k.image (retirements earlier + count (tail m.slots))
-
   seen_placed : Placed k (retirements earlier) 0 (seen_by k m)
   seen_placed = decided_placed k (retirements earlier) 0 (fill_first m.slots m.next m.fetch (word_at k.image m.fetch))
-      (fill_placed k shape (retirements earlier) m.next m.fetch m.slots (word_at k.image m.fetch) inv.placed inv.next inv.fetch (sym fetched_word))
+      (fill_placed k shape (retirements earlier) m.next m.fetch m.slots (word_at k.image m.fetch) inv.placed inv.fetch refl)
 
   seen_decided : Decided k 0 (seen_by k m)
   seen_decided = decided_is k 0 (fill_first m.slots m.next m.fetch (word_at k.image m.fetch))
@@ -56,23 +53,38 @@ module _ (k : Setting) (shape : IsShape k) (earlier : List Row) (m : Machine) (r
   some_stages : 0 < length (seen_by k m)
   some_stages = let a = shape.ex_last in omega (arith, seen_length, a)
 
-  seen_count : next_after m.next (first_slot m.slots) (word_at k.image m.fetch) ≡ retirements earlier + count (seen_by k m)
-  seen_count =
-      let a = shape.ex_last in
-      let lt : 0 < length m.slots = omega (arith, inv.stages, a) in
-      next_count (retirements earlier) m.next m.fetch m.slots (word_at k.image m.fetch) lt inv.next
-      ∙ ap (λ n. retirements earlier + n) (sym (decided_count k 0 (fill_first m.slots m.next m.fetch (word_at k.image m.fetch))))
-
-  seen_tail : m.fetch ≡ 4 * (retirements earlier + count (tail (seen_by k m)))
-  seen_tail = inv.fetch ∙ ap (λ n. 4 * (retirements earlier + n)) (sym (decided_first k m.slots m.next m.fetch (word_at k.image m.fetch)))
+  seen_tail : m.fetch ≡ expected k (retirements earlier) 1 (tail (seen_by k m))
+  seen_tail = inv.fetch ∙ sym (decided_front k (retirements earlier) m.slots m.next m.fetch (word_at k.image m.fetch))
 
   -- nothing is flushed
   pub flushes_none : FlushesNone row
   flushes_none s = ap (λ l. has_serial l s) is.flushed ∙ none_in s
 
-  pub unflushed_now : (s : ℕ) → is_flushed (row ∷ earlier) s ≡ false
-  unfolding is_flushed
-  unflushed_now s = or_false (has_serial row.flushed s) (is_flushed earlier s) (flushes_none s) (inv.unflushed s)
+  seen_serials : Serials (row ∷ earlier) (retirements earlier) (seen_by k m)
+  seen_serials =
+      serials_more row earlier (retirements earlier) (seen_by k m) flushes_none
+      (serials_decided k.shape earlier (retirements earlier) 0 (fill_first m.slots m.next m.fetch (word_at k.image m.fetch))
+      (serials_filled earlier (retirements earlier) m.next m.fetch m.slots (word_at k.image m.fetch) inv.serials inv.next_place (inv.unflushed m.next (omega arith))))
+
+  some_slots : 0 < length m.slots
+  some_slots = let a = shape.ex_last in omega (arith, inv.stages, a)
+
+  -- the place of the next serial
+  seen_count : place (row ∷ earlier) (next_after m.next (first_slot m.slots) (word_at k.image m.fetch)) ≡ retirements earlier + count (seen_by k m)
+  seen_count =
+      place_same row earlier (next_after m.next (first_slot m.slots) (word_at k.image m.fetch)) flushes_none
+      ∙ next_placed earlier (retirements earlier) m.next m.fetch m.slots (word_at k.image m.fetch) some_slots inv.next_place (inv.unflushed m.next (omega arith))
+      ∙ ap (λ n. retirements earlier + n) (sym (decided_count k 0 (fill_first m.slots m.next m.fetch (word_at k.image m.fetch))))
+
+  next_more : (s : Option Token) (o : Option ℕ) → m.next ≤ next_after m.next s o
+  next_more (Some t) o = omega arith
+  next_more None None = omega arith
+  next_more None (Some word) = omega arith
+
+  unflushed_next : (s : ℕ) → next_after m.next (first_slot m.slots) (word_at k.image m.fetch) ≤ s → is_flushed (row ∷ earlier) s ≡ false
+  unflushed_next s le =
+      let more = next_more (first_slot m.slots) (word_at k.image m.fetch) in
+      flushed_same row earlier s flushes_none ∙ inv.unflushed s (omega (arith, le, more))
 
   stands_seen : (stage : ℕ) (c : Cell) → Stands k row stage c → slice_get (cells_of (seen_by k m)) stage ≡ Some (Some c)
   stands_seen stage c s = ap (λ l. slice_get l stage) (sym is.cells) ∙ s
@@ -80,14 +92,44 @@ module _ (k : Setting) (shape : IsShape k) (earlier : List Row) (m : Machine) (r
   cell_at : (stage : ℕ) (c : Cell) → Stands k row stage c → At k (retirements earlier) stage c (seen_by k m)
   cell_at stage c s = at_stage k (retirements earlier) stage c (seen_by k m) seen_placed seen_decided (stands_seen stage c s)
 
-  pub words_now : (s word : ℕ) → IsWordOf k (row ∷ earlier) s word → slice_get k.image s ≡ Some word
-  words_now s word (inr h) = inv.words s word h
-  words_now s word (inl h) =
+  -- a token in the row stood before, or is the new one
+  seen_from : (n : ℕ) (u : Token) → slice_get (seen_by k m) n ≡ Some (Some u) → Named m.slots n u ⊎ (u.cell.serial ≡ m.next)
+  seen_from n u here =
+      let d = decided_from k.shape 0 n (fill_first m.slots m.next m.fetch (word_at k.image m.fetch)) u here in
+      elim (filled_from m.slots m.next m.fetch n (word_at k.image m.fetch) d.token d.here) [
+        | inl before ↦ inl (record { token = d.token; here = before; serial = d.serial; word = d.word })
+        | inr new ↦ inr (d.serial ∙ new)
+      ]
+
+  pub words_now : (s word : ℕ) → IsWordOf k (row ∷ earlier) s word → HasWord (seen_by k m) s word
+  words_now s word (inr h) n u here serial = elim (seen_from n u here) [
+    | inl x ↦ x.word ∙ inv.words s word h n x.token x.here (sym x.serial ∙ serial)
+    | inr new ↦ let lt = inv.fresh s word h in absurd (omega (arith, lt, new, serial))
+  ]
+  words_now s word (inl h) n u here serial =
       let at = cell_at h.0 h.1 h.2 in
-      let p = at.placed.0.word in
-      let e : retirements earlier + count at.older ≡ s = sym at.placed.0.serial ∙ ap (λ (c : Cell). c.serial) at.is ∙ h.3 in
-      let w : at.token.cell.word ≡ word = ap (λ (c : Cell). c.word) at.is ∙ h.4 in
-      ap (λ n. slice_get k.image n) (sym e) ∙ p ∙ ap Some w
+      let there = here_of (seen_by k m) at.older at.token h.0 at.rest in
+      let e : u.cell.serial ≡ at.token.cell.serial = serial ∙ sym (ap (λ (c : Cell). c.serial) at.is ∙ h.3) in
+      let same = one_token (row ∷ earlier) (retirements earlier) n h.0 (seen_by k m) u at.token seen_serials here there e in
+      ap (λ (v : Token). v.cell.word) same ∙ ap (λ (c : Cell). c.word) at.is ∙ h.4
+
+  fresh_now : (s word : ℕ) → IsWordOf k (row ∷ earlier) s word → s < next_after m.next (first_slot m.slots) (word_at k.image m.fetch)
+  fresh_now s word (inr h) =
+      let lt = inv.fresh s word h in
+      let le = next_more (first_slot m.slots) (word_at k.image m.fetch) in
+      omega (arith, lt, le)
+  fresh_now s word (inl h) =
+      let at = cell_at h.0 h.1 h.2 in
+      let x = stood (row ∷ earlier) (retirements earlier) h.0 (seen_by k m) at.token seen_serials (here_of (seen_by k m) at.older at.token h.0 at.rest) in
+      let hi = x.high in
+      let e : at.token.cell.serial ≡ s = ap (λ (c : Cell). c.serial) at.is ∙ h.3 in
+      subst (λ n. n < next_after m.next (first_slot m.slots) (word_at k.image m.fetch)) e (lower_place (row ∷ earlier) at.token.cell.serial (next_after m.next (first_slot m.slots) (word_at k.image m.fetch)) (omega (arith, hi, seen_count)))
+
+  words_next : (s word : ℕ) → IsWordOf k (row ∷ earlier) s word → HasWord (advanced k.shape m.arch.x 0 None (seen_by k m)) s word
+  words_next s word h n u here serial = elim (advanced_from k.shape m.arch.x 0 n None (seen_by k m) u here) [
+    | inl y ↦ ap (λ (c : Cell). c.word) (sym y.3) ∙ words_now s word h y.0 y.1 y.2 (ap (λ (c : Cell). c.serial) y.3 ∙ serial)
+    | inr y ↦ cc (y.1)
+  ]
 
   -- The last stage
 
@@ -101,53 +143,66 @@ module _ (k : Setting) (shape : IsShape k) (earlier : List Row) (m : Machine) (r
       let l = last_slot k m.arch.x 0 (k.shape.stages - 1) (seen_by k m) e in
       ap (λ s. one_more s 0) (l.leaving_is None) ∙ out_going k m.arch.x (0 + (k.shape.stages - 1)) l.slot ∙ sym l.out
 
-  left_placed : IsPlacedSlot k (retirements earlier) k.shape.stages (leaving k.shape m.arch.x 0 None (seen_by k m))
+  left_placed : IsPlacedSlot k (retirements earlier) (run k.image (retirements earlier)).pc k.shape.stages (leaving k.shape m.arch.x 0 None (seen_by k m))
   left_placed =
       let a = shape.ex_last in
       let e : 0 + length (seen_by k m) ≡ k.shape.stages = omega (arith, seen_length) in
-      subst (λ n. IsPlacedSlot k (retirements earlier) n (leaving k.shape m.arch.x 0 None (seen_by k m))) e
-      (subst (λ (s : Arch). IsPlacedSlot k (retirements earlier) (0 + length (seen_by k m)) (leaving k.shape s.x 0 None (seen_by k m))) (sym inv.arch)
+      subst (λ n. IsPlacedSlot k (retirements earlier) (run k.image (retirements earlier)).pc n (leaving k.shape m.arch.x 0 None (seen_by k m))) e
+      (subst (λ (s : Arch). IsPlacedSlot k (retirements earlier) (run k.image (retirements earlier)).pc (0 + length (seen_by k m)) (leaving k.shape s.x 0 None (seen_by k m))) (sym inv.arch)
       (last_placed k shape (retirements earlier) 0 None (seen_by k m) (omega (arith, seen_length, a)) (omega arith) seen_placed seen_decided))
+
+  -- the token that goes out is the oldest
+  left_serial : (t : Token) → leaving k.shape m.arch.x 0 None (seen_by k m) ≡ Some t → (place (row ∷ earlier) t.cell.serial ≡ retirements earlier) × (is_flushed (row ∷ earlier) t.cell.serial ≡ false)
+  left_serial t e =
+      let a = shape.ex_last in
+      let len : suc (k.shape.stages - 1) ≡ length (seen_by k m) = omega (arith, seen_length, a) in
+      let l = last_slot k m.arch.x 0 (k.shape.stages - 1) (seen_by k m) len in
+      let s = subst (λ z. Serials (row ∷ earlier) (retirements earlier) z) l.rest (serials_drop (row ∷ earlier) (retirements earlier) (k.shape.stages - 1) (seen_by k m) seen_serials) in
+      by_slot l.slot s (sym (l.leaving_is None) ∙ e) where
+        by_slot : (s : Option Token) → Serials (row ∷ earlier) (retirements earlier) (s ∷ []) → going k.shape m.arch.x (0 + (k.shape.stages - 1)) s ≡ Some t → (place (row ∷ earlier) t.cell.serial ≡ retirements earlier) × (is_flushed (row ∷ earlier) t.cell.serial ≡ false)
+        by_slot None s g = cc
+        by_slot (Some u) s g = by_case (is_some u.cell.hold) g where
+          by_case : (b : Bool) → (if b then None else Some (gone k.shape m.arch.x (0 + (k.shape.stages - 1)) u)) ≡ Some t → (place (row ∷ earlier) t.cell.serial ≡ retirements earlier) × (is_flushed (row ∷ earlier) t.cell.serial ≡ false)
+          by_case true q = cc
+          by_case false q =
+              let same : gone k.shape m.arch.x (0 + (k.shape.stages - 1)) u ≡ t = cc in
+              let p = s.0.0 in
+              let serial = ap (λ (v : Token). v.cell.serial) same in
+              (ap (λ n. place (row ∷ earlier) n) (sym serial) ∙ p ∙ add-zero (retirements earlier), ap (λ n. is_flushed (row ∷ earlier) n) (sym serial) ∙ s.0.1)
 
   -- what is retired, where something goes out
   pub record Retirement (o : Option Token) (p : Option (ℕ × Commit)) : Type 0 where
     pub token : Token
     pub is_left : o ≡ Some token
     pub commit : Commit
-    pub is_retired : p ≡ Some (retirements earlier, commit)
-    pub serial_is : token.cell.serial ≡ retirements earlier
+    pub is_retired : p ≡ Some (token.cell.serial, commit)
     pub recorded : step k.image (run k.image (retirements earlier)) ≡ Done commit
-    pub pc : (run k.image (suc (retirements earlier))).pc ≡ 4 * suc (retirements earlier)
 
-  retirement : (t : Token) → IsPlaced k (retirements earlier) k.shape.stages t → Retirement (Some t) (retired_of (Some t))
+  retirement : (t : Token) → IsPlaced k (retirements earlier) (run k.image (retirements earlier)).pc k.shape.stages t → Retirement (Some t) (retired_of (Some t))
   retirement t h =
       let a = shape.ex_last in
       let b = shape.rd_ex in
       let n = sym (ap stop_of h.decoded) ∙ h.goes (omega (arith, a)) in
-      let g = goes_on k.image (retirements earlier) t.cell.word shape.few_words inv.pc h.word n in
+      let g = goes_on k.image (retirements earlier) t.cell.at t.cell.word (sym h.at) h.word n in
       let v = h.value (omega (arith, a, b)) ∙ ap (λ o. value_of o (run k.image (retirements earlier)).x) h.decoded in
       let c : commit_for t.cell.at t.cell.word t.value t.instruction ≡ Some (commit_of t.cell.at t.cell.word g.instruction t.value) = ap (λ o. commit_for t.cell.at t.cell.word t.value o) (h.decoded ∙ g.is) in
-      let same : commit_of (4 * retirements earlier) t.cell.word g.instruction (value_of (instruction_of t.cell.word) (run k.image (retirements earlier)).x) ≡ commit_of t.cell.at t.cell.word g.instruction t.value =
-      ap (λ at. commit_of at t.cell.word g.instruction (value_of (instruction_of t.cell.word) (run k.image (retirements earlier)).x)) (sym h.at) ∙ ap (λ v. commit_of t.cell.at t.cell.word g.instruction v) (sym v) in
       record {
         token = t;
         is_left = refl;
         commit = commit_of t.cell.at t.cell.word g.instruction t.value;
-        is_retired = ap (λ o. with_serial t.cell.serial o) c ∙ ap (λ s. Some (s, commit_of t.cell.at t.cell.word g.instruction t.value)) h.serial;
-        serial_is = h.serial;
-        recorded = g.done ∙ ap Done same;
-        pc = g.pc;
+        is_retired = ap (λ o. with_serial t.cell.serial o) c;
+        recorded = g.done ∙ ap (λ w. Done (commit_of t.cell.at t.cell.word g.instruction w)) (sym v);
       }
 
   -- either nothing goes out, or a token that retires
   pub goes_out : ((leaving k.shape m.arch.x 0 None (seen_by k m) ≡ None) × (row.retired ≡ None) × (out_of (seen_by k m) ≡ 0)) ⊎ (Retirement (leaving k.shape m.arch.x 0 None (seen_by k m)) row.retired × (out_of (seen_by k m) ≡ 1))
   goes_out = by_case (leaving k.shape m.arch.x 0 None (seen_by k m)) refl left_placed where
-    by_case : (o : Option Token) → leaving k.shape m.arch.x 0 None (seen_by k m) ≡ o → IsPlacedSlot k (retirements earlier) k.shape.stages o → ((leaving k.shape m.arch.x 0 None (seen_by k m) ≡ None) × (row.retired ≡ None) × (out_of (seen_by k m) ≡ 0)) ⊎ (Retirement (leaving k.shape m.arch.x 0 None (seen_by k m)) row.retired × (out_of (seen_by k m) ≡ 1))
+    by_case : (o : Option Token) → leaving k.shape m.arch.x 0 None (seen_by k m) ≡ o → IsPlacedSlot k (retirements earlier) (run k.image (retirements earlier)).pc k.shape.stages o → ((leaving k.shape m.arch.x 0 None (seen_by k m) ≡ None) × (row.retired ≡ None) × (out_of (seen_by k m) ≡ 0)) ⊎ (Retirement (leaving k.shape m.arch.x 0 None (seen_by k m)) row.retired × (out_of (seen_by k m) ≡ 1))
     by_case None e h = inl (e, is.retired ∙ ap retired_of e, sym left_out ∙ ap (λ s. one_more s 0) e)
     by_case (Some t) e h =
         let x = retirement t h in
         inr (
-          record { token = x.token; is_left = e ∙ x.is_left; commit = x.commit; is_retired = is.retired ∙ ap retired_of e ∙ x.is_retired; serial_is = x.serial_is; recorded = x.recorded; pc = x.pc },
+          record { token = x.token; is_left = e ∙ x.is_left; commit = x.commit; is_retired = is.retired ∙ ap retired_of e ∙ x.is_retired; recorded = x.recorded },
           sym left_out ∙ ap (λ s. one_more s 0) e,
         )
 
@@ -158,34 +213,54 @@ module _ (k : Setting) (shape : IsShape k) (earlier : List Row) (m : Machine) (r
     | inr y ↦ rw (y.0.is_retired, y.1) (omega arith)
   ]
 
-  less_more : (s n : ℕ) → ((n == s) || nat_lt s n) ≡ nat_lt s (n + 1)
-  less_more s n = grind (arith, nat_tests)
+  -- those before the oldest place are retired, and the one that goes out
+  retired_then : (s n place_s place_n : ℕ) → (n ≡ s → place_s ≡ place_n) → (place_s ≡ place_n → n ≡ s) → ((n == s) || nat_lt place_s place_n) ≡ nat_lt place_s (place_n + 1)
+  retired_then s n p q f g = by_case (n == s) refl where
+    by_case : (b : Bool) → (n == s) ≡ b → (b || nat_lt p q) ≡ nat_lt p (q + 1)
+    by_case true e = let same = f (eq_of n s e) in less p q same where
+      eq_of : (a b : ℕ) → (a == b) ≡ true → a ≡ b
+      eq_of a b e = grind (arith, nat_tests)
 
-  pub told_retired : (s : ℕ) → is_retired (row ∷ earlier) s ≡ nat_lt s (retirements earlier + out_of (seen_by k m))
-  unfolding is_retired
-  told_retired s = elim goes_out [
-    | inl n ↦ rw (n.1, n.2, add-zero) (inv.retired s)
-    | inr y ↦ rw (y.0.is_retired, y.1, inv.retired s) (less_more s (retirements earlier))
+      less : (a b : ℕ) → a ≡ b → true ≡ nat_lt a (b + 1)
+      less a b e = grind (arith, nat_tests)
+    by_case false e = other p q (λ same. ne_of n s e (g same)) where
+      ne_of : (a b : ℕ) → (a == b) ≡ false → a ≢ b
+      ne_of a b e = λ x. absurd_of a b e x where
+        absurd_of : (a b : ℕ) → (a == b) ≡ false → a ≡ b → ⊥
+        absurd_of a b e x = grind (arith, nat_tests)
+
+      other : (a b : ℕ) → a ≢ b → nat_lt a b ≡ nat_lt a (b + 1)
+      other a b ne = grind (arith, nat_tests)
+
+  before_retired : (s : ℕ) → is_flushed (row ∷ earlier) s ≡ false → is_retired earlier s ≡ nat_lt (place (row ∷ earlier) s) (retirements earlier)
+  before_retired s alive =
+      inv.retired s (sym (flushed_same row earlier s flushes_none) ∙ alive) ∙ ap (λ n. nat_lt n (retirements earlier)) (sym (place_same row earlier s flushes_none))
+
+  pub told_retired : (s : ℕ) → is_flushed (row ∷ earlier) s ≡ false → is_retired (row ∷ earlier) s ≡ nat_lt (place (row ∷ earlier) s) (retirements earlier + out_of (seen_by k m))
+  unfolding is_retired place is_flushed
+  told_retired s alive = elim goes_out [
+    | inl n ↦ rw (n.1, n.2, add-zero) (before_retired s alive)
+    | inr y ↦
+        let x = left_serial y.0.token y.0.is_left in
+        let same : y.0.token.cell.serial ≡ s → place (row ∷ earlier) s ≡ retirements earlier = λ e. ap (λ n. place (row ∷ earlier) n) (sym e) ∙ x.0 in
+        let other : place (row ∷ earlier) s ≡ retirements earlier → y.0.token.cell.serial ≡ s = λ e. one_place (row ∷ earlier) y.0.token.cell.serial s x.1 alive (x.0 ∙ sym e) in
+        rw (y.0.is_retired, y.1, before_retired s alive) (retired_then s y.0.token.cell.serial (place (row ∷ earlier) s) (retirements earlier) same other)
   ]
 
   pub told : Told k earlier row (seen_by k m)
-  told = record { cells = is.cells; pc = inv.pc; placed = seen_placed; decided = seen_decided; unflushed = unflushed_now; words = words_now; before = inv.retired; now = told_retired }
+  told = record { cells = is.cells; placed = seen_placed; serials = seen_serials; decided = seen_decided; words = words_now; before = before_retired; now = told_retired }
 
   -- the state after the row
-  pub state_now : (arch_after m.arch row.retired ≡ run k.image (retirements (row ∷ earlier))) × ((run k.image (retirements (row ∷ earlier))).pc ≡ 4 * retirements (row ∷ earlier))
+  pub state_now : arch_after m.arch row.retired ≡ run k.image (retirements (row ∷ earlier))
   state_now = elim goes_out [
     | inl n ↦
         let z : retirements earlier + 0 ≡ retirements earlier = omega arith in
-        let e = retired_now ∙ ap (λ o. retirements earlier + o) n.2 ∙ z in (
-          ap (λ o. arch_after m.arch o) n.1 ∙ inv.arch ∙ ap (λ j. run k.image j) (sym e),
-          ap (λ j. (run k.image j).pc) e ∙ inv.pc ∙ ap (λ j. 4 * j) (sym e),
-        )
+        let e = retired_now ∙ ap (λ o. retirements earlier + o) n.2 ∙ z in
+        ap (λ o. arch_after m.arch o) n.1 ∙ inv.arch ∙ ap (λ j. run k.image j) (sym e)
     | inr y ↦
         let z : retirements earlier + 1 ≡ suc (retirements earlier) = omega arith in
-        let e = retired_now ∙ ap (λ o. retirements earlier + o) y.1 ∙ z in (
-          ap (λ o. arch_after m.arch o) y.0.is_retired ∙ ap (λ s. applied y.0.commit s) inv.arch ∙ sym (run_suc k.image (retirements earlier) ∙ ap (λ a. after (run k.image (retirements earlier)) a) y.0.recorded) ∙ ap (λ j. run k.image j) (sym e),
-          ap (λ j. (run k.image j).pc) e ∙ y.0.pc ∙ ap (λ j. 4 * j) (sym e),
-        )
+        let e = retired_now ∙ ap (λ o. retirements earlier + o) y.1 ∙ z in
+        ap (λ o. arch_after m.arch o) y.0.is_retired ∙ ap (λ s. applied y.0.commit s) inv.arch ∙ sym (run_suc k.image (retirements earlier) ∙ ap (λ a. after (run k.image (retirements earlier)) a) y.0.recorded) ∙ ap (λ j. run k.image j) (sym e)
   ]
 
   retired_arch : (o : Option (ℕ × Commit)) (s : Arch) → with_retired o s ≡ arch_after s o
@@ -194,7 +269,7 @@ module _ (k : Setting) (shape : IsShape k) (earlier : List Row) (m : Machine) (r
 
   pub architecture_now : architecture (row ∷ earlier) ≡ run k.image (retirements (row ∷ earlier))
   unfolding architecture
-  architecture_now = ap (λ s. with_retired row.retired s) (inv.state ∙ sym inv.arch) ∙ retired_arch row.retired m.arch ∙ state_now.0
+  architecture_now = ap (λ s. with_retired row.retired s) (inv.state ∙ sym inv.arch) ∙ retired_arch row.retired m.arch ∙ state_now
 
   -- Laws
 
@@ -239,36 +314,38 @@ module _ (k : Setting) (shape : IsShape k) (earlier : List Row) (m : Machine) (r
                 | inl n ↦ absurd (omega (arith, out, n.2))
                 | inr y ↦
                     let same : gone k.shape m.arch.x (0 + stage) t ≡ y.0.token = cc (sym g ∙ y.0.is_left) in
-                    let serial : t.cell.serial ≡ retirements earlier = ap (λ (u : Token). u.cell.serial) same ∙ y.0.serial_is in
+                    let serial : t.cell.serial ≡ y.0.token.cell.serial = ap (λ (u : Token). u.cell.serial) same in
                     let none = is_none_of t.cell.hold q in
                     record {
                       leaver = λ s commit p.
-                          let pair : ◌≡◌ {A = ℕ × Commit} (retirements earlier, y.0.commit) (s, commit) = cc (sym y.0.is_retired ∙ p) in
+                          let pair : ◌≡◌ {A = ℕ × Commit} (y.0.token.cell.serial, y.0.commit) (s, commit) = cc (sym y.0.is_retired ∙ p) in
                           (t.cell, stands_t, unheld_leaves t.cell none, serial ∙ ap (λ (z : ℕ × Commit). z.0) pair);
                       retired = λ c stands p.
                           let cell : t.cell ≡ c = cc (sym here ∙ stands_seen stage c stands) in
-                          let at : retirements earlier ≡ c.serial = sym serial ∙ ap (λ (d : Cell). d.serial) cell in
+                          let at : y.0.token.cell.serial ≡ c.serial = sym serial ∙ ap (λ (d : Cell). d.serial) cell in
                           (y.0.commit, y.0.is_retired ∙ ap (λ n. Some (n, y.0.commit)) at);
                     }
               ]
 
   -- Successors: each next younger cell has its older one's successor
 
-  serial_place : (stage : ℕ) (c : Cell) (s : Stands k row stage c) → c.serial ≡ retirements earlier + count (cell_at stage c s).older
-  serial_place stage c s = let at = cell_at stage c s in ap (λ (d : Cell). d.serial) (sym at.is) ∙ at.placed.0.serial
+  serial_place : (stage : ℕ) (c : Cell) (s : Stands k row stage c) → place (row ∷ earlier) c.serial ≡ retirements earlier + count (cell_at stage c s).older
+  serial_place stage c s =
+      let at = cell_at stage c s in
+      ap (λ (d : Cell). place (row ∷ earlier) d.serial) (sym at.is) ∙ (ordered k shape earlier row (seen_by k m) told stage at.token at.older at.rest at.placed).0.0
 
-  settled_successor : (stage : ℕ) (c : Cell) (s : Stands k row stage c) → Settles k earlier row stage c → successor k (row ∷ earlier) c ≡ 4 * suc (retirements earlier + count (cell_at stage c s).older)
+  settled_successor : (stage : ℕ) (c : Cell) (s : Stands k row stage c) → Settles k earlier row stage c → successor k (row ∷ earlier) c ≡ ((cell_at stage c s).token.cell.at + 4) % 2 ^ 32
   settled_successor stage c s settles =
       let at = cell_at stage c s in
       let none : at.token.cell.hold ≡ None = ap (λ (d : Cell). d.hold) at.is ∙ not_held c settles.leaves in
       let stops : stops_now k.shape stage at.token.instruction at.older ≡ false = free at in
       let own = own_none k stage at.token.instruction at.older at.token.cell.hold at.decided.0 (ap (λ o. is_some o) none) stops in
       let word = sym (ap stop_of at.placed.0.decoded) ∙ not_due k stage at.token.instruction at.older own stops settles.settling in
-      let p = place_is (row ∷ earlier) c.serial unflushed_now ∙ serial_place stage c s in
-      let path = path_to stage at.older at.placed.1 settles.settling in
-      ap (λ (x : Course). x.pc (suc (place (row ∷ earlier) c.serial))) shape.course ∙ ap (λ n. (run k.image (suc n)).pc) p ∙ (goes_on k.image (retirements earlier + count at.older) at.token.cell.word shape.few_words path at.placed.0.word word).pc where
-        path_to : (stage : ℕ) (older : Slots) → Placed k (retirements earlier) (suc stage) older → stage ≡ k.shape.ex → (run k.image (retirements earlier + count older)).pc ≡ 4 * (retirements earlier + count older)
-        path_to stage older h e = on_path k shape (retirements earlier) (suc stage) older h (omega (arith, e)) inv.pc
+      let p = serial_place stage c s in
+      let path = sym (at.placed.0.at ∙ expected_run k (retirements earlier) (suc stage) at.older (past settles.settling)) in
+      ap (λ (x : Course). x.pc (suc (place (row ∷ earlier) c.serial))) shape.course ∙ ap (λ n. (run k.image (suc n)).pc) p ∙ (goes_on k.image (retirements earlier + count at.older) at.token.cell.at at.token.cell.word path at.placed.0.word word).pc where
+        past : stage ≡ k.shape.ex → k.shape.ex < suc stage
+        past e = omega (arith, e)
 
         free : (at : At k (retirements earlier) stage c (seen_by k m)) → stops_now k.shape stage at.token.instruction at.older ≡ false
         free at = by_case (stops_now k.shape stage at.token.instruction at.older) refl where
@@ -278,26 +355,34 @@ module _ (k : Setting) (shape : IsShape k) (earlier : List Row) (m : Machine) (r
               let x = then_stops k shape earlier row (seen_by k m) told stage at.token at.older at.rest at.placed q in
               absurd (settles.runs x.0 (subst (λ d. StopsRun k earlier row stage d x.0) at.is x.2))
 
-  -- no token stands between two stages
-  no_between : (n gap : ℕ) → ((j : ℕ) (e : Cell) → n ≤ j → j < n + gap → Stands k row j e → ⊥) → count (drop n (seen_by k m)) ≡ count (drop (n + gap) (seen_by k m))
-  no_between n zero f = let z : n ≡ n + 0 = omega arith in ap (λ j. count (drop j (seen_by k m))) z
+  -- where no token stands between two stages, the same address is expected
+  no_between : (n gap : ℕ) → ((j : ℕ) (e : Cell) → n ≤ j → j < n + gap → Stands k row j e → ⊥) → expected k (retirements earlier) n (drop n (seen_by k m)) ≡ expected k (retirements earlier) (n + gap) (drop (n + gap) (seen_by k m))
+  no_between n zero f = let z : n ≡ n + 0 = omega arith in ap (λ j. expected k (retirements earlier) j (drop j (seen_by k m))) z
   no_between n (suc gap) f =
       let z : suc n + gap ≡ n + suc gap = omega arith in
       skip_one n (λ e s. f n e (omega arith) (omega arith) s)
       ∙ no_between (suc n) gap (λ j e le lt s. f j e (omega arith) (omega arith) s)
-      ∙ ap (λ j. count (drop j (seen_by k m))) z where
-        count_skip : (l : Slots) (n : ℕ) → ((e : Cell) → slice_get (cells_of l) n ≡ Some (Some e) → ⊥) → count (drop n l) ≡ count (drop (suc n) l)
-        count_skip [] zero g = refl
-        count_skip [] (suc n) g = refl
-        count_skip (None ∷ l) zero g = refl
-        count_skip (Some t ∷ l) zero g = absurd (g t.cell refl)
-        count_skip (s ∷ l) (suc n) g = count_skip l n g
+      ∙ ap (λ j. expected k (retirements earlier) j (drop j (seen_by k m))) z where
+        skip : (l : Slots) (n base : ℕ) → ((e : Cell) → slice_get (cells_of l) n ≡ Some (Some e) → ⊥) → expected k (retirements earlier) base (drop n l) ≡ expected k (retirements earlier) (suc base) (drop (suc n) l)
+        skip [] zero base g = refl
+        skip [] (suc n) base g = refl
+        skip (None ∷ l) zero base g = refl
+        skip (Some t ∷ l) zero base g = absurd (g t.cell refl)
+        skip (s ∷ l) (suc n) base g = skip l n base g
 
-        skip_one : (n : ℕ) → ((e : Cell) → Stands k row n e → ⊥) → count (drop n (seen_by k m)) ≡ count (drop (suc n) (seen_by k m))
-        skip_one n g = count_skip (seen_by k m) n (λ e q. g e (ap (λ l. slice_get l n) is.cells ∙ q))
+        skip_one : (n : ℕ) → ((e : Cell) → Stands k row n e → ⊥) → expected k (retirements earlier) n (drop n (seen_by k m)) ≡ expected k (retirements earlier) (suc n) (drop (suc n) (seen_by k m))
+        skip_one n g = skip (seen_by k m) n n (λ e q. g e (ap (λ l. slice_get l n) is.cells ∙ q))
 
-  older_count : (stage : ℕ) (c : Cell) (s : Stands k row stage c) → count (drop (suc stage) (seen_by k m)) ≡ count (cell_at stage c s).older
-  older_count stage c s = let at = cell_at stage c s in ap count (drop_more (seen_by k m) at.older (Some at.token) stage at.rest)
+  -- behind a token at EX the next address is a guess
+  guess_at : (stage : ℕ) (t : Token) (older : Slots) → stage ≡ k.shape.ex → expected k (retirements earlier) stage (Some t ∷ older) ≡ (t.cell.at + 4) % 2 ^ 32
+  guess_at stage t older e = let n = not_past k.shape.ex stage e in rw n where
+    not_past : (a b : ℕ) → b ≡ a → nat_lt a b ≡ false
+    not_past a b e = grind (arith, nat_tests)
+
+  expected_here : (stage : ℕ) (c : Cell) (s : Stands k row stage c) → stage ≡ k.shape.ex → expected k (retirements earlier) stage (drop stage (seen_by k m)) ≡ ((cell_at stage c s).token.cell.at + 4) % 2 ^ 32
+  expected_here stage c s e =
+      let at = cell_at stage c s in
+      ap (λ l. expected k (retirements earlier) stage l) at.rest ∙ guess_at stage at.token at.older e
 
   -- the next younger cell has the successor as its address
   next_address : (stage below : ℕ) (c d : Cell) (s : Stands k row stage c) → Settles k earlier row stage c → IsNextYounger k row stage below d → d.at ≡ successor k (row ∷ earlier) c
@@ -306,13 +391,12 @@ module _ (k : Setting) (shape : IsShape k) (earlier : List Row) (m : Machine) (r
       let lt = next.lower in
       let gap : (g : ℕ) × (suc below + g ≡ stage) = (stage - suc below, omega (arith, lt)) in
       let same = no_between (suc below) gap.0 (λ j e le q stands. next.nearest j e (omega (arith, le)) (omega (arith, q, gap.1)) stands) in
-      let b = older_count below d next.stands in
-      let here = count_here stage c s in
-      let e : count at.older ≡ suc (count (cell_at stage c s).older) = sym b ∙ same ∙ ap (λ n. count (drop n (seen_by k m))) gap.1 ∙ here in
-      let z : retirements earlier + suc (count (cell_at stage c s).older) ≡ suc (retirements earlier + count (cell_at stage c s).older) = omega arith in
-      ap (λ (x : Cell). x.at) (sym at.is) ∙ at.placed.0.at ∙ ap (λ n. 4 * (retirements earlier + n)) e ∙ ap (λ n. 4 * n) z ∙ sym (settled_successor stage c s settles) where
-        count_here : (stage : ℕ) (c : Cell) (s : Stands k row stage c) → count (drop stage (seen_by k m)) ≡ suc (count (cell_at stage c s).older)
-        count_here stage c s = let at = cell_at stage c s in ap count at.rest
+      ap (λ (x : Cell). x.at) (sym at.is) ∙ at.placed.0.at
+      ∙ ap (λ l. expected k (retirements earlier) (suc below) l) (sym (drop_more (seen_by k m) at.older (Some at.token) below at.rest))
+      ∙ same
+      ∙ ap (λ n. expected k (retirements earlier) n (drop n (seen_by k m))) gap.1
+      ∙ expected_here stage c s settles.settling
+      ∙ sym (settled_successor stage c s settles)
 
   no_mismatch : (stage : ℕ) (c : Cell) → IsMismatch k earlier row stage c → ⊥
   no_mismatch stage c x = x.differs.3 (next_address stage x.differs.0 c x.differs.1 x.stands x.settles x.differs.2)
@@ -325,20 +409,19 @@ module _ (k : Setting) (shape : IsShape k) (earlier : List Row) (m : Machine) (r
       let b = shape.rd_ex in
       let all = no_between 0 stage (λ j e le lt stands. alone j e (omega (arith, lt)) stands) in
       let z : 0 + stage ≡ stage = omega arith in
-      let here : count (drop stage (seen_by k m)) ≡ suc (count (cell_at stage c s).older) = ap count (cell_at stage c s).rest in
-      let e : count (seen_by k m) ≡ suc (count (cell_at stage c s).older) = all ∙ ap (λ n. count (drop n (seen_by k m))) z ∙ here in
       let empty : (d : Cell) → Stands k row 0 d → ⊥ = λ d q. alone 0 d (omega (arith, ex, a, b)) q in
-      settled_successor stage c s settles ∙ plain empty e where
-        plain_at : (l : Slots) → ((d : Cell) → slice_get (cells_of l) 0 ≡ Some (Some d) → ⊥) → (leaves row (front (cells_of l)) ≡ None) × (count (tail l) ≡ count l)
+      let p = plain_at (seen_by k m) (λ d q. empty d (ap (λ l. slice_get l 0) is.cells ∙ q)) in
+      settled_successor stage c s settles
+      ∙ sym (expected_here stage c s ex)
+      ∙ sym (all ∙ ap (λ n. expected k (retirements earlier) n (drop n (seen_by k m))) z)
+      ∙ sym p.1
+      ∙ sym seen_tail
+      ∙ inv.fetch_is
+      ∙ rw (is.cells, p.0) refl where
+        plain_at : (l : Slots) → ((d : Cell) → slice_get (cells_of l) 0 ≡ Some (Some d) → ⊥) → (leaves row (front (cells_of l)) ≡ None) × (expected k (retirements earlier) 1 (tail l) ≡ expected k (retirements earlier) 0 l)
         plain_at [] f = (refl, refl)
         plain_at (None ∷ l) f = (refl, refl)
         plain_at (Some t ∷ l) f = absurd (f t.cell refl)
-
-        plain : ((d : Cell) → Stands k row 0 d → ⊥) → count (seen_by k m) ≡ suc (count (cell_at stage c s).older) → 4 * suc (retirements earlier + count (cell_at stage c s).older) ≡ plain_fetch k (fetch_address k earlier) row
-        plain empty e =
-            let p = plain_at (seen_by k m) (λ d q. empty d (ap (λ l. slice_get l 0) is.cells ∙ q)) in
-            let z : 4 * suc (retirements earlier + count (cell_at stage c s).older) ≡ 4 * (retirements earlier + count (tail (seen_by k m))) = omega (arith, e, p.1) in
-            z ∙ sym seen_tail ∙ inv.fetch_is ∙ rw (is.cells, p.0) refl
 
   row_successors : Successors k earlier row
   row_successors =
@@ -451,12 +534,14 @@ module _ (k : Setting) (shape : IsShape k) (earlier : List Row) (m : Machine) (r
 
   -- Agreement with the run
 
-  retired_at : (s : ℕ) (c : Commit) → row.retired ≡ Some (s, c) → (s ≡ retirements earlier) × (step k.image (run k.image (retirements earlier)) ≡ Done c)
+  retired_at : (s : ℕ) (c : Commit) → row.retired ≡ Some (s, c) → (place (row ∷ earlier) s ≡ retirements earlier) × (step k.image (run k.image (retirements earlier)) ≡ Done c)
   retired_at s c e = elim goes_out [
     | inl n ↦ cc (n.1, e)
     | inr y ↦
-        let pair : ◌≡◌ {A = ℕ × Commit} (retirements earlier, y.0.commit) (s, c) = cc (sym y.0.is_retired ∙ e) in
-        (sym (ap (λ (x : ℕ × Commit). x.0) pair), y.0.recorded ∙ ap (λ (x : ℕ × Commit). Done x.1) pair)
+        let pair : ◌≡◌ {A = ℕ × Commit} (y.0.token.cell.serial, y.0.commit) (s, c) = cc (sym y.0.is_retired ∙ e) in (
+          ap (λ (x : ℕ × Commit). place (row ∷ earlier) x.0) (sym pair) ∙ (left_serial y.0.token y.0.is_left).0,
+          y.0.recorded ∙ ap (λ (x : ℕ × Commit). Done x.1) pair,
+        )
   ]
 
   -- at the stop every older token goes out
@@ -485,10 +570,11 @@ module _ (k : Setting) (shape : IsShape k) (earlier : List Row) (m : Machine) (r
 
         by_older : (older : Slots) (t : Token) → drop x.index (seen_by k m) ≡ Some t ∷ older → Placed k (retirements earlier) x.index (Some t ∷ older) → stops_now k.shape x.index t.instruction older ≡ true → retirements earlier + count older ≡ retirements earlier + out_of (seen_by k m)
         by_older older t rest placed n =
-            let stay = sym (staying_is k (retirements earlier) (suc x.index) older placed.1) ∙ no_drain older t.instruction n in
+            let o = ordered k shape earlier row (seen_by k m) told x.index t older rest placed in
+            let all = subst (λ z. StayingIs (row ∷ earlier) (retirements earlier) older z) (no_drain older t.instruction n) (staying_is (row ∷ earlier) (retirements earlier) older o.1) in
             let le = out_le older in
             let some = longer x.index older t rest s.executing in
-            all_out older (nat_lt (out_of older) (count older)) refl stay some rest where
+            all_out older all some rest where
               longer : (n : ℕ) (older : Slots) (t : Token) → drop n (seen_by k m) ≡ Some t ∷ older → n ≡ k.shape.ex → 0 < length older
               longer n older t rest e =
                   let l = ap length rest in
@@ -496,16 +582,12 @@ module _ (k : Setting) (shape : IsShape k) (earlier : List Row) (m : Machine) (r
                   let a = shape.ex_last in
                   omega (arith, l, d, a, e, seen_length)
 
-              all_out : (older : Slots) (b : Bool) → nat_lt (out_of older) (count older) ≡ b → (if b then Some (retirements earlier + out_of older) else None) ≡ None → 0 < length older → drop x.index (seen_by k m) ≡ Some t ∷ older → retirements earlier + count older ≡ retirements earlier + out_of (seen_by k m)
-              all_out older true q e lt rest = cc
-              all_out [] false q e lt rest = absurd (omega arith)
-              all_out (u ∷ rest') false q e lt rest =
+              all_out : (older : Slots) → count older ≤ out_of older → 0 < length older → drop x.index (seen_by k m) ≡ Some t ∷ older → retirements earlier + count older ≡ retirements earlier + out_of (seen_by k m)
+              all_out [] ge lt rest = absurd (omega arith)
+              all_out (u ∷ rest') ge lt rest =
                   let same = out_drop (seen_by k m) (u ∷ rest') (Some t) x.index rest in
                   let le = out_le (u ∷ rest') in
-                  let ge = above (out_of (u ∷ rest')) (count (u ∷ rest')) q in
-                  omega (arith, same, le, ge) where
-                    above : (a b : ℕ) → nat_lt a b ≡ false → b ≤ a
-                    above a b q = grind (arith, nat_tests)
+                  omega (arith, same, le, ge)
 
   stop_agrees : (stop : Stop) → row.stop ≡ Some stop → step k.image (run k.image (retirements (row ∷ earlier))) ≡ Stopped stop
   stop_agrees stop e = why (slot_stop k.shape 0 (seen_by k m)) refl (sym is.stop ∙ e) where
@@ -514,27 +596,34 @@ module _ (k : Setting) (shape : IsShape k) (earlier : List Row) (m : Machine) (r
         let x = stopper k 0 (seen_by k m) stop (q ∙ e) in
         let y = stopper_stops stop x in
         let at = cell_at x.index x.token.cell y.0 in
-        let p = place_is (row ∷ earlier) x.token.cell.serial unflushed_now ∙ serial_place x.index x.token.cell y.0 ∙ stop_place stop x at y.1 ∙ sym retired_now in
+        let p = serial_place x.index x.token.cell y.0 ∙ stop_place stop x at y.1 ∙ sym retired_now in
         ap (λ n. step k.image (run k.image n)) (sym p) ∙ sym (ap (λ (c : Course). c.answer (place (row ∷ earlier) x.token.cell.serial)) shape.course) ∙ y.1.due
     why None q e =
         let f = fetch_case (remains (seen_by k m)) (word_at k.image (fetch_after m.fetch (seen_by k m))) stop e in
-        let all = remains_count (seen_by k m) f.0 in
-        let c = fetch_left f.0 in
-        let at : fetch_after m.fetch (seen_by k m) ≡ 4 * retirements (row ∷ earlier) = omega (arith, c, all, retired_now) in
-        step_at k.image (run k.image (retirements (row ∷ earlier))) (retirements (row ∷ earlier)) state_now.1
-        ∙ ap (λ o. answer_at (run k.image (retirements (row ∷ earlier))) o) (sym (word_at-four k.image (retirements (row ∷ earlier))) ∙ ap (λ n. word_at k.image n) (sym at) ∙ f.1)
+        let at : fetch_after m.fetch (seen_by k m) ≡ (run k.image (retirements (row ∷ earlier))).pc = fetch_left f.0 ∙ ap (λ n. (run k.image n).pc) (sym retired_now) in
+        step_at k.image (run k.image (retirements (row ∷ earlier))) None (ap (λ n. word_at k.image n) (sym at) ∙ f.1)
         ∙ ap Stopped (sym f.2) where
-          fetch_left : remains (seen_by k m) ≡ false → fetch_after m.fetch (seen_by k m) ≡ 4 * (retirements earlier + count (seen_by k m))
-          fetch_left rem = by_slots (seen_by k m) rem seen_length seen_tail where
-            by_slots : (l : Slots) → remains l ≡ false → length l ≡ k.shape.stages → m.fetch ≡ 4 * (retirements earlier + count (tail l)) → fetch_after m.fetch l ≡ 4 * (retirements earlier + count l)
-            by_slots [] rem len t = t
-            by_slots (None ∷ l) rem len t = t
-            by_slots (Some u ∷ []) rem len t = let a = shape.ex_last in let b = shape.rd_pos in absurd (omega (arith, a, b, len))
-            by_slots (Some u ∷ v ∷ l) rem len t = cc
+          all_gone : (stage : ℕ) (l : Slots) → k.shape.ex + 1 < stage + length l → remains l ≡ false → expected k (retirements earlier) stage l ≡ (run k.image (retirements earlier + out_of l)).pc
+          all_gone stage [] lt rem = rw add-zero
+          all_gone stage (None ∷ []) lt rem = rw add-zero
+          all_gone stage (None ∷ u ∷ rest) lt rem = all_gone (suc stage) (u ∷ rest) (omega (arith, lt)) rem
+          all_gone stage (Some t ∷ []) lt rem =
+              let past = lt_true k.shape.ex stage (omega (arith, lt)) in
+              let e : suc (retirements earlier + 0) ≡ retirements earlier + 1 = omega arith in
+              rw (past, rem, e)
+          all_gone stage (Some t ∷ u ∷ rest) lt rem = cc
+
+          fetch_left : remains (seen_by k m) ≡ false → fetch_after m.fetch (seen_by k m) ≡ (run k.image (retirements earlier + out_of (seen_by k m))).pc
+          fetch_left rem = let a = shape.ex_last in by_slots (seen_by k m) rem (omega (arith, a, seen_length)) seen_tail where
+            by_slots : (l : Slots) → remains l ≡ false → k.shape.ex + 1 < length l → m.fetch ≡ expected k (retirements earlier) 1 (tail l) → fetch_after m.fetch l ≡ (run k.image (retirements earlier + out_of l)).pc
+            by_slots [] rem lt e = absurd (omega arith)
+            by_slots (None ∷ l) rem lt e = e ∙ all_gone 0 (None ∷ l) (omega (arith, lt)) rem
+            by_slots (Some u ∷ []) rem lt e = absurd (omega (arith, lt))
+            by_slots (Some u ∷ v ∷ l) rem lt e = cc
 
   pub agrees : AgreesWithRun k earlier row
   agrees = record {
-    placed = λ s c e. place_is (row ∷ earlier) s unflushed_now ∙ (retired_at s c e).0;
+    placed = λ s c e. (retired_at s c e).0;
     recorded = λ s c e. (retired_at s c e).1;
     state = architecture_now;
     stop = stop_agrees;
@@ -545,15 +634,14 @@ module _ (k : Setting) (shape : IsShape k) (earlier : List Row) (m : Machine) (r
   no_stop : row.stop ≡ None → NoStops k 0 (seen_by k m)
   no_stop e = no_stops k 0 (seen_by k m) (or_else_none (slot_stop k.shape 0 (seen_by k m)) _ (sym is.stop ∙ e))
 
-  next_few : next_after m.next (first_slot m.slots) (word_at k.image m.fetch) ≤ length k.image
-  next_few =
-      few_more k.image m.next (retirements earlier + count (tail m.slots)) m.slots (word_at k.image m.fetch) inv.few (sym fetched_word)
-      (λ e. first_count m.slots e inv.next)
-      (λ word w. slice_get_below k.image (retirements earlier + count (tail m.slots)) word (sym fetched_word ∙ w)) where
-        first_count : (slots : Slots) → first_slot slots ≡ None → m.next ≡ retirements earlier + count slots → retirements earlier + count (tail slots) ≡ m.next
-        first_count [] e n = sym n
-        first_count (None ∷ older) e n = sym n
-        first_count (Some t ∷ older) e n = cc
+  next_few : next_after m.next (first_slot m.slots) (word_at k.image m.fetch) ≤ suc (length earlier)
+  next_few = next_within m.next (length earlier) (first_slot m.slots) (word_at k.image m.fetch) inv.few
+
+  long_enough : k.shape.ex < length (seen_by k m)
+  long_enough = let a = shape.ex_last in omega (arith, a, seen_length)
+
+  guesses : row.stop ≡ None → Guessed k (retirements earlier) 0 (seen_by k m)
+  guesses e = guessed k shape (retirements earlier) 0 (seen_by k m) seen_placed seen_decided (no_stop e)
 
   counted : row.stop ≡ None → count (seen_by k m) ≡ count (advanced k.shape m.arch.x 0 None (seen_by k m)) + out_of (seen_by k m)
   counted e =
@@ -562,9 +650,14 @@ module _ (k : Setting) (shape : IsShape k) (earlier : List Row) (m : Machine) (r
 
   placed_next : row.stop ≡ None → Placed k (retirements (row ∷ earlier)) 0 (advanced k.shape m.arch.x 0 None (seen_by k m))
   placed_next e =
-      let p = placed_advanced k shape (retirements earlier) 0 None (seen_by k m) seen_placed seen_decided (no_stop e) (λ _. refl) tt in
+      let p = placed_advanced k shape (retirements earlier) 0 None (seen_by k m) (omega (arith, long_enough)) seen_placed seen_decided (no_stop e) (λ _. refl) tt (guesses e) in
       let p' = subst (λ (s : Arch). Placed k (retirements earlier + one_more (leaving k.shape s.x 0 None (seen_by k m)) 0) 0 (advanced k.shape s.x 0 None (seen_by k m))) (sym inv.arch) p in
       subst (λ n. Placed k n 0 (advanced k.shape m.arch.x 0 None (seen_by k m))) (ap (λ n. retirements earlier + n) left_out ∙ sym retired_now) p'
+
+  serials_next : row.stop ≡ None → Serials (row ∷ earlier) (retirements (row ∷ earlier)) (advanced k.shape m.arch.x 0 None (seen_by k m))
+  serials_next e =
+      subst (λ n. Serials (row ∷ earlier) n (advanced k.shape m.arch.x 0 None (seen_by k m))) (ap (λ n. retirements earlier + n) left_out ∙ sym retired_now)
+      (serials_advanced k m.arch.x (row ∷ earlier) (retirements earlier) 0 None (seen_by k m) seen_serials seen_decided (no_stop e) (λ _. refl) tt)
 
   retired_left : row.retired ≡ retired_of (leaving k.shape m.arch.x 0 None (seen_by k m))
   retired_left = is.retired
@@ -601,32 +694,31 @@ module _ (k : Setting) (shape : IsShape k) (earlier : List Row) (m : Machine) (r
   unfolding next_serial
   serial_of_row =
       let a = shape.ex_last in
-      rw (is.cells, ← inv.next_is) (serial_told k (retirements earlier) m.next m.fetch m.slots (word_at k.image m.fetch) (omega (arith, inv.stages, a)) inv.placed inv.next)
+      rw (is.cells, ← inv.next_is) (serial_told k m.next m.fetch m.slots (word_at k.image m.fetch) (omega (arith, inv.stages, a)) inv.next_first)
 
   pub goes_next : row.stop ≡ None → Inv k (row ∷ earlier) (machine_after k m)
   goes_next e =
       let c = counted e in
       record {
         stages = advanced_length k m.arch.x 0 None (seen_by k m) ∙ seen_length;
-        arch = ap (λ o. arch_after m.arch o) (sym is.retired) ∙ state_now.0;
-        pc = state_now.1;
-        next = seen_count ∙ omega (arith, c, retired_now);
-        fetch = fetch_place k m.arch.x (retirements earlier) (out_of (seen_by k m)) m.fetch (seen_by k m) some_stages seen_placed few_seen seen_tail c
-            ∙ ap (λ n. 4 * (n + count (tail (advanced k.shape m.arch.x 0 None (seen_by k m))))) (sym retired_now);
+        arch = ap (λ o. arch_after m.arch o) (sym is.retired) ∙ state_now;
+        next_place = seen_count ∙ omega (arith, c, retired_now);
+        next_first = first_kept k.shape m.arch.x (next_after m.next (first_slot m.slots) (word_at k.image m.fetch)) (seen_by k m) (first_fetched k.shape m.next m.fetch m.slots (word_at k.image m.fetch) some_slots inv.next_first);
+        fetch = fetch_place k shape m.arch.x (retirements earlier) m.fetch (seen_by k m) long_enough seen_decided (no_stop e) (guesses e) seen_tail
+            ∙ ap (λ n. expected k n 1 (tail (advanced k.shape m.arch.x 0 None (seen_by k m)))) (ap (λ n. retirements earlier + n) left_out ∙ sym retired_now);
         few = next_few;
         placed = placed_next e;
+        serials = serials_next e;
         fetch_is = fetch_now;
         next_is = serial_now;
         moved = moves_now (no_stop e);
-        words = words_now;
-        retired = λ s. told_retired s ∙ ap (λ n. nat_lt s n) (sym retired_now);
-        unflushed = unflushed_now;
+        words = words_next;
+        fresh = fresh_now;
+        retired = λ s alive. told_retired s alive ∙ ap (λ n. nat_lt (place (row ∷ earlier) s) n) (sym retired_now);
+        unflushed = unflushed_next;
         state = architecture_now;
         progress = progress_next e;
       } where
-        few_seen : retirements earlier + count (seen_by k m) ≤ 65536
-        few_seen = let a = shape.few_words in omega (arith, seen_count, next_few, a)
-
         moves_now : NoStops k 0 (seen_by k m) → MovesInto row None (stages_of k row) (names_of (cells_of (advanced k.shape m.arch.x 0 None (seen_by k m))))
         moves_now n = rw is.cells (moves_on k m.arch.x row 0 None (seen_by k m) flushes_none seen_decided n (λ _. refl))
 

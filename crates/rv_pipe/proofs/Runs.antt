@@ -1,6 +1,6 @@
--- Facts on the sequential run of a program without jumps.
-use Rattle.std.proofs.Common.{◌≡◌, ◌≢◌, ℕ, zero, suc, ◌+◌, ◌*◌, ◌/◌, ◌%◌, ◌^◌, ◌<◌, ◌≤◌, List, [], ◌∷◌, length, Option, Some, None, Bool, true, false, refl, sym, ap, ◌∙◌, arith, ◌⊎◌, inl, inr, get_or-set_other}
-use Rattle.std.specs.Prelude.{if◌then◌else◌, ◌==◌, slice_get, slice_index}
+-- Facts on the sequential run.
+use Rattle.std.proofs.Common.{◌≡◌, ◌≢◌, ℕ, zero, suc, ◌+◌, ◌%◌, ◌^◌, List, Option, Some, None, Bool, true, false, refl, sym, ap, ◌∙◌, arith, get_or-set_other}
+use Rattle.std.specs.Prelude.{if◌then◌else◌, ◌==◌, slice_index}
 use Rattle.rv_seq.specs.declared.commit.Arch.{Arch}
 use Rattle.rv_seq.specs.declared.instruction.Instruction.{Instruction}
 use Rattle.rv_seq.specs.declared.instruction.Instruction.TheVariants.{AddImmediate, Add, Break}
@@ -11,61 +11,16 @@ use Rattle.rv_seq.specs.SequentialRun.{word_at, register_write, with_write, comm
 use Rattle.rv_trace.specs.LawfulTrace.{destination_of}
 use Rattle.rv_pipe.specs.PlainMachine.{stop_of, value_of}
 
--- the word at four times an index
-pub word_at-four : (image : List ℕ) (n : ℕ) → word_at image (4 * n) ≡ slice_get image n
-word_at-four image n =
-    let e : 4 * n % 4 ≡ 0 = omega arith in
-    let d : 4 * n / 4 ≡ n = omega arith in
-    rw (e, d)
-
-pub step_at : (image : List ℕ) (s : Arch) (p : ℕ) → s.pc ≡ 4 * p → step image s ≡ answer_at s (slice_get image p)
+pub step_at : (image : List ℕ) (s : Arch) (o : Option ℕ) → word_at image s.pc ≡ o → step image s ≡ answer_at s o
 unfolding step
-step_at image s p h = rw (h, word_at-four image p)
+step_at image s o w = ap (λ p. answer_at s p) w
 
-pub step_word : (image : List ℕ) (s : Arch) (p word : ℕ) → s.pc ≡ 4 * p → slice_get image p ≡ Some word → step image s ≡ answer_to s word (instruction_of word)
-step_word image s p word h w = step_at image s p h ∙ ap (λ o. answer_at s o) w
+pub step_word : (image : List ℕ) (s : Arch) (word : ℕ) → word_at image s.pc ≡ Some word → step image s ≡ answer_to s word (instruction_of word)
+step_word image s word w = step_at image s (Some word) w
 
 pub run_suc : (image : List ℕ) (p : ℕ) → run image (suc p) ≡ after (run image p) (step image (run image p))
 unfolding run
 run_suc image p = refl
-
--- the run has come to the place p, or it has stopped before
-abbrev pub Comes : List ℕ → ℕ → Type 0
-Comes image p = ((run image p).pc ≡ 4 * p) ⊎ ((stop : Stop) × (step image (run image p) ≡ Stopped stop))
-
-stays_stopped : (image : List ℕ) (p : ℕ) (stop : Stop) → step image (run image p) ≡ Stopped stop → run image (suc p) ≡ run image p
-stays_stopped image p stop h = run_suc image p ∙ ap (λ a. after (run image p) a) h
-
-still_stopped : (image : List ℕ) (p : ℕ) (stop : Stop) → step image (run image p) ≡ Stopped stop → Comes image (suc p)
-still_stopped image p stop h = inr (stop, ap (λ s. step image s) (stays_stopped image p stop h) ∙ h)
-
--- the next pc of a step that is no stop
-next_pc : (image : List ℕ) (p word : ℕ) (o : Option Instruction) → p < 65536 → (run image p).pc ≡ 4 * p → step image (run image p) ≡ answer_to (run image p) word o → Comes image (suc p)
-next_pc image p word None lt h e = still_stopped image p _ e
-next_pc image p word (Some Break) lt h e = still_stopped image p _ e
-next_pc image p word (Some (AddImmediate rd rs1 immediate)) lt h e =
-    inl (ap (λ (s : Arch). s.pc) (run_suc image p ∙ ap (λ a. after (run image p) a) e) ∙ four p (run image p).pc lt h) where
-      four : (p pc : ℕ) → p < 65536 → pc ≡ 4 * p → (pc + 4) % 2 ^ 32 ≡ 4 * suc p
-      four p pc lt h = omega arith
-next_pc image p word (Some (Add rd rs1 rs2)) lt h e =
-    inl (ap (λ (s : Arch). s.pc) (run_suc image p ∙ ap (λ a. after (run image p) a) e) ∙ four p (run image p).pc lt h) where
-      four : (p pc : ℕ) → p < 65536 → pc ≡ 4 * p → (pc + 4) % 2 ^ 32 ≡ 4 * suc p
-      four p pc lt h = omega arith
-
-get_below : (image : List ℕ) (p : ℕ) → p < length image → (word : ℕ) × (slice_get image p ≡ Some word)
-get_below [] p lt = absurd (omega arith)
-get_below (w ∷ image) zero lt = (w, refl)
-get_below (w ∷ image) (suc p) lt = get_below image p (omega arith)
-
-pub comes : (image : List ℕ) (p : ℕ) → length image ≤ 65536 → p ≤ length image → Comes image p
-unfolding run
-comes image zero few le = inl refl
-comes image (suc p) few le =
-    let w = get_below image p (omega arith) in
-    elim (comes image p few (omega arith)) [
-      | inl h ↦ next_pc image p w.0 (instruction_of w.0) (omega arith) h (step_word image (run image p) p w.0 h w.1)
-      | inr h ↦ still_stopped image p h.0 h.1
-    ]
 
 -- a register that is no destination stays as it is
 written_other : (x : List ℕ) (rd value reg : ℕ) → rd ≢ reg → slice_index (with_write x rd (register_write rd value)) reg ≡ slice_index x reg
@@ -80,14 +35,10 @@ answer_other s word reg (Some Break) ne = refl
 answer_other s word reg (Some (AddImmediate rd rs1 immediate)) ne = written_other s.x rd _ reg ne
 answer_other s word reg (Some (Add rd rs1 rs2)) ne = written_other s.x rd _ reg ne
 
-pub run_other : (image : List ℕ) (p word reg : ℕ) → length image ≤ 65536 → slice_get image p ≡ Some word → p < length image → destination_of (instruction_of word) ≢ reg → slice_index (run image (suc p)).x reg ≡ slice_index (run image p).x reg
-run_other image p word reg few w lt ne =
-    elim (comes image p few (omega arith)) [
-      | inl h ↦
-          ap (λ (s : Arch). slice_index s.x reg) (run_suc image p ∙ ap (λ a. after (run image p) a) (step_word image (run image p) p word h w))
-          ∙ answer_other (run image p) word reg (instruction_of word) ne
-      | inr h ↦ ap (λ (s : Arch). slice_index s.x reg) (stays_stopped image p h.0 h.1)
-    ]
+pub run_other : (image : List ℕ) (p word reg : ℕ) → word_at image (run image p).pc ≡ Some word → destination_of (instruction_of word) ≢ reg → slice_index (run image (suc p)).x reg ≡ slice_index (run image p).x reg
+run_other image p word reg w ne =
+    ap (λ (s : Arch). slice_index s.x reg) (run_suc image p ∙ ap (λ a. after (run image p) a) (step_word image (run image p) word w))
+    ∙ answer_other (run image p) word reg (instruction_of word) ne
 
 -- x0 is 0
 written_zero : (x : List ℕ) (rd value : ℕ) → slice_index (with_write x rd (register_write rd value)) 0 ≡ slice_index x 0
@@ -109,11 +60,6 @@ unfolding run step
 run_zero image zero = refl
 run_zero image (suc p) = zero_step (run image p) (word_at image (run image p).pc) ∙ run_zero image p
 
-pub slice_get_below : (image : List ℕ) (p word : ℕ) → slice_get image p ≡ Some word → p < length image
-slice_get_below [] p word h = cc
-slice_get_below (w ∷ image) zero word h = omega arith
-slice_get_below (w ∷ image) (suc p) word h = let ih = slice_get_below image p word h in omega (arith, ih)
-
 -- Instructions that go on, and those that stop
 
 pub goes_as : (o : Option Instruction) → stop_of o ≡ None → (i : Instruction) × (o ≡ Some i) × ((s : Arch) (word : ℕ) → answer_to s word o ≡ Done (commit_of s.pc word i (value_of o s.x)))
@@ -134,25 +80,21 @@ stopped_as s word (Some Break) stop h = cc
 stopped_as s word (Some (AddImmediate rd rs1 immediate)) stop h = cc
 stopped_as s word (Some (Add rd rs1 rs2)) stop h = cc
 
--- a step at a word that goes on: its record, and the pc after it
-pub record GoesOn (image : List ℕ) (p word : ℕ) : Type 0 where
+-- a step at an address with a word that goes on: its record, and the pc after it
+pub record GoesOn (image : List ℕ) (p at word : ℕ) : Type 0 where
   pub instruction : Instruction
   pub is : instruction_of word ≡ Some instruction
-  pub done : step image (run image p) ≡ Done (commit_of (4 * p) word instruction (value_of (instruction_of word) (run image p).x))
-  pub pc : (run image (suc p)).pc ≡ 4 * suc p
+  pub done : step image (run image p) ≡ Done (commit_of at word instruction (value_of (instruction_of word) (run image p).x))
+  pub pc : (run image (suc p)).pc ≡ (at + 4) % 2 ^ 32
 
-four_more : (p : ℕ) → p < 65536 → (4 * p + 4) % 2 ^ 32 ≡ 4 * suc p
-four_more p lt = omega arith
-
-pub goes_on : (image : List ℕ) (p word : ℕ) → length image ≤ 65536 → (run image p).pc ≡ 4 * p → slice_get image p ≡ Some word → stop_of (instruction_of word) ≡ None → GoesOn image p word
-goes_on image p word few h w n =
+pub goes_on : (image : List ℕ) (p at word : ℕ) → (run image p).pc ≡ at → word_at image at ≡ Some word → stop_of (instruction_of word) ≡ None → GoesOn image p at word
+goes_on image p at word h w n =
     let g = goes_as (instruction_of word) n in
-    let d : step image (run image p) ≡ Done (commit_of (4 * p) word g.0 (value_of (instruction_of word) (run image p).x)) =
-    step_word image (run image p) p word h w ∙ g.2 (run image p) word ∙ ap (λ at. Done (commit_of at word g.0 (value_of (instruction_of word) (run image p).x))) h in
-    let lt = slice_get_below image p word w in
+    let d : step image (run image p) ≡ Done (commit_of at word g.0 (value_of (instruction_of word) (run image p).x)) =
+    step_word image (run image p) word (ap (λ a. word_at image a) h ∙ w) ∙ g.2 (run image p) word ∙ ap (λ a. Done (commit_of a word g.0 (value_of (instruction_of word) (run image p).x))) h in
     record {
       instruction = g.0;
       is = g.1;
       done = d;
-      pc = ap (λ (s : Arch). s.pc) (run_suc image p ∙ ap (λ a. after (run image p) a) d) ∙ four_more p (omega (arith, lt, few));
+      pc = ap (λ (s : Arch). s.pc) (run_suc image p ∙ ap (λ a. after (run image p) a) d);
     }

@@ -1,5 +1,5 @@
 -- A machine over its rows is sound, at first and after each row.
-use Rattle.std.proofs.Common.{◌≡◌, ℕ, zero, suc, ◌+◌, ◌*◌, ◌<◌, ◌≤◌, List, [], ◌∷◌, ◌++◌, take, length, None, Bool, true, false, refl, sym, ap, ◌∙◌, subst, arith}
+use Rattle.std.proofs.Common.{◌≡◌, ℕ, zero, suc, ◌+◌, ◌^◌, ◌<◌, ◌≤◌, List, [], ◌∷◌, ◌++◌, take, None, Bool, true, false, refl, sym, ap, ◌∙◌, subst, arith}
 use Rattle.std.specs.Prelude.{replicate, reverse, is_some, nat_lt, if◌then◌else◌}
 use Rattle.std.proofs.lemmas.List.{length-take, reverse-append}
 use Rattle.std.proofs.lemmas.Bool.Decides.{nat_tests}
@@ -7,18 +7,18 @@ use Rattle.rv_core.specs.declared.Shape.{Shape}
 use Rattle.rv_trace.specs.declared.row.Row.{Row}
 use Rattle.rv_pipe.specs.declared.stages.Kept.{Kept}
 use Rattle.rv_seq.specs.SequentialRun.{run}
-use Rattle.rv_trace.specs.Trace.{Setting, setting, newest, blank, is_flushed, is_retired, retirements, architecture, rows_without}
-use Rattle.rv_trace.specs.LawfulTrace.{MovesInto, names_of, fetch_address, next_serial}
+use Rattle.rv_trace.specs.Trace.{Setting, setting, newest, blank, place, is_flushed, is_retired, retirements, architecture, rows_without}
+use Rattle.rv_trace.specs.LawfulTrace.{MovesInto, names_of, fetch_address, next_serial, serial_after}
 use Rattle.rv_trace.specs.Headline.{Headline, progress_bound}
-use Rattle.rv_pipe.specs.PlainMachine.{Machine, Slots, machine_of, first_kept, cells_of, IsRowOf, machine_after, arch_after}
-use Rattle.rv_pipe.specs.Placed.{count, tail, to_go, rank, first_of_two, Placed, IsShape, Inv, IsSound}
+use Rattle.rv_pipe.specs.PlainMachine.{Machine, Slots, first_slot, cell_of, machine_of, first_kept, cells_of, IsRowOf, machine_after, arch_after}
+use Rattle.rv_pipe.specs.Placed.{count, tail, Serials, expected, to_go, rank, first_of_two, Placed, IsShape, Inv, IsSound}
 use Rattle.rv_pipe.proofs.Rows.{lawful, agrees, goes_next, architecture_now, state_now}
 
-pub the_shape : (shape : Shape) (image : List ℕ) → length image ≤ 65536 → IsShape (setting image shape)
-the_shape shape image few =
+pub the_shape : (shape : Shape) (image : List ℕ) → IsShape (setting image shape)
+the_shape shape image =
     let a = shape.lawful.memory_late in
     let b = shape.lawful.memory_inside in
-    record { course = refl; rd_pos = shape.lawful.reads_late; rd_ex = shape.lawful.reads_first; ex_last = omega (arith, a, b); few_words = few }
+    record { course = refl; rd_pos = shape.lawful.reads_late; rd_ex = shape.lawful.reads_first; ex_rd = shape.lawful.reads_near; ex_last = omega (arith, a, b) }
 
 abbrev nothing : ℕ → ℕ → Slots
 nothing n m = take n (replicate m None)
@@ -33,15 +33,30 @@ placed_none k stage zero m = tt
 placed_none k stage (suc n) zero = tt
 placed_none k stage (suc n) (suc m) = (tt, placed_none k (suc stage) n m)
 
+serials_none : (rows : List Row) (n m : ℕ) → Serials rows 0 (nothing n m)
+serials_none rows zero m = tt
+serials_none rows (suc n) zero = tt
+serials_none rows (suc n) (suc m) = serials_none rows n m
+
+first_none : (n m : ℕ) → serial_after 0 (cell_of (first_slot (nothing n m))) ≡ 0
+first_none zero m = refl
+first_none (suc n) zero = refl
+first_none (suc n) (suc m) = refl
+
 count_none : (n m : ℕ) → count (nothing n m) ≡ 0
 count_none zero m = refl
 count_none (suc n) zero = refl
 count_none (suc n) (suc m) = count_none n m
 
-tail_none : (n m : ℕ) → count (tail (nothing n m)) ≡ 0
-tail_none zero m = refl
-tail_none (suc n) zero = refl
-tail_none (suc n) (suc m) = count_none n m
+expected_none : (k : Setting) (stage n m : ℕ) → expected k 0 stage (nothing n m) ≡ (run k.image 0).pc
+expected_none k stage zero m = refl
+expected_none k stage (suc n) zero = refl
+expected_none k stage (suc n) (suc m) = expected_none k (suc stage) n m
+
+tail_none : (k : Setting) (n m : ℕ) → expected k 0 1 (tail (nothing n m)) ≡ (run k.image 0).pc
+tail_none k zero m = refl
+tail_none k (suc n) zero = refl
+tail_none k (suc n) (suc m) = expected_none k 1 n m
 
 to_go-none : (n m : ℕ) → to_go (nothing n m) ≡ 0
 to_go-none zero m = refl
@@ -51,39 +66,40 @@ to_go-none (suc n) (suc m) = rw (to_go-none n m)
 none_below : (s : ℕ) → nat_lt s 0 ≡ false
 none_below s = grind (arith, nat_tests)
 
-first_inv : (shape : Shape) (image : List ℕ) → length image ≤ 65536 → Inv (setting image shape) [] (machine_of shape first_kept)
-unfolding retirements is_flushed is_retired fetch_address next_serial run architecture rows_without
-first_inv shape image few =
+first_inv : (shape : Shape) (image : List ℕ) → Inv (setting image shape) [] (machine_of shape first_kept)
+unfolding retirements is_flushed is_retired place fetch_address next_serial run architecture rows_without
+first_inv shape image =
     let most = shape.lawful.most in
     let c = count_none shape.stages 5 in
-    let t = tail_none shape.stages 5 in
-    let z : 4 * (0 + count (tail (nothing shape.stages 5))) ≡ 0 = omega (arith, t) in
+    let t = tail_none (setting image shape) shape.stages 5 in
     let g = to_go-none shape.stages 5 in
     record {
       stages = length-take shape.stages (replicate 5 None) ∙ omega (arith, most);
       arch = refl;
-      pc = refl;
-      next = omega (arith, c);
-      fetch = sym z;
+      next_place = omega (arith, c);
+      next_first = first_none shape.stages 5;
+      fetch = sym t;
       few = omega arith;
       placed = placed_none (setting image shape) 0 shape.stages 5;
+      serials = serials_none [] shape.stages 5;
       fetch_is = refl;
       next_is = refl;
       moved = moves_none shape.stages 5;
       words = λ s word h. absurd h;
-      retired = λ s. sym (none_below s);
-      unflushed = λ s. refl;
+      fresh = λ s word h. absurd h;
+      retired = λ s alive. sym (none_below (place [] s));
+      unflushed = λ s le. refl;
       state = refl;
       progress = rw g (omega arith);
     }
 
-pub sound_first : (shape : Shape) (image : List ℕ) → length image ≤ 65536 → IsSound shape image first_kept []
+pub sound_first : (shape : Shape) (image : List ℕ) (spare : ℕ) → spare < 2 ^ 32 → IsSound shape image first_kept [] spare
 unfolding architecture
-sound_first shape image few =
+sound_first shape image spare fits =
     record {
-      few_words = few;
+      room = omega (arith, fits);
       headline = record { lawful = tt; agrees = tt; progress = tt };
-      going = λ _. first_inv shape image few;
+      going = λ _. first_inv shape image;
       state = refl;
     }
 
@@ -91,11 +107,11 @@ rank_some : (n b : ℕ) → 0 < b → 0 < first_of_two n b
 rank_some zero b lt = lt
 rank_some (suc n) b lt = omega arith
 
-module _ (shape : Shape) (image : List ℕ) (kept kept' : Kept) (rows : List Row) (row : Row)
-    (sound : IsSound shape image kept rows) (going : (newest rows).stop ≡ None)
+module _ (shape : Shape) (image : List ℕ) (kept kept' : Kept) (rows : List Row) (row : Row) (spare spare' : ℕ) (less : spare' + 1 ≡ spare)
+    (sound : IsSound shape image kept rows spare) (going : (newest rows).stop ≡ None)
     (is : IsRowOf (setting image shape) (machine_of shape kept) row) (after : machine_of shape kept' ≡ machine_after (setting image shape) (machine_of shape kept)) where
   shaped : IsShape (setting image shape)
-  shaped = the_shape shape image sound.few_words
+  shaped = the_shape shape image
 
   inv : Inv (setting image shape) rows (machine_of shape kept)
   inv = sound.going going
@@ -125,22 +141,22 @@ module _ (shape : Shape) (image : List ℕ) (kept kept' : Kept) (rows : List Row
         arch_now : kept'.arch ≡ run image (retirements (row ∷ rows))
         arch_now = ap (λ (m : Machine). m.arch) after ∙ ap (λ o. arch_after kept.arch o) (sym is.retired) ∙ state_of where
           state_of : arch_after kept.arch row.retired ≡ run image (retirements (row ∷ rows))
-          state_of = (state_now (setting image shape) shaped rows (machine_of shape kept) row inv is).0
+          state_of = state_now (setting image shape) shaped rows (machine_of shape kept) row inv is
 
-  pub sound_after : IsSound shape image kept' (row ∷ rows)
+  pub sound_after : IsSound shape image kept' (row ∷ rows) spare'
   sound_after = record {
-    few_words = sound.few_words;
+    room = let r = sound.room in omega (arith, r, less);
     headline = headline_after;
     going = λ e. subst (λ m. Inv (setting image shape) (row ∷ rows) m) (sym after) (goes_next (setting image shape) shaped rows (machine_of shape kept) row inv is e);
     state = state_after;
   }
 
--- a machine that goes on has few serials
-pub few_serials : (shape : Shape) (image : List ℕ) (kept : Kept) (rows : List Row) → IsSound shape image kept rows → (newest rows).stop ≡ None → kept.next ≤ 65536
-few_serials shape image kept rows sound going =
+-- there is a serial for one more fetch
+pub few_serials : (shape : Shape) (image : List ℕ) (kept : Kept) (rows : List Row) (spare : ℕ) → IsSound shape image kept rows spare → (newest rows).stop ≡ None → 0 < spare → kept.next + 1 < 2 ^ 32
+few_serials shape image kept rows spare sound going some =
     let a = (sound.going going).few in
-    let b = sound.few_words in
-    omega (arith, a, b)
+    let b = sound.room in
+    omega (arith, a, b, some)
 
 pub reverse_push : (rows : List Row) (row : Row) (items : List Row) → items ≡ rows ++ row ∷ [] → reverse items ≡ row ∷ reverse rows
 reverse_push rows row items e = ap reverse e ∙ reverse-append rows (row ∷ [])

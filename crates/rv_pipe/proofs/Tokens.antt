@@ -1,6 +1,6 @@
 -- After a row the tokens stand in their places again.
-use Rattle.std.proofs.Common.{◌≡◌, ◌≢◌, ℕ, zero, suc, ◌+◌, ◌<◌, ◌≤◌, List, [], ◌∷◌, length, Option, Some, None, Bool, true, false, refl, sym, ap, ◌∙◌, subst, arith, add-zero, add-suc, inl, inr}
-use Rattle.std.specs.Prelude.{◌&&◌, if◌then◌else◌, ◌==◌, is_some, is_none, slice_index, min, max}
+use Rattle.std.proofs.Common.{◌≡◌, ◌≢◌, ℕ, zero, suc, ◌+◌, ◌%◌, ◌^◌, ◌<◌, ◌≤◌, List, [], ◌∷◌, length, Option, Some, None, Bool, true, false, refl, sym, ap, ◌∙◌, subst, arith, add-zero, add-suc, inl, inr}
+use Rattle.std.specs.Prelude.{◌&&◌, if◌then◌else◌, ◌==◌, is_some, is_none, slice_index, nat_lt, min, max}
 use Rattle.std.proofs.lemmas.Bool.{cases_lt}
 use Rattle.std.proofs.lemmas.Bool.Decides.{nat_tests}
 use Rattle.rv_trace.specs.declared.row.Hold.{Hold}
@@ -8,12 +8,14 @@ use Rattle.rv_trace.specs.declared.row.Hold.TheVariants.{Behind}
 use Rattle.rv_seq.specs.declared.instruction.Instruction.{Instruction}
 use Rattle.rv_seq.specs.declared.instruction.Instruction.TheVariants.{AddImmediate, Add, Break}
 use Rattle.rv_pipe.specs.declared.stages.Token.{Token}
-use Rattle.rv_seq.specs.SequentialRun.{run}
-use Rattle.rv_trace.specs.Trace.{Setting}
+use Rattle.rv_seq.specs.SequentialRun.{word_at, run}
+use Rattle.rv_core.specs.declared.Shape.{Shape}
+use Rattle.rv_trace.specs.declared.row.Row.{Row}
+use Rattle.rv_trace.specs.Trace.{Setting, place, is_flushed}
 use Rattle.rv_trace.specs.LawfulTrace.{destination_of, name_of, names_of}
 use Rattle.rv_pipe.specs.PlainMachine.{Slots, or_else, writer, operand, waits_for, operand_hold, stop_of, own_hold, stops_now, is_blocked, shown, decided, value_of, gone, going, kept, advanced, leaving, first_slot, cells_of}
-use Rattle.rv_pipe.specs.Placed.{one_more, count, IsPlaced, IsPlacedSlot, Placed, IsShape}
-use Rattle.rv_pipe.proofs.Runs.{run_other, run_zero, slice_get_below}
+use Rattle.rv_pipe.specs.Placed.{one_more, count, Serials, expected_after, expected, IsPlaced, IsPlacedSlot, Placed, IsShape}
+use Rattle.rv_pipe.proofs.Runs.{run_other, run_zero, goes_on}
 
 -- Tests
 
@@ -72,13 +74,31 @@ decided_names k stage [] = refl
 decided_names k stage (None ∷ older) = ap (λ l. None ∷ l) (decided_names k (suc stage) older)
 decided_names k stage (Some t ∷ older) = ap (λ l. name_of (Some t.cell) ∷ l) (decided_names k (suc stage) older)
 
+pub decided_expected : (k : Setting) (r stage : ℕ) (slots : Slots) → expected k r stage (decided k.shape stage slots) ≡ expected k r stage slots
+decided_expected k r stage [] = refl
+decided_expected k r stage (None ∷ older) = decided_expected k r (suc stage) older
+decided_expected k r stage (Some t ∷ older) = rw (decided_count k (suc stage) older)
+
 pub decided_placed : (k : Setting) (r stage : ℕ) (slots : Slots) → Placed k r stage slots → Placed k r stage (decided k.shape stage slots)
 decided_placed k r stage [] h = tt
 decided_placed k r stage (None ∷ older) h = (tt, decided_placed k r (suc stage) older h.1)
 decided_placed k r stage (Some t ∷ older) h = (
-  rw (decided_count k (suc stage) older) (record { serial = h.0.serial; at = h.0.at; word = h.0.word; decoded = h.0.decoded; value = h.0.value; goes = h.0.goes }),
+  rw (decided_count k (suc stage) older, decided_expected k r (suc stage) older) (record { at = h.0.at; word = h.0.word; decoded = h.0.decoded; value = h.0.value; goes = h.0.goes }),
   decided_placed k r (suc stage) older h.1,
 )
+
+pub lt_true : (a b : ℕ) → a < b → nat_lt a b ≡ true
+lt_true a b h = grind (arith, nat_tests)
+
+-- past EX the address is the run's
+pub expected_run : (k : Setting) (r stage : ℕ) (slots : Slots) → k.shape.ex < stage → expected k r stage slots ≡ (run k.image (r + count slots)).pc
+expected_run k r stage [] h = rw add-zero
+expected_run k r stage (None ∷ older) h = let h' : k.shape.ex < suc stage = omega arith in expected_run k r (suc stage) older h'
+expected_run k r stage (Some t ∷ older) h = rw (lt_true k.shape.ex stage h, add-suc r (count older))
+
+-- from EX on a token stands at the run's pc, and its word is there
+pub word_of_run : (k : Setting) (r stage : ℕ) (t : Token) (older : Slots) → k.shape.ex ≤ stage → IsPlaced k (r + count older) (expected k r (suc stage) older) stage t → word_at k.image (run k.image (r + count older)).pc ≡ Some t.cell.word
+word_of_run k r stage t older le h = ap (λ a. word_at k.image a) (sym (h.at ∙ expected_run k r (suc stage) older (omega (arith, le)))) ∙ h.word
 
 -- no token stops the run
 abbrev pub NoStops : Setting → ℕ → Slots → Type 0
@@ -120,26 +140,25 @@ no_destination older t reg h =
     (if_none (destination_of t.instruction == reg) t.cell.serial (or_else_none_b (writer reg older) _ h))
 
 -- a register that no older token writes
-pub unwritten : (k : Setting) (shape : IsShape k) (r stage reg : ℕ) (older : Slots) → Placed k r stage older → writer reg older ≡ None → slice_index (run k.image (r + count older)).x reg ≡ slice_index (run k.image r).x reg
-unwritten k shape r stage reg [] h w = rw add-zero
-unwritten k shape r stage reg (None ∷ older) h w = unwritten k shape r (suc stage) reg older h.1 w
-unwritten k shape r stage reg (Some t ∷ older) h w =
+pub unwritten : (k : Setting) (shape : IsShape k) (r stage reg : ℕ) (older : Slots) → k.shape.ex ≤ stage → Placed k r stage older → writer reg older ≡ None → slice_index (run k.image (r + count older)).x reg ≡ slice_index (run k.image r).x reg
+unwritten k shape r stage reg [] le h w = rw add-zero
+unwritten k shape r stage reg (None ∷ older) le h w = unwritten k shape r (suc stage) reg older (omega (arith, le)) h.1 w
+unwritten k shape r stage reg (Some t ∷ older) le h w =
     let w1 = or_else_none (writer reg older) _ w in
-    let lt = slice_get_below k.image (r + count older) t.cell.word h.0.word in
     rw (add-suc r (count older))
-    (run_other k.image (r + count older) t.cell.word reg shape.few_words h.0.word lt (λ e. no_destination older t reg w (ap destination_of h.0.decoded ∙ e))
-    ∙ unwritten k shape r (suc stage) reg older h.1 w1)
+    (run_other k.image (r + count older) t.cell.word reg (word_of_run k r stage t older le h.0) (λ e. no_destination older t reg w (ap destination_of h.0.decoded ∙ e))
+    ∙ unwritten k shape r (suc stage) reg older (omega (arith, le)) h.1 w1)
 
 operand_none : (reg : ℕ) (o : Option ℕ) → operand reg o ≡ None → o ≡ None
 operand_none reg None h = refl
 operand_none reg (Some j) h = cc
 
 -- an operand that is not waited for is the run's
-pub operand_ready : (k : Setting) (shape : IsShape k) (r stage reg : ℕ) (older : Slots) → Placed k r stage older → waits_for reg older ≡ None → slice_index (run k.image r).x reg ≡ slice_index (run k.image (r + count older)).x reg
-operand_ready k shape r stage zero older h w = run_zero k.image r ∙ sym (run_zero k.image (r + count older))
-operand_ready k shape r stage (suc m) older h w =
+pub operand_ready : (k : Setting) (shape : IsShape k) (r stage reg : ℕ) (older : Slots) → k.shape.ex ≤ stage → Placed k r stage older → waits_for reg older ≡ None → slice_index (run k.image r).x reg ≡ slice_index (run k.image (r + count older)).x reg
+operand_ready k shape r stage zero older le h w = run_zero k.image r ∙ sym (run_zero k.image (r + count older))
+operand_ready k shape r stage (suc m) older le h w =
     let nz : (suc m == 0) ≡ false = grind (arith, nat_tests) in
-    sym (unwritten k shape r stage (suc m) older h (operand_none (suc m) (writer (suc m) older) (rw nz at w)))
+    sym (unwritten k shape r stage (suc m) older le h (operand_none (suc m) (writer (suc m) older) (rw nz at w)))
 
 -- what holds at the lesser and at the greater holds at both
 min_max_first : (f g : ℕ → ℕ) (a b : ℕ) → f (min a b) ≡ g (min a b) → f (max a b) ≡ g (max a b) → f a ≡ g a
@@ -162,31 +181,33 @@ value_ready older (Some (Add rd rs1 rs2)) x y f h =
 -- Moves
 
 -- a token that goes on is placed in the next stage
-pub going_one : (k : Setting) (shape : IsShape k) (r stage : ℕ) (t : Token) (older : Slots) → IsPlaced k (r + count older) stage t → Placed k r (suc stage) older → own_hold k.shape stage t.instruction older ≡ None → stops_now k.shape stage t.instruction older ≡ false → IsPlaced k (r + count older) (suc stage) (gone k.shape (run k.image r).x stage t)
+pub going_one : (k : Setting) (shape : IsShape k) (r stage : ℕ) (t : Token) (older : Slots) → IsPlaced k (r + count older) (expected k r (suc stage) older) stage t → Placed k r (suc stage) older → own_hold k.shape stage t.instruction older ≡ None → stops_now k.shape stage t.instruction older ≡ false → IsPlaced k (r + count older) (expected k r (suc stage) older) (suc stage) (gone k.shape (run k.image r).x stage t)
 going_one k shape r stage t older h hs own n =
     record {
-      serial = h.serial;
       at = h.at;
       word = h.word;
       decoded = h.decoded;
       value = value_case (stage == k.shape.rd) refl;
-      goes = goes_on (stage == k.shape.ex) refl;
+      goes = passes (stage == k.shape.ex) refl;
     } where
-      goes_on : (b : Bool) → (stage == k.shape.ex) ≡ b → k.shape.ex < suc stage → stop_of t.instruction ≡ None
-      goes_on true e lt = not_due k stage t.instruction older own n (test_eq stage k.shape.ex e)
-      goes_on false e lt = h.goes (test_past k.shape.ex stage e lt)
+      late : stage ≡ k.shape.rd → k.shape.ex ≤ suc stage
+      late e = let near = shape.ex_rd in omega (arith, near, e)
+
+      passes : (b : Bool) → (stage == k.shape.ex) ≡ b → k.shape.ex < suc stage → stop_of t.instruction ≡ None
+      passes true e lt = not_due k stage t.instruction older own n (test_eq stage k.shape.ex e)
+      passes false e lt = h.goes (test_past k.shape.ex stage e lt)
 
       value_case : (b : Bool) → (stage == k.shape.rd) ≡ b → k.shape.rd < suc stage → (if b then value_of t.instruction (run k.image r).x else t.value) ≡ value_of t.instruction (run k.image (r + count older)).x
       value_case true e lt =
           value_ready older t.instruction (run k.image r).x (run k.image (r + count older)).x
-          (λ reg w. operand_ready k shape r (suc stage) reg older hs w)
+          (λ reg w. operand_ready k shape r (suc stage) reg older (late (test_eq stage k.shape.rd e)) hs w)
           (no_operand k stage t.instruction older own (test_eq stage k.shape.rd e))
       value_case false e lt = h.value (test_past k.shape.rd stage e lt)
 
-pub going_placed : (k : Setting) (shape : IsShape k) (r stage : ℕ) (s : Option Token) (older : Slots) → Placed k r stage (s ∷ older) → Decided k stage (s ∷ older) → NoStops k stage (s ∷ older) → IsPlacedSlot k (r + count older) (suc stage) (going k.shape (run k.image r).x stage s)
+pub going_placed : (k : Setting) (shape : IsShape k) (r stage : ℕ) (s : Option Token) (older : Slots) → Placed k r stage (s ∷ older) → Decided k stage (s ∷ older) → NoStops k stage (s ∷ older) → IsPlacedSlot k (r + count older) (expected k r (suc stage) older) (suc stage) (going k.shape (run k.image r).x stage s)
 going_placed k shape r stage None older h d n = tt
 going_placed k shape r stage (Some t) older h d n = by_case (is_some t.cell.hold) refl where
-  by_case : (b : Bool) → is_some t.cell.hold ≡ b → IsPlacedSlot k (r + count older) (suc stage) (if b then None else Some (gone k.shape (run k.image r).x stage t))
+  by_case : (b : Bool) → is_some t.cell.hold ≡ b → IsPlacedSlot k (r + count older) (expected k r (suc stage) older) (suc stage) (if b then None else Some (gone k.shape (run k.image r).x stage t))
   by_case true e = tt
   by_case false e = going_one k shape r stage t older h.0 h.1 (own_none k stage t.instruction older t.cell.hold d.0 e n.0) n.0
 
@@ -243,28 +264,127 @@ place_advanced k x r stage come s older d n =
     let l = one_more_left (going k.shape x stage s) r (count older) in
     omega (arith, c, l)
 
-slot_placed : (k : Setting) (x : List ℕ) (p stage : ℕ) (come s : Option Token) → Free come s → IsPlacedSlot k p stage s → IsPlacedSlot k (one_more s p) stage come → IsPlacedSlot k (one_more (going k.shape x stage s) p) stage (kept come s)
-slot_placed k x p stage come None f h c = c
-slot_placed k x p stage come (Some t) f h c = by_case (is_some t.cell.hold) where
-  by_case : (b : Bool) → IsPlacedSlot k (one_more (if b then None else Some (gone k.shape x stage t)) p) stage (if b then Some t else come)
+-- Serials
+
+abbrev pub IsSerial : List Row → ℕ → Option Token → Type 0
+IsSerial rows p None = Unit {0}
+IsSerial rows p (Some t) = (place rows t.cell.serial ≡ p) × (is_flushed rows t.cell.serial ≡ false)
+
+serials_parts : (rows : List Row) (r : ℕ) (s : Option Token) (older : Slots) → Serials rows r (s ∷ older) → IsSerial rows (r + count older) s × Serials rows r older
+serials_parts rows r None older h = (tt, h)
+serials_parts rows r (Some t) older h = (h.0, h.1)
+
+serials_join : (rows : List Row) (r : ℕ) (s : Option Token) (older : Slots) → IsSerial rows (r + count older) s → Serials rows r older → Serials rows r (s ∷ older)
+serials_join rows r None older p h = h
+serials_join rows r (Some t) older p h = (p, h)
+
+-- Addresses
+
+guess_or_known : (ex stage a g : ℕ) → (stage ≡ ex → a ≡ g) → (if nat_lt ex (suc stage) then a else g) ≡ (if nat_lt ex stage then a else g)
+guess_or_known ex stage a g h = grind (arith, nat_tests)
+
+-- the address after a token stays the same where it goes on
+after_going : (k : Setting) (x : List ℕ) (p stage address : ℕ) (t : Token) → (stage ≡ k.shape.ex → (run k.image (suc p)).pc ≡ (t.cell.at + 4) % 2 ^ 32) → expected_after k p (suc stage) (Some (gone k.shape x stage t)) address ≡ expected_after k p stage (Some t) address
+after_going k x p stage address t h = guess_or_known k.shape.ex stage (run k.image (suc p)).pc ((t.cell.at + 4) % 2 ^ 32) h
+
+-- what goes on from EX has its successor 4 further
+abbrev pub Guesses : Setting → ℕ → ℕ → Option Token → Type 0
+Guesses k p stage None = Unit {0}
+Guesses k p stage (Some t) = is_some t.cell.hold ≡ false → stage ≡ k.shape.ex → (run k.image (suc p)).pc ≡ (t.cell.at + 4) % 2 ^ 32
+
+-- what is expected of the slot's younger
+slot_expected : (k : Setting) (x : List ℕ) (p stage address : ℕ) (come s : Option Token) → Free come s → Guesses k p stage s → expected_after k (one_more (going k.shape x stage s) p) stage (kept come s) (expected_after k p (suc stage) (going k.shape x stage s) address) ≡ expected_after k (one_more s p) stage come (expected_after k p stage s address)
+slot_expected k x p stage address come None f h = refl
+slot_expected k x p stage address come (Some t) f h = by_case (is_some t.cell.hold) refl come f where
+  by_case : (b : Bool) → is_some t.cell.hold ≡ b → (come : Option Token) → (b ≡ true → come ≡ None) → expected_after k (one_more (if b then None else Some (gone k.shape x stage t)) p) stage (if b then Some t else come) (expected_after k p (suc stage) (if b then None else Some (gone k.shape x stage t)) address) ≡ expected_after k (suc p) stage come (expected_after k p stage (Some t) address)
+  by_case true e None f = refl
+  by_case true e (Some u) f = cc (f refl)
+  by_case false e come f = ap (λ a. expected_after k (suc p) stage come a) (after_going k x p stage address t (h e))
+
+abbrev pub Guessed : Setting → ℕ → ℕ → Slots → Type 0
+Guessed k r stage [] = Unit {0}
+Guessed k r stage (s ∷ older) = Guesses k (r + count older) stage s × Guessed k r (suc stage) older
+
+-- no built instruction jumps, so each guess is right
+pub guessed : (k : Setting) (shape : IsShape k) (r stage : ℕ) (seen : Slots) → Placed k r stage seen → Decided k stage seen → NoStops k stage seen → Guessed k r stage seen
+guessed k shape r stage [] h d n = tt
+guessed k shape r stage (None ∷ older) h d n = (tt, guessed k shape r (suc stage) older h.1 d n)
+guessed k shape r stage (Some t ∷ older) h d n = (
+  λ e at.
+      let own = own_none k stage t.instruction older t.cell.hold d.0 e n.0 in
+      let due = not_due k stage t.instruction older own n.0 at in
+      (goes_on k.image (r + count older) t.cell.at t.cell.word (sym (h.0.at ∙ expected_run k r (suc stage) older (omega (arith, at)))) h.0.word (sym (ap stop_of h.0.decoded) ∙ due)).pc,
+  guessed k shape r (suc stage) older h.1 d.1 n.1,
+)
+
+pub expected_advanced : (k : Setting) (x : List ℕ) (r stage : ℕ) (come : Option Token) (seen : Slots) → k.shape.ex < stage + length seen → Decided k stage seen → NoStops k stage seen → Free come (first_slot seen) → Guessed k r stage seen → expected k (r + one_more (leaving k.shape x stage come seen) 0) stage (advanced k.shape x stage come seen) ≡ expected_after k (r + count seen) stage come (expected k r stage seen)
+expected_advanced k x r stage None [] lt d n f g = rw add-zero
+expected_advanced k x r stage (Some t) [] lt d n f g =
+    let past : k.shape.ex < stage = omega arith in
+    let e : r + 1 ≡ suc (r + 0) = omega arith in
+    rw (lt_true k.shape.ex stage past, e)
+expected_advanced k x r stage come (s ∷ older) lt d n f g =
+    let go = going k.shape x stage s in
+    let lt' : k.shape.ex < suc stage + length older = omega arith in
+    let ih = expected_advanced k x r (suc stage) go older lt' (decided_tail k stage s older d) (no_stops_tail k stage s older n) (free_ahead k x stage s older d n) g.1 in
+    ap (λ p. expected_after k p stage (kept come s) (expected k (r + one_more (leaving k.shape x stage come (s ∷ older)) 0) (suc stage) (advanced k.shape x (suc stage) go older))) (place_advanced k x r stage come s older d n)
+    ∙ ap (λ a. expected_after k (one_more go (r + count older)) stage (kept come s) a) ih
+    ∙ slot_expected k x (r + count older) stage (expected k r (suc stage) older) come s f g.0
+    ∙ ap (λ p. expected_after k p stage come (expected_after k (r + count older) stage s (expected k r (suc stage) older))) (sym (one_more_left s r (count older)))
+
+slot_placed : (k : Setting) (x : List ℕ) (p stage address : ℕ) (come s : Option Token) → Free come s → IsPlacedSlot k p address stage s → Guesses k p stage s → IsPlacedSlot k (one_more s p) (expected_after k p stage s address) stage come → IsPlacedSlot k (one_more (going k.shape x stage s) p) (expected_after k p (suc stage) (going k.shape x stage s) address) stage (kept come s)
+slot_placed k x p stage address come None f h g c = c
+slot_placed k x p stage address come (Some t) f h g c = by_case (is_some t.cell.hold) refl where
+  by_case : (b : Bool) → is_some t.cell.hold ≡ b → IsPlacedSlot k (one_more (if b then None else Some (gone k.shape x stage t)) p) (expected_after k p (suc stage) (if b then None else Some (gone k.shape x stage t)) address) stage (if b then Some t else come)
+  by_case true e = h
+  by_case false e = rw (after_going k x p stage address t (λ at. g e at)) c
+
+pub placed_advanced : (k : Setting) (shape : IsShape k) (r stage : ℕ) (come : Option Token) (seen : Slots) → k.shape.ex < stage + length seen → Placed k r stage seen → Decided k stage seen → NoStops k stage seen → Free come (first_slot seen) → IsPlacedSlot k (r + count seen) (expected k r stage seen) stage come → Guessed k r stage seen → Placed k (r + one_more (leaving k.shape (run k.image r).x stage come seen) 0) stage (advanced k.shape (run k.image r).x stage come seen)
+placed_advanced k shape r stage come [] lt h d n f c g = tt
+placed_advanced k shape r stage come (s ∷ older) lt h d n f c g =
+    let x = (run k.image r).x in
+    let go = going k.shape x stage s in
+    let lt' : k.shape.ex < suc stage + length older = omega arith in
+    let d' = decided_tail k stage s older d in
+    let n' = no_stops_tail k stage s older n in
+    let f' = free_ahead k x stage s older d n in
+    let here : IsPlacedSlot k (one_more s (r + count older)) (expected_after k (r + count older) stage s (expected k r (suc stage) older)) stage come = rw one_more_left at c in (
+      rw (place_advanced k x r stage come s older d n, expected_advanced k x r (suc stage) go older lt' d' n' f' g.1)
+          (slot_placed k x (r + count older) stage (expected k r (suc stage) older) come s f h.0 g.0 here),
+      placed_advanced k shape r (suc stage) go older lt' h.1 d' n' f' (going_placed k shape r stage s older h d n) g.1,
+    )
+
+-- each token has its serial after the moves too
+slot_serials : (k : Shape) (x : List ℕ) (rows : List Row) (r p stage : ℕ) (come s : Option Token) → Free come s → IsSerial rows p s → IsSerial rows (one_more s p) come → IsSerial rows (one_more (going k x stage s) p) (kept come s)
+slot_serials k x rows r p stage come None f h c = c
+slot_serials k x rows r p stage come (Some t) f h c = by_case (is_some t.cell.hold) where
+  by_case : (b : Bool) → IsSerial rows (one_more (if b then None else Some (gone k x stage t)) p) (if b then Some t else come)
   by_case true = h
   by_case false = c
 
-pub placed_advanced : (k : Setting) (shape : IsShape k) (r stage : ℕ) (come : Option Token) (seen : Slots) → Placed k r stage seen → Decided k stage seen → NoStops k stage seen → Free come (first_slot seen) → IsPlacedSlot k (r + count seen) stage come → Placed k (r + one_more (leaving k.shape (run k.image r).x stage come seen) 0) stage (advanced k.shape (run k.image r).x stage come seen)
-placed_advanced k shape r stage come [] h d n f c = tt
-placed_advanced k shape r stage come (s ∷ older) h d n f c =
-    let x = (run k.image r).x in
-    let here : IsPlacedSlot k (one_more s (r + count older)) stage come = rw one_more_left at c in (
-      rw (place_advanced k x r stage come s older d n) (slot_placed k x (r + count older) stage come s f h.0 here),
-      placed_advanced k shape r (suc stage) (going k.shape x stage s) older h.1 (decided_tail k stage s older d) (no_stops_tail k stage s older n) (free_ahead k x stage s older d n) (going_placed k shape r stage s older h d n),
-    )
+going_serial : (k : Shape) (x : List ℕ) (rows : List Row) (p stage : ℕ) (s : Option Token) → IsSerial rows p s → IsSerial rows p (going k x stage s)
+going_serial k x rows p stage None h = tt
+going_serial k x rows p stage (Some t) h = by_case (is_some t.cell.hold) where
+  by_case : (b : Bool) → IsSerial rows p (if b then None else Some (gone k x stage t))
+  by_case true = tt
+  by_case false = h
+
+pub serials_advanced : (k : Setting) (x : List ℕ) (rows : List Row) (r stage : ℕ) (come : Option Token) (seen : Slots) → Serials rows r seen → Decided k stage seen → NoStops k stage seen → Free come (first_slot seen) → IsSerial rows (r + count seen) come → Serials rows (r + one_more (leaving k.shape x stage come seen) 0) (advanced k.shape x stage come seen)
+serials_advanced k x rows r stage come [] h d n f c = tt
+serials_advanced k x rows r stage come (s ∷ older) h d n f c =
+    let go = going k.shape x stage s in
+    let parts = serials_parts rows r s older h in
+    let here : IsSerial rows (one_more s (r + count older)) come = rw one_more_left at c in
+    serials_join rows (r + one_more (leaving k.shape x stage come (s ∷ older)) 0) (kept come s) (advanced k.shape x (suc stage) go older)
+    (rw (place_advanced k x r stage come s older d n) (slot_serials k.shape x rows r (r + count older) stage come s f parts.0 here))
+    (serials_advanced k x rows r (suc stage) go older parts.1 (decided_tail k stage s older d) (no_stops_tail k stage s older n) (free_ahead k x stage s older d n) (going_serial k.shape x rows (r + count older) stage s parts.0))
 
 -- the token that leaves has the place r
-pub leaving_placed : (k : Setting) (shape : IsShape k) (r stage : ℕ) (come : Option Token) (seen : Slots) → Placed k r stage seen → Decided k stage seen → NoStops k stage seen → IsPlacedSlot k (r + count seen) stage come → IsPlacedSlot k r (stage + length seen) (leaving k.shape (run k.image r).x stage come seen)
+pub leaving_placed : (k : Setting) (shape : IsShape k) (r stage : ℕ) (come : Option Token) (seen : Slots) → Placed k r stage seen → Decided k stage seen → NoStops k stage seen → IsPlacedSlot k (r + count seen) (expected k r stage seen) stage come → IsPlacedSlot k r (run k.image r).pc (stage + length seen) (leaving k.shape (run k.image r).x stage come seen)
 leaving_placed k shape r stage come [] h d n c = rw (add-zero stage) (rw (add-zero r) at c)
 leaving_placed k shape r stage come (s ∷ older) h d n c =
     let e : suc stage + length older ≡ stage + length (s ∷ older) = omega arith in
-    subst (λ m. IsPlacedSlot k r m (leaving k.shape (run k.image r).x stage come (s ∷ older))) e
+    subst (λ m. IsPlacedSlot k r (run k.image r).pc m (leaving k.shape (run k.image r).x stage come (s ∷ older))) e
     (leaving_placed k shape r (suc stage) (going k.shape (run k.image r).x stage s) older h.1 (decided_tail k stage s older d) (no_stops_tail k stage s older n) (going_placed k shape r stage s older h d n))
 
 -- at a stage past EX no token stops the run
@@ -276,12 +396,12 @@ past_ex k stage (Some t ∷ older) lt = (never (is_some (stop_of t.instruction))
   never b c = grind (arith, nat_tests)
 
 -- also in the row of a stop the token that leaves has the place r
-pub last_placed : (k : Setting) (shape : IsShape k) (r stage : ℕ) (come : Option Token) (seen : Slots) → k.shape.ex + 1 < stage + length seen → stage ≤ k.shape.ex + 1 → Placed k r stage seen → Decided k stage seen → IsPlacedSlot k r (stage + length seen) (leaving k.shape (run k.image r).x stage come seen)
+pub last_placed : (k : Setting) (shape : IsShape k) (r stage : ℕ) (come : Option Token) (seen : Slots) → k.shape.ex + 1 < stage + length seen → stage ≤ k.shape.ex + 1 → Placed k r stage seen → Decided k stage seen → IsPlacedSlot k r (run k.image r).pc (stage + length seen) (leaving k.shape (run k.image r).x stage come seen)
 last_placed k shape r stage come [] lt le h d = absurd (omega arith)
 last_placed k shape r stage come (s ∷ older) lt le h d =
     let e : suc stage + length older ≡ stage + length (s ∷ older) = omega arith in
     let lt' : k.shape.ex + 1 < suc stage + length older = omega arith in
-    subst (λ m. IsPlacedSlot k r m (leaving k.shape (run k.image r).x stage come (s ∷ older))) e
+    subst (λ m. IsPlacedSlot k r (run k.image r).pc m (leaving k.shape (run k.image r).x stage come (s ∷ older))) e
     (elim (cases_lt k.shape.ex stage) [
       | inl past ↦
           let n = past_ex k stage (s ∷ older) past in

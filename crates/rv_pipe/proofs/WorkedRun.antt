@@ -1,5 +1,5 @@
 -- The headline, tried on the run that adds five and seven.
-use Rattle.std.proofs.Common.{◌≡◌, ℕ, ◌≤◌, [], ◌∷◌, length, Option, Some, None, Bool, true, false, refl, sym, ap, ◌∙◌, subst, arith, inl, inr}
+use Rattle.std.proofs.Common.{◌≡◌, ℕ, [], ◌∷◌, Option, Some, None, Bool, true, false, refl, sym, ap, ◌∙◌, subst, arith, inl, inr}
 use Rattle.std.specs.Prelude.{is_some, ◌==◌}
 use Rattle.std.proofs.lemmas.Bool.Decides.{nat_tests}
 use Rattle.rv_core.specs.Stages.{three_lawful}
@@ -28,19 +28,16 @@ use Rattle.rv_pipe.proofs.Sound.{the_shape, sound_first}
 shape : Shape
 shape = record { stages = 3; rd = 1; ex = 1; mem = 2; lawful = three_lawful }
 
-few : length worked_image ≤ 65536
-few = omega arith
-
 shaped : IsShape worked
 unfolding shape
-shaped = the_shape shape worked_image few
+shaped = the_shape shape worked_image
 
 abbrev machine_0 : Machine
 machine_0 = record { slots = None ∷ None ∷ None ∷ []; fetch = 0; next = 0; arch = first_kept.arch }
 
 inv_0 : Inv worked [] machine_0
 unfolding shape
-inv_0 = (sound_first shape worked_image few).going refl
+inv_0 = (sound_first shape worked_image 0 (omega arith)).going refl
 
 is_0 : IsRowOf worked machine_0 row_0
 unfolding instruction_of decoded row_of base_patterns fields_of format_of base_formats

@@ -1,16 +1,15 @@
--- Where the tokens of the machine stand in the sequential run, and what ties the machine to the rows before. The built rows have no jump,
--- so the serial of a token is its place in the run, and four times that is its address.
-use Rattle.std.specs.Prelude.{◌≡◌, ℕ, zero, suc, ◌+◌, ◌*◌, ◌<◌, ◌≤◌, List, [], ◌∷◌, length, Option, Some, None, false, nat_lt, slice_get}
+-- Where the tokens of the machine stand in the sequential run, and what ties the machine to the rows before.
+use Rattle.std.specs.Prelude.{◌≡◌, ℕ, zero, suc, ◌+◌, ◌%◌, ◌^◌, ◌<◌, ◌≤◌, List, [], ◌∷◌, length, Option, Some, None, false, if◌then◌else◌, nat_lt, slice_get}
 use Rattle.rv_core.specs.declared.Shape.{Shape}
 use Rattle.rv_trace.specs.declared.row.Row.{Row}
 use Rattle.rv_pipe.specs.declared.stages.Token.{Token}
 use Rattle.rv_pipe.specs.declared.stages.Kept.{Kept}
 use Rattle.rv_seq.specs.Instructions.{instruction_of}
-use Rattle.rv_seq.specs.SequentialRun.{run}
-use Rattle.rv_trace.specs.Trace.{Setting, course_of, setting, stages_of, newest, is_flushed, is_retired, retirements, architecture, rows_without}
-use Rattle.rv_trace.specs.LawfulTrace.{MovesInto, names_of, fetch_address, next_serial, IsWordOf}
+use Rattle.rv_seq.specs.SequentialRun.{word_at, run}
+use Rattle.rv_trace.specs.Trace.{Setting, course_of, setting, stages_of, newest, place, is_flushed, is_retired, retirements, architecture, rows_without}
+use Rattle.rv_trace.specs.LawfulTrace.{MovesInto, names_of, fetch_address, next_serial, serial_after, IsWordOf}
 use Rattle.rv_trace.specs.Headline.{Headline}
-use Rattle.rv_pipe.specs.PlainMachine.{Machine, Slots, cells_of, stop_of, value_of, machine_of}
+use Rattle.rv_pipe.specs.PlainMachine.{Machine, Slots, first_slot, cell_of, cells_of, stop_of, value_of, machine_of}
 
 abbrev pub one_more : Option Token → ℕ → ℕ
 one_more None n = n
@@ -21,36 +20,55 @@ abbrev pub count : Slots → ℕ
 count [] = 0
 count (s ∷ rest) = one_more s (count rest)
 
--- the token of the serial p stands in this stage
-pub record IsPlaced (k : Setting) (p stage : ℕ) (t : Token) : Type 0 where
-  pub serial : t.cell.serial ≡ p
-  pub at : t.cell.at ≡ 4 * p
-  pub word : slice_get k.image p ≡ Some t.cell.word
+-- the address that comes after a token of the place p in the stage: the run's where it has left EX, and a guess before
+abbrev pub expected_after : Setting → ℕ → ℕ → Option Token → ℕ → ℕ
+expected_after k p stage None address = address
+expected_after k p stage (Some t) address = if nat_lt k.shape.ex stage then (run k.image (suc p)).pc else (t.cell.at + 4) % 2 ^ 32
+
+-- the address that the next younger token has, or that is fetched next, where these stand from the stage on
+abbrev pub expected : Setting → ℕ → ℕ → Slots → ℕ
+expected k r stage [] = (run k.image r).pc
+expected k r stage (s ∷ older) = expected_after k (r + count older) stage s (expected k r (suc stage) older)
+
+-- the token of the place p stands in this stage, at this address
+pub record IsPlaced (k : Setting) (p address stage : ℕ) (t : Token) : Type 0 where
+  pub at : t.cell.at ≡ address
+  pub word : word_at k.image t.cell.at ≡ Some t.cell.word
   pub decoded : t.instruction ≡ instruction_of t.cell.word
   pub value : k.shape.rd < stage → t.value ≡ value_of t.instruction (run k.image p).x
   pub goes : k.shape.ex < stage → stop_of t.instruction ≡ None
 
-abbrev pub IsPlacedSlot : Setting → ℕ → ℕ → Option Token → Type 0
-IsPlacedSlot k p stage None = Unit {0}
-IsPlacedSlot k p stage (Some t) = IsPlaced k p stage t
+abbrev pub IsPlacedSlot : Setting → ℕ → ℕ → ℕ → Option Token → Type 0
+IsPlacedSlot k p address stage None = Unit {0}
+IsPlacedSlot k p address stage (Some t) = IsPlaced k p address stage t
 
 -- each token stands in its place, where r are retired
 abbrev pub Placed : Setting → ℕ → ℕ → Slots → Type 0
 Placed k r stage [] = Unit {0}
-Placed k r stage (s ∷ older) = IsPlacedSlot k (r + count older) stage s × Placed k r (suc stage) older
+Placed k r stage (s ∷ older) = IsPlacedSlot k (r + count older) (expected k r (suc stage) older) stage s × Placed k r (suc stage) older
+
+-- each token is not flushed, and has as its place the number of tokens beyond it and of those retired
+abbrev pub Serials : List Row → ℕ → Slots → Type 0
+Serials rows r [] = Unit {0}
+Serials rows r (None ∷ older) = Serials rows r older
+Serials rows r (Some t ∷ older) = ((place rows t.cell.serial ≡ r + count older) × (is_flushed rows t.cell.serial ≡ false)) × Serials rows r older
+
+-- a token of this serial has this word
+abbrev pub HasWord : Slots → ℕ → ℕ → Type 0
+HasWord slots s word = (n : ℕ) (u : Token) → slice_get slots n ≡ Some (Some u) → u.cell.serial ≡ s → u.cell.word ≡ word
 
 -- the slots behind stage 0
 abbrev pub tail : Slots → Slots
 tail [] = []
 tail (s ∷ older) = older
 
--- the numbers of a core, with an image that fits and its run
+-- the numbers of a core, with the run of its image
 pub record IsShape (k : Setting) : Type 0 where
   pub course : k.course ≡ course_of k.image
   pub rd_pos : 0 < k.shape.rd
   pub rd_ex : k.shape.rd ≤ k.shape.ex
+  pub ex_rd : k.shape.ex ≤ k.shape.rd + 1
   pub ex_last : k.shape.ex + 1 < k.shape.stages
-  pub few_words : length k.image ≤ 65536
 
 abbrev pub here : Option Token → ℕ → ℕ
 here None n = 0
@@ -73,23 +91,25 @@ rank stages slots = first_of_two (to_go slots) (suc stages)
 pub record Inv (k : Setting) (earlier : List Row) (m : Machine) : Type 0 where
   pub stages : length m.slots ≡ k.shape.stages
   pub arch : m.arch ≡ run k.image (retirements earlier)
-  pub pc : (run k.image (retirements earlier)).pc ≡ 4 * retirements earlier
-  pub next : m.next ≡ retirements earlier + count m.slots
-  pub fetch : m.fetch ≡ 4 * (retirements earlier + count (tail m.slots))
-  pub few : m.next ≤ length k.image
+  pub next_place : place earlier m.next ≡ retirements earlier + count m.slots
+  pub next_first : serial_after m.next (cell_of (first_slot m.slots)) ≡ m.next
+  pub fetch : m.fetch ≡ expected k (retirements earlier) 1 (tail m.slots)
+  pub few : m.next ≤ length earlier
   pub placed : Placed k (retirements earlier) 0 m.slots
+  pub serials : Serials earlier (retirements earlier) m.slots
   pub fetch_is : m.fetch ≡ fetch_address k earlier
   pub next_is : m.next ≡ next_serial k earlier
   pub moved : MovesInto (newest earlier) None (stages_of k (newest earlier)) (names_of (cells_of m.slots))
-  pub words : (s word : ℕ) → IsWordOf k earlier s word → slice_get k.image s ≡ Some word
-  pub retired : (s : ℕ) → is_retired earlier s ≡ nat_lt s (retirements earlier)
-  pub unflushed : (s : ℕ) → is_flushed earlier s ≡ false
+  pub words : (s word : ℕ) → IsWordOf k earlier s word → HasWord m.slots s word
+  pub fresh : (s word : ℕ) → IsWordOf k earlier s word → s < m.next
+  pub retired : (s : ℕ) → is_flushed earlier s ≡ false → is_retired earlier s ≡ nat_lt (place earlier s) (retirements earlier)
+  pub unflushed : (s : ℕ) → m.next ≤ s → is_flushed earlier s ≡ false
   pub state : architecture earlier ≡ run k.image (retirements earlier)
   pub progress : rows_without earlier + rank k.shape.stages m.slots ≤ k.shape.stages + 1
 
--- a machine over these rows, newest first
-pub record IsSound (shape : Shape) (image : List ℕ) (kept : Kept) (rows : List Row) : Type 0 where
-  pub few_words : length image ≤ 65536
+-- a machine over these rows, newest first, with room for so many more
+pub record IsSound (shape : Shape) (image : List ℕ) (kept : Kept) (rows : List Row) (spare : ℕ) : Type 0 where
+  pub room : length rows + spare < 2 ^ 32
   pub headline : Headline image shape rows
   pub going : (newest rows).stop ≡ None → Inv (setting image shape) rows (machine_of shape kept)
   pub state : architecture rows ≡ kept.arch

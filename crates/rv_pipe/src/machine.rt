@@ -33,7 +33,7 @@ impl<'a, C: Core> Model for Machine<'a, C> {
 
     ghost view = { λ m. record { image = m.words.now; shape = m.shape; rows = reverse m.trace.rows; spare = m.trace.spare } };
 
-    ghost invariant = { λ m. IsSound m.shape m.words.now m.kept (reverse m.trace.rows) };
+    ghost invariant = { λ m. IsSound m.shape m.words.now m.kept (reverse m.trace.rows) m.trace.spare };
 }
 
 fn first_kept() -> Kept

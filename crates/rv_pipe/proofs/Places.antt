@@ -1,0 +1,173 @@
+-- Places: the count of lower serials that are not flushed. They tell the order of tokens.
+use Rattle.std.proofs.Common.{◌≡◌, ℕ, zero, suc, ◌+◌, ◌<◌, ◌≤◌, List, [], ◌∷◌, drop, length, Option, Some, None, Bool, true, false, refl, sym, ap, ◌∙◌, subst, arith, inl, inr}
+use Rattle.std.specs.Prelude.{if◌then◌else◌, is_some, slice_get}
+use Rattle.std.proofs.lemmas.Bool.{cases_lt}
+use Rattle.rv_trace.specs.declared.row.Row.{Row}
+use Rattle.rv_core.specs.declared.Shape.{Shape}
+use Rattle.rv_pipe.specs.declared.stages.Token.{Token}
+use Rattle.rv_trace.specs.Trace.{has_serial, is_flushed, place}
+use Rattle.rv_trace.specs.LawfulTrace.{serial_after}
+use Rattle.rv_pipe.specs.PlainMachine.{Slots, advanced, decided, fill_first, first_slot, next_after, cell_of}
+use Rattle.rv_pipe.specs.Placed.{count, Serials}
+
+-- Places and serials
+
+pub place_suc : (rows : List Row) (s : ℕ) → is_flushed rows s ≡ false → place rows (suc s) ≡ suc (place rows s)
+unfolding place
+place_suc rows s h = rw h
+
+place_step : (rows : List Row) (s : ℕ) → place rows s ≤ place rows (suc s)
+unfolding place
+place_step rows s = by_case (is_flushed rows s) where
+  by_case : (b : Bool) → place rows s ≤ (if b then place rows s else suc (place rows s))
+  by_case true = omega arith
+  by_case false = omega arith
+
+pub place_le : (rows : List Row) (a b : ℕ) → a ≤ b → place rows a ≤ place rows b
+place_le rows a zero le = let e : a ≡ 0 = omega (arith, le) in subst (λ n. place rows n ≤ place rows 0) (sym e) (omega arith)
+place_le rows a (suc b) le = elim (cases_lt b a) [
+  | inl less ↦ let e : a ≡ suc b = omega (arith, le, less) in subst (λ n. place rows n ≤ place rows (suc b)) (sym e) (omega arith)
+  | inr more ↦ let ih = place_le rows a b more in let s = place_step rows b in omega (arith, ih, s)
+]
+
+-- a serial that is not flushed has a lower place than each higher one
+pub place_lt : (rows : List Row) (a b : ℕ) → is_flushed rows a ≡ false → a < b → place rows a < place rows b
+place_lt rows a b alive lt =
+    let le = place_le rows (suc a) b (omega (arith, lt)) in
+    let e = place_suc rows a alive in
+    omega (arith, le, e)
+
+-- so places tell the order
+pub lower_place : (rows : List Row) (a b : ℕ) → place rows a < place rows b → a < b
+lower_place rows a b lt = elim (cases_lt a b) [ inl less ↦ less | inr more ↦ let le = place_le rows b a more in absurd (omega (arith, lt, le)) ]
+
+pub place_order : (rows : List Row) (a b : ℕ) → is_flushed rows b ≡ false → place rows a ≤ place rows b → a ≤ b
+place_order rows a b alive le = elim (cases_lt b a) [ inl less ↦ let lt = place_lt rows b a alive less in absurd (omega (arith, lt, le)) | inr more ↦ more ]
+
+pub one_place : (rows : List Row) (a b : ℕ) → is_flushed rows a ≡ false → is_flushed rows b ≡ false → place rows a ≡ place rows b → a ≡ b
+one_place rows a b x y e =
+    let p = place_order rows a b y (omega (arith, e)) in
+    let q = place_order rows b a x (omega (arith, e)) in
+    omega (arith, p, q)
+
+flushed_step : (row : Row) (rows : List Row) (s : ℕ) → has_serial row.flushed s ≡ false → is_flushed (row ∷ rows) s ≡ is_flushed rows s
+unfolding is_flushed
+flushed_step row rows s h = rw h
+
+-- a row that flushes no lower serial leaves the place as it was
+pub place_same : (row : Row) (rows : List Row) (s : ℕ) → ((j : ℕ) → has_serial row.flushed j ≡ false) → place (row ∷ rows) s ≡ place rows s
+unfolding place
+place_same row rows zero h = refl
+place_same row rows (suc s) h = rw (flushed_step row rows s (h s), place_same row rows s h)
+
+pub flushed_same : (row : Row) (rows : List Row) (s : ℕ) → ((j : ℕ) → has_serial row.flushed j ≡ false) → is_flushed (row ∷ rows) s ≡ is_flushed rows s
+flushed_same row rows s h = flushed_step row rows s (h s)
+
+-- Tokens
+
+same_token : (t u : Token) → ◌≡◌ {A = Option (Option Token)} (Some (Some t)) (Some (Some u)) → t ≡ u
+same_token t u e = cc
+
+-- the place of a token
+pub record Stood (rows : List Row) (r n : ℕ) (u : Token) : Type 0 where
+  pub low : r ≤ place rows u.cell.serial
+  pub high : place rows u.cell.serial < r + n
+  pub alive : is_flushed rows u.cell.serial ≡ false
+
+pub stood : (rows : List Row) (r n : ℕ) (seen : Slots) (u : Token) → Serials rows r seen → slice_get seen n ≡ Some (Some u) → Stood rows r (count seen) u
+stood rows r n [] u h e = cc
+stood rows r zero (None ∷ older) u h e = cc
+stood rows r zero (Some t ∷ older) u h e =
+    let p = h.0.0 in
+    subst (λ v. Stood rows r (suc (count older)) v) (same_token t u e) (record { low = omega (arith, p); high = omega (arith, p); alive = h.0.1 })
+stood rows r (suc n) (None ∷ older) u h e = stood rows r n older u h e
+stood rows r (suc n) (Some t ∷ older) u h e =
+    let s = stood rows r n older u h.1 e in
+    let hi = s.high in
+    record { low = s.low; high = omega (arith, hi); alive = s.alive }
+
+-- older tokens have lower serials
+pub older_lower : (rows : List Row) (r n : ℕ) (t u : Token) (older : Slots) → Serials rows r (Some t ∷ older) → slice_get older n ≡ Some (Some u) → u.cell.serial < t.cell.serial
+older_lower rows r n t u older h e =
+    let s = stood rows r n older u h.1 e in
+    let hi = s.high in
+    let p = h.0.0 in
+    lower_place rows u.cell.serial t.cell.serial (omega (arith, hi, p))
+
+-- the token of a place
+pub token_of : (rows : List Row) (r j : ℕ) (older : Slots) → Serials rows r older → is_flushed rows j ≡ false → r ≤ place rows j → place rows j < r + count older → (n : ℕ) × (u : Token) × (slice_get older n ≡ Some (Some u)) × (u.cell.serial ≡ j)
+token_of rows r j [] h alive le lt = absurd (omega (arith, le, lt))
+token_of rows r j (None ∷ older) h alive le lt = let t = token_of rows r j older h alive le lt in (suc t.0, t.1, t.2, t.3)
+token_of rows r j (Some t ∷ older) h alive le lt =
+    elim (cases_lt (place rows j) (r + count older)) [
+      | inl less ↦ let u = token_of rows r j older h.1 alive le less in (suc u.0, u.1, u.2, u.3)
+      | inr more ↦ let p = h.0.0 in (0, t, refl, one_place rows t.cell.serial j h.0.1 alive (omega (arith, p, lt, more)))
+    ]
+
+-- a serial has one token
+pub one_token : (rows : List Row) (r n m : ℕ) (seen : Slots) (u v : Token) → Serials rows r seen → slice_get seen n ≡ Some (Some u) → slice_get seen m ≡ Some (Some v) → u.cell.serial ≡ v.cell.serial → u ≡ v
+one_token rows r n m [] u v h a b e = cc
+one_token rows r zero zero (s ∷ older) u v h a b e = same_token u v (sym a ∙ b)
+one_token rows r zero (suc m) (None ∷ older) u v h a b e = cc
+one_token rows r zero (suc m) (Some t ∷ older) u v h a b e =
+    let same = ap (λ (w : Token). w.cell.serial) (same_token t u a) in
+    let lt = older_lower rows r m t v older h b in
+    absurd (omega (arith, same, lt, e))
+one_token rows r (suc n) zero (None ∷ older) u v h a b e = cc
+one_token rows r (suc n) zero (Some t ∷ older) u v h a b e =
+    let same = ap (λ (w : Token). w.cell.serial) (same_token t v b) in
+    let lt = older_lower rows r n t u older h a in
+    absurd (omega (arith, same, lt, e))
+one_token rows r (suc n) (suc m) (None ∷ older) u v h a b e = one_token rows r n m older u v h a b e
+one_token rows r (suc n) (suc m) (Some t ∷ older) u v h a b e = one_token rows r n m older u v h.1 a b e
+
+pub serials_drop : (rows : List Row) (r n : ℕ) (seen : Slots) → Serials rows r seen → Serials rows r (drop n seen)
+serials_drop rows r zero seen h = h
+serials_drop rows r (suc n) [] h = tt
+serials_drop rows r (suc n) (None ∷ seen) h = serials_drop rows r n seen h
+serials_drop rows r (suc n) (Some t ∷ seen) h = serials_drop rows r n seen h.1
+
+-- What a row does to them
+
+pub serials_more : (row : Row) (rows : List Row) (r : ℕ) (slots : Slots) → ((j : ℕ) → has_serial row.flushed j ≡ false) → Serials rows r slots → Serials (row ∷ rows) r slots
+serials_more row rows r [] f h = tt
+serials_more row rows r (None ∷ older) f h = serials_more row rows r older f h
+serials_more row rows r (Some t ∷ older) f h = ((place_same row rows t.cell.serial f ∙ h.0.0, flushed_same row rows t.cell.serial f ∙ h.0.1), serials_more row rows r older f h.1)
+
+counted : (k : Shape) (stage : ℕ) (slots : Slots) → count (decided k stage slots) ≡ count slots
+counted k stage [] = refl
+counted k stage (None ∷ older) = counted k (suc stage) older
+counted k stage (Some t ∷ older) = ap suc (counted k (suc stage) older)
+
+pub serials_decided : (k : Shape) (rows : List Row) (r stage : ℕ) (slots : Slots) → Serials rows r slots → Serials rows r (decided k stage slots)
+serials_decided k rows r stage [] h = tt
+serials_decided k rows r stage (None ∷ older) h = serials_decided k rows r (suc stage) older h
+serials_decided k rows r stage (Some t ∷ older) h = ((h.0.0 ∙ ap (λ n. r + n) (sym (counted k (suc stage) older)), h.0.1), serials_decided k rows r (suc stage) older h.1)
+
+pub serials_filled : (rows : List Row) (r serial at : ℕ) (slots : Slots) (o : Option ℕ) → Serials rows r slots → place rows serial ≡ r + count slots → is_flushed rows serial ≡ false → Serials rows r (fill_first slots serial at o)
+serials_filled rows r serial at [] o h p a = tt
+serials_filled rows r serial at (Some t ∷ older) o h p a = h
+serials_filled rows r serial at (None ∷ older) None h p a = h
+serials_filled rows r serial at (None ∷ older) (Some word) h p a = ((p, a), h)
+
+-- the place of the next serial after the fetch
+pub next_placed : (rows : List Row) (r serial at : ℕ) (slots : Slots) (o : Option ℕ) → 0 < length slots → place rows serial ≡ r + count slots → is_flushed rows serial ≡ false → place rows (next_after serial (first_slot slots) o) ≡ r + count (fill_first slots serial at o)
+next_placed rows r serial at [] o lt p a = absurd (omega arith)
+next_placed rows r serial at (Some t ∷ older) o lt p a = p
+next_placed rows r serial at (None ∷ older) None lt p a = p
+next_placed rows r serial at (None ∷ older) (Some word) lt p a = let s = place_suc rows serial a in omega (arith, s, p)
+
+-- what stands in stage 0 is the last that was fetched
+pub first_fetched : (k : Shape) (serial at : ℕ) (slots : Slots) (o : Option ℕ) → 0 < length slots → serial_after serial (cell_of (first_slot slots)) ≡ serial → serial_after (next_after serial (first_slot slots) o) (cell_of (first_slot (decided k 0 (fill_first slots serial at o)))) ≡ next_after serial (first_slot slots) o
+first_fetched k serial at [] o lt e = absurd (omega arith)
+first_fetched k serial at (Some t ∷ older) o lt e = e
+first_fetched k serial at (None ∷ older) None lt e = refl
+first_fetched k serial at (None ∷ older) (Some word) lt e = refl
+
+pub first_kept : (k : Shape) (x : List ℕ) (next : ℕ) (seen : Slots) → serial_after next (cell_of (first_slot seen)) ≡ next → serial_after next (cell_of (first_slot (advanced k x 0 None seen))) ≡ next
+first_kept k x next [] e = e
+first_kept k x next (None ∷ older) e = refl
+first_kept k x next (Some t ∷ older) e = by_case (is_some t.cell.hold) where
+  by_case : (b : Bool) → serial_after next (cell_of (if b then Some t else None)) ≡ next
+  by_case true = e
+  by_case false = refl
