@@ -7,7 +7,7 @@ use Rattle.ix_tree.specs.TypedView.{typed_tree}
 use Rattle.ix_typing.specs.Refusals.{Rule, unknown, twice, narrow, too_wide, mixed, range, index, read_after_write, double_write, second_access, in_spawn, rom, Refusal}
 use Rattle.ix_check_parts.specs.declared.error.CheckErr.{CheckErr}
 use Rattle.ix_check_parts.specs.declared.error.CheckErr.TheVariants as C
-use Rattle.ix_check_parts.specs.Telling.{IsRefused, Refuses, refusal_of}
+use Rattle.ix_check_parts.specs.Telling.{IsRefused, refusal_of}
 use Rattle.ix_check.specs.Telling.{TellsText, ComesWhere}
 
 -- the error that tells a refusal

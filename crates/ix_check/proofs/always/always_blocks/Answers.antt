@@ -1,4 +1,4 @@
-use Rattle.std.proofs.Common.{◌≡◌, ◌≤◌, ◌+◌, ◌∙◌, refl, sym, ap, subst, arith, rules, ℕ, List, [], ◌∷◌, map, drop, length, Result, Ok}
+use Rattle.std.proofs.Common.{◌≡◌, ◌≤◌, ◌+◌, ◌∙◌, refl, sym, ap, subst, arith, rules, ℕ, List, map, drop, length, Result, Ok}
 use Rattle.std.proofs.lemmas.List.{length_push}
 use Rattle.std.proofs.lemmas.Iterator.Adapters.{YieldsList-from_vec}
 use Rattle.std.proofs.lemmas.Iterator.Consumers.{YieldsList-turn, YieldsList-end}
@@ -8,7 +8,7 @@ use Rattle.ix_tree.specs.TypedTrees.{TypedBlockTree}
 use Rattle.ix_tree.specs.View.{view_block}
 use Rattle.ix_tree.specs.TypedView.{typed_block}
 use Rattle.ix_typing.specs.declared.role.Named.{Named}
-use Rattle.ix_typing.specs.Refusals.{Refusal, Step, each}
+use Rattle.ix_typing.specs.Refusals.{each}
 use Rattle.ix_typing.specs.Texts.{judged_block}
 use Rattle.ix_typing.proofs.Listed.{behind, mapped_rest, mapped_past, mapped_push, each_start, each_step, each_end}
 use Rattle.ix_check_parts.proofs.Passing.{each_refuses}

@@ -1,4 +1,3 @@
-use Rattle.std.proofs.Common.{◌≡◌}
 use Rattle.ix_check.proofs.Behaviours.{fields_kept}
 use Rattle.ix_check.proofs.instruction.below_fields.Goals as goal
 

@@ -1,17 +1,13 @@
-use Rattle.std.proofs.Common.{◌≡◌, ◌≤◌, ◌+◌, ◌∙◌, refl, sym, ap, subst, arith, rules, ℕ, List, [], ◌∷◌, map, drop, length, Result, Ok}
+use Rattle.std.proofs.Common.{◌+◌, ◌∙◌, subst, rules, List, map, drop, length, Result}
 use Rattle.std.proofs.lemmas.List.{length_push}
 use Rattle.std.proofs.lemmas.Iterator.Adapters.{YieldsList-from_vec}
-use Rattle.std.proofs.lemmas.Iterator.Consumers.{YieldsList-turn, YieldsList-end}
+use Rattle.std.proofs.lemmas.Iterator.Consumers.{YieldsList-turn}
 use Rattle.ix_tree.specs.declared.typed.TypedSection.{TypedSection}
-use Rattle.ix_tree.specs.Trees.{SectionTree}
-use Rattle.ix_tree.specs.TypedTrees.{TypedSectionTree}
 use Rattle.ix_tree.specs.View.{view_section}
 use Rattle.ix_tree.specs.TypedView.{typed_section}
 use Rattle.ix_typing.specs.declared.role.Named.{Named}
-use Rattle.ix_typing.specs.Refusals.{Refusal, Step, each}
-use Rattle.ix_typing.specs.Texts.{global_state, judged_section, no_front}
-use Rattle.ix_typing.proofs.Listed.{behind, mapped_rest, mapped_past, mapped_push, each_start, each_step, each_end}
-use Rattle.ix_check_parts.specs.StateTelling.{items_of}
+use Rattle.ix_typing.specs.Texts.{global_state, judged_section}
+use Rattle.ix_typing.proofs.Listed.{mapped_rest, mapped_push, each_step}
 use Rattle.ix_check_parts.proofs.Passing.{each_refuses}
 use Rattle.ix_check.specs.Telling.{TellsSection}
 use Rattle.ix_check.proofs.text.sections.Goals as goal
