@@ -1,0 +1,4 @@
+pub mod Few
+pub mod Causes
+pub mod Stops
+pub mod Unique
