@@ -1,11 +1,16 @@
 -- Places of tokens.
 use Rattle.std.proofs.Common.{◌≡◌, ℕ, zero, suc, ◌<◌, ◌≤◌, List, [], ◌∷◌, length, get_or, map, refl, ap, sym, ◌∙◌, subst, arith}
+use Rattle.std.specs.Prelude.{Result, Ok, Err, IfOk, IfErr}
 use Rattle.std.proofs.lemmas.List.{length-map}
 use Rattle.ix_verilog.specs.declared.token.Token.{Token}
 use Rattle.ix_verilog.specs.declared.source.Source.{Source}
 use Rattle.ix_verilog.specs.Words.{Spells, words_of}
 use Rattle.ix_verilog.specs.Subset.{AreModules, IsWritten, LeavesAt, place_of_token}
 use Rattle.ix_vparse.specs.Answers.{Leaves}
+use Rattle.ix_vonce.specs.Names.{AllOnce, said}
+use Rattle.ix_vread.specs.declared.error.VErr.{VErr}
+use Rattle.ix_vread.specs.declared.error.VErr.TheVariants.{At, Twice, Memory}
+use Rattle.ix_vread.specs.Told.{IsTold, IsDoubled}
 
 -- a token by number
 pub place_here : (end k : ℕ) (ts : List Token) (t : Token) → k < length ts → t ≡ get_or ts k t → t.place ≡ place_of_token end k ts
@@ -39,3 +44,18 @@ leaves_at text ts k byte s l e =
 
 pub is_written : (text : List ℕ) (ts : List Token) (ms : List Source) → Spells 0 text ts → AreModules (words_of ts) ms → IsWritten text ms
 is_written text ts ms s a = record { tokens = ts; spelled = s; are = a }
+
+-- ---- modules whose names stand once
+pub then_written : (text : List ℕ) (ms : List Source) (r : Result (List Source) VErr) → IsWritten text ms → IfOk r (λ ns. (ns ≡ ms) × AllOnce (said [] ms)) → IfOk r (IsWritten text)
+then_written text ms (Ok ns) w h = subst (IsWritten text) (sym h.0) w
+then_written text ms (Err e) w h = tt
+
+pub then_once : (ms : List Source) (r : Result (List Source) VErr) → IfOk r (λ ns. (ns ≡ ms) × AllOnce (said [] ms)) → IfOk r (λ ns. AllOnce (said [] ns))
+then_once ms (Ok ns) h = subst (λ (z : List Source). AllOnce (said [] z)) (sym h.0) h.1
+then_once ms (Err e) h = tt
+
+pub then_told : (text : List ℕ) (ms : List Source) (r : Result (List Source) VErr) → IsWritten text ms → IfErr r (IsDoubled ms) → IfErr r (IsTold text)
+then_told text ms (Ok ns) w h = tt
+then_told text ms (Err (At byte)) w h = absurd h
+then_told text ms (Err (Twice name)) w h = (ms, w, h)
+then_told text ms (Err Memory) w h = tt

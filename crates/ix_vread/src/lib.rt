@@ -2,7 +2,9 @@
 #![tactic(auto)]
 
 mod error;
+mod laws;
 mod sources;
 
 pub use error::VErr;
+pub use laws::read_laws;
 pub use sources::sources_in;

@@ -1,11 +1,13 @@
-ghost use Rattle.std.specs.Prelude.{◌≡◌, ◌<◌, ◌^◌, length, IfOk, IfErr};
+ghost use Rattle.std.specs.Prelude.{◌≡◌, ◌<◌, ◌^◌, [], length, IfOk, IfErr};
 ghost use Rattle.ix_verilog.specs.Subset.{IsWritten, place_of_token};
-ghost use Rattle.ix_vread.specs.Told.{IsTold};
+ghost use Rattle.ix_vonce.specs.Names.{AllOnce, said};
+ghost use Rattle.ix_vread.specs.Told.{IsTold, IsDoubled};
 
 use crate::error::VErr;
 use ix_bits::List;
 use ix_verilog::{Source, Token};
 use ix_vlex::words_in;
+use ix_vonce::first_twice;
 use ix_vparse::{ParseErr, modules_in};
 use std::alloc::Global;
 
@@ -20,7 +22,7 @@ fn place_of(tokens: &[Token], number: usize, end: u32) -> u32
 }
 
 /// The modules that a text is, in their order. It has fewer than 2^32 bytes.
-pub fn sources_in(alloc: Global, bytes: &[u8]) -> Result<List<Source>, VErr>
+fn written_in(alloc: Global, bytes: &[u8]) -> Result<List<Source>, VErr>
     requires { length bytes.now < 2 ^ 32 }
     ensures written { IfOk result (IsWritten bytes.now) }
     ensures refused { IfErr result (IsTold bytes.now) }
@@ -35,5 +37,30 @@ pub fn sources_in(alloc: Global, bytes: &[u8]) -> Result<List<Source>, VErr>
             byte: place_of(tokens, word, bytes.len() as u32),
         }),
         Err(ParseErr::Memory) => Err(VErr::Memory),
+    }
+}
+
+/// The modules, where no name in them stands twice.
+fn once(alloc: Global, modules: List<Source>) -> Result<List<Source>, VErr>
+    ensures same { IfOk result (λ sources. (sources ≡ modules) × AllOnce (said [] modules)) }
+    ensures twice { IfErr result (IsDoubled modules) }
+{
+    match first_twice(alloc, modules.as_slice()) {
+        Ok(Some(name)) => Err(VErr::Twice { name }),
+        Ok(None) => Ok(modules),
+        Err(_) => Err(VErr::Memory),
+    }
+}
+
+/// The modules that a text is, in their order, where no name in them is declared or driven twice. The text has fewer than 2^32 bytes.
+pub fn sources_in(alloc: Global, bytes: &[u8]) -> Result<List<Source>, VErr>
+    requires { length bytes.now < 2 ^ 32 }
+    ensures written { IfOk result (IsWritten bytes.now) }
+    ensures once { IfOk result (λ modules. AllOnce (said [] modules)) }
+    ensures refused { IfErr result (IsTold bytes.now) }
+{
+    match written_in(alloc, bytes) {
+        Ok(modules) => once(alloc, modules),
+        Err(error) => Err(error),
     }
 }

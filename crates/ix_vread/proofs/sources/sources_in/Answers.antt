@@ -1,12 +1,11 @@
-use Rattle.std.proofs.Common.{subst, sym}
-use Rattle.ix_verilog.specs.Words.{Spells, words_of}
-use Rattle.ix_vparse.specs.Answers.{IsTold}
-use Rattle.ix_vread.proofs.Places.{leaves_at}
+use Rattle.ix_vread.proofs.Places.{then_once, then_written, then_told}
 use Rattle.ix_vread.proofs.sources.sources_in.Goals as goal
 
-pub returns-in-Err-At-clause-refused : goal.returns-in-Err-At-clause-refused
-returns-in-Err-At-clause-refused c =
-    let ts = c.as_slice-tokens.result.now in
-    let s = subst (λ z. Spells 0 c.args.bytes.now z) (sym c.as_slice-tokens.ensures) c.in-Ok.ensures in
-    let l = subst (λ e. IsTold (words_of ts) e) c.in-Err-At.field-0-is c.in-Err-At.ensures.refused in
-    leaves_at c.args.bytes.now ts c.in-Err-At.word c.place_of.result s l c.place_of.ensures
+pub returns-in-Ok-clause-written : goal.returns-in-Ok-clause-written
+returns-in-Ok-clause-written c = then_written c.args.bytes.now c.in-Ok.modules c.once.result c.in-Ok.ensures.written c.once.ensures.same
+
+pub returns-in-Ok-clause-once : goal.returns-in-Ok-clause-once
+returns-in-Ok-clause-once c = then_once c.in-Ok.modules c.once.result c.once.ensures.same
+
+pub returns-in-Ok-clause-refused : goal.returns-in-Ok-clause-refused
+returns-in-Ok-clause-refused c = then_told c.args.bytes.now c.in-Ok.modules c.once.result c.in-Ok.ensures.written c.once.ensures.twice

@@ -1,0 +1,6 @@
+ghost use Rattle.ix_vread.specs.Laws.{DenotedIsNotRefused};
+
+/// A law of the refusals. It does nothing: its contract is what it is for.
+pub fn read_laws()
+    ensures { DenotedIsNotRefused }
+{}
