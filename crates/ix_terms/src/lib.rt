@@ -1,0 +1,18 @@
+//! Behaviours run on terms: a store in which equal terms are shared as they are made.
+#![tactic(auto)]
+
+mod branch;
+mod make;
+mod merge;
+mod node;
+mod run;
+mod slots;
+mod source;
+mod store;
+mod targets;
+mod term;
+
+pub use node::Node;
+pub use source::Source;
+pub use store::Store;
+pub use targets::Target;
