@@ -9,7 +9,7 @@ use Rattle.ix_terms.specs.Targets.{entry_at, given, IsTargetAt, IsBelow, HasEntr
 use Rattle.ix_terms.proofs.Storing.{grown_at}
 use Rattle.ix_terms.proofs.Makes.{grows_on, grown_length, term_grown}
 
-entry_is : (c d v w a b : Term) → c ≡ d → v ≡ w → a ≡ b
+pub entry_is : (c d v w a b : Term) → c ≡ d → v ≡ w → a ≡ b
     → let x : Entry = record { condition = c; value = v; address = a } in
     let y : Entry = record { condition = d; value = w; address = b } in
     x ≡ y

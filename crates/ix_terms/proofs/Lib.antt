@@ -5,3 +5,5 @@ pub mod Loading
 pub mod Merged
 pub mod Entries
 pub mod Ending
+pub mod RunLoads
+pub mod Starting

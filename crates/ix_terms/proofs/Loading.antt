@@ -96,3 +96,7 @@ load_told ty f old mid new l0 l1 l2 slots p e a j n i s t h x w =
     let o = from_load ty f old mid new slots p a j n s t h in
     subst (HasLoads new l0 l2) (sym (ap (expression_loads (map (at old) slots) (at old p)) i))
     (loads_push mid new l0 l1 l2 _ (record { ty = ty; address = cast_to u32 (term (map (at old) slots) (at old p) a); condition = at old p }) n h.grows x o.within o.is w)
+
+pub both_ok : {A E : Type 0} (r : Result A E) (P Q S : Type 0) → (P → Q → S) → OnOk r P → OnOk r Q → OnOk r S
+both_ok (Ok a) P Q S f h g = f h g
+both_ok (Err e) P Q S f h g = tt

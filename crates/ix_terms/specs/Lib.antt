@@ -4,3 +4,4 @@ pub mod Stores
 pub mod Places
 pub mod Targets
 pub mod Ends
+pub mod Effected

@@ -2,6 +2,7 @@
 #![tactic(auto)]
 
 mod branch;
+mod effect;
 mod make;
 mod merge;
 mod node;
@@ -12,6 +13,7 @@ mod store;
 mod targets;
 mod term;
 
+pub use effect::{Effect, effect_of};
 pub use node::Node;
 pub use source::Source;
 pub use store::Store;

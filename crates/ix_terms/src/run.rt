@@ -19,7 +19,6 @@ use ix_mean::{ResolvedExpr, ResolvedStmt, Writing, holds};
 use std::alloc::Global;
 
 // Sets a slot to the value of an expression.
-#[tactic(none)]
 fn set(
     source: &Source,
     store: &mut Store,
@@ -43,7 +42,6 @@ fn set(
 }
 
 // A value of an expression in a type.
-#[tactic(none)]
 fn valued(
     source: &Source,
     store: &mut Store,
@@ -55,7 +53,7 @@ fn valued(
 ) -> Result<u32, Memory>
     requires placed { IsPlaced source.now (stock_of store.old) slots.now p }
     requires typed { IsTypedExpression (frame_of source.now.types) (view_expression source.now.tables e.now) }
-    ensures ends { IfOk result (λ k. HasValue source.now (stock_of store.old) (stock_of store.new) slots.now p ty (view_expression source.now.tables e.now) k) }
+    ensures value { IfOk result (λ k. HasValue source.now (stock_of store.old) (stock_of store.new) slots.now p ty (view_expression source.now.tables e.now) k) }
     ensures loads { OnOk result (HasLoads (stock_of store.new) loads.old.items loads.new.items (expression_loads (map (at (stock_of store.old)) slots.now) (at (stock_of store.old) p) (view_expression source.now.tables e.now))) }
 {
     let a = term(source, store, loads, slots, p, e)?;
@@ -63,7 +61,6 @@ fn valued(
 }
 
 // Writes a target.
-#[tactic(none)]
 fn write(
     source: &Source,
     store: &mut Store,
@@ -91,7 +88,6 @@ fn write(
 
 /// What a statement does on a path, on terms in the store. The terms of its loads are put behind `loads`.
 #[cycle(runs)]
-#[tactic(none)]
 pub fn run(
     alloc: Global,
     source: &Source,
@@ -145,8 +141,7 @@ pub fn run(
 
 // What the statements of a block do, in order.
 #[cycle(runs)]
-#[tactic(none)]
-fn run_all(
+pub fn run_all(
     alloc: Global,
     source: &Source,
     store: &mut Store,
@@ -176,7 +171,6 @@ pub struct Ends {
 
 // What a statement does to a copy of the state on one path; `other` is a path on which the state is to stand.
 #[cycle(runs)]
-#[tactic(none)]
 fn beside(
     alloc: Global,
     source: &Source,
@@ -217,7 +211,6 @@ fn copied(alloc: Global, slots: &[u32], targets: &[Target]) -> Result<Ends, Memo
 }
 
 // The condition of an `if`.
-#[tactic(none)]
 fn tested(
     source: &Source,
     store: &mut Store,
@@ -229,7 +222,7 @@ fn tested(
 ) -> Result<u32, Memory>
     requires ends { IsEnds source.now (stock_of store.old) slots.now targets.now p }
     requires typed { IsTypedExpression (frame_of source.now.types) (view_expression source.now.tables c.now) }
-    ensures ends { IfOk result (λ t. HasTest source.now (stock_of store.old) (stock_of store.new) slots.now targets.now p (view_expression source.now.tables c.now) t) }
+    ensures test { IfOk result (λ t. HasTest source.now (stock_of store.old) (stock_of store.new) slots.now targets.now p (view_expression source.now.tables c.now) t) }
     ensures loads { OnOk result (HasLoads (stock_of store.new) loads.old.items loads.new.items (expression_loads (map (at (stock_of store.old)) slots.now) (at (stock_of store.old) p) (view_expression source.now.tables c.now))) }
 {
     let a = term(source, store, loads, slots, p, c)?;
@@ -238,7 +231,6 @@ fn tested(
 
 // Both branches, and their ends merged.
 #[cycle(runs)]
-#[tactic(none)]
 fn branches(
     alloc: Global,
     source: &Source,
