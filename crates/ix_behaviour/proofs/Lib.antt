@@ -1,0 +1,5 @@
+mod Types
+mod Constants
+mod FieldTypes
+mod Seeing
+mod Expressions
