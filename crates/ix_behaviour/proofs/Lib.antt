@@ -3,3 +3,7 @@ mod Constants
 mod FieldTypes
 mod Seeing
 mod Expressions
+mod Stores
+mod Scopes
+mod Assigned
+mod Statements
