@@ -7,3 +7,4 @@ mod Stores
 mod Scopes
 mod Assigned
 mod Statements
+mod Globals
