@@ -8,3 +8,4 @@ mod Scopes
 mod Assigned
 mod Statements
 mod Globals
+mod Encodings
