@@ -1,5 +1,5 @@
 -- A typed assignment has its names resolved, and what it is resolved to is typed.
-use Rattle.std.proofs.Common.{◌≡◌, ◌∙◌, sym, ap, subst, refl, ℕ, suc, ◌+◌, ◌*◌, ◌^◌, ◌<◌, ◌≤◌, arith, List, [], ◌∷◌, length, map, get_or, Option, Some, None, Bool, true, false, cond, nat_eq}
+use Rattle.std.proofs.Common.{◌≡◌, ◌∙◌, sym, ap, subst, refl, ℕ, ◌+◌, ◌*◌, ◌≤◌, arith, List, length, get_or, Option, Some, None, Bool, true, false, cond, nat_eq}
 use Rattle.std.proofs.lemmas.Bool.{eqb-true, false≢true}
 use Rattle.std.proofs.lemmas.Nat.{pow_pos}
 use Rattle.ix_bits.specs.declared.number.Ty.{Ty}
@@ -17,21 +17,21 @@ use Rattle.ix_typing.specs.declared.state.State.{State}
 use Rattle.ix_typing.specs.declared.targets.Target.{Target}
 use Rattle.ix_typing.specs.Names.{role_of}
 use Rattle.ix_typing.specs.Expressions.{is_constant as is_constant_body, width_by, width_of_sum, width_loaded}
-use Rattle.ix_typing.specs.Assignments.{is_update, behind_write}
+use Rattle.ix_typing.specs.Assignments.{is_update}
 use Rattle.ix_typing.specs.SameTrees.{same_tree}
 use Rattle.ix_typing.proofs.Embedded.{embeds_true}
 use Rattle.ix_typed.specs.Expressions.{HasBinary, IsLoaded}
 use Rattle.ix_typed.specs.Assignments.{IsAssigned, IsPlace, GoesInto, IsAssign}
 use Rattle.ix_mean.specs.Core.{u1, u32, Expression, x_slot, x_read, type_of_expression, st_write}
 use Rattle.ix_mean.specs.Typing.{Frame, IsTypedExpression, IsTypedStatement}
-use Rattle.ix_mean.specs.ByName.{Names, Numbered, register_in}
+use Rattle.ix_mean.specs.ByName.{Names, Numbered}
 use Rattle.ix_mean.specs.Resolving.{Slot, slot_in, register_read, resolved, IsResolved}
 use Rattle.ix_mean.specs.ResolvingStatements.{Scope, operated, register_written, name_written, store_type, written, IsTarget}
-use Rattle.ix_behaviour.specs.Behaviours.{type_of_register, loads_in, stores_at, accesses_in}
+use Rattle.ix_behaviour.specs.Behaviours.{loads_in, stores_at, accesses_in}
 use Rattle.ix_behaviour.proofs.Types.{binary_is}
 use Rattle.ix_behaviour.proofs.FieldTypes.{ArePlaced}
 use Rattle.ix_behaviour.proofs.Seeing.{Stands, Sees}
-use Rattle.ix_behaviour.proofs.Expressions.{bit, frame_with, Sound, type_is, register_typed, sound, narrow_is}
+use Rattle.ix_behaviour.proofs.Expressions.{bit, frame_with, Sound, type_is, register_typed, sound}
 use Rattle.ix_behaviour.proofs.Stores.{Stores}
 
 -- ---- the width of a store is that of the range before it

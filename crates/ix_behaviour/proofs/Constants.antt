@@ -1,5 +1,5 @@
 -- The value that an expression of literals has in a loop's head is its number.
-use Rattle.std.proofs.Common.{◌≡◌, ◌∙◌, sym, ap, subst, refl, ℕ, ◌+◌, ◌-◌, ◌%◌, ◌^◌, ◌<◌, ◌≤◌, ℤ, pos, List, [], Option, Some, None, Bool, true, false, cond, ◌&&◌, ◌||◌, nat_eq}
+use Rattle.std.proofs.Common.{◌≡◌, ◌∙◌, sym, ap, subst, refl, ℕ, ◌+◌, ◌-◌, ◌%◌, ◌^◌, ◌<◌, ℤ, pos, List, [], Option, Some, None, Bool, true, false, cond, ◌&&◌, ◌||◌, nat_eq}
 use Rattle.std.specs.Prelude.{nat_lt, int_le, int_lt, unsigned_abs}
 use Rattle.std.proofs.lemmas.Bool.{eqb-true}
 use Rattle.std.proofs.Math.Nat.{mod-eq_of_lt}
@@ -11,10 +11,9 @@ use Rattle.ix_bits.specs.declared.operator.UnOp.TheVariants as U
 use Rattle.ix_bits.specs.NearTypes.{type_near, type_with}
 use Rattle.ix_bits.specs.ResultTypes.{is_mixed, widest, common_signed, common_width, binary_signed, binary_width, unary_signed, unary_width}
 use Rattle.ix_bits.specs.Operators.{pattern_of, value_of, fit, is_true, binary_number, unary_number, bits_between}
-use Rattle.ix_graph.specs.declared.kind.Kind.TheVariants as k
 use Rattle.ix_tree.specs.declared.expr.CastTo.{CastTo}
 use Rattle.ix_tree.specs.declared.expr.CastTo.TheVariants as C
-use Rattle.ix_tree.specs.LoopHeads.{Valued, valued, literal_value, unary_value, typed_binary, binary_value, cast_type, cast_number, cast_value, bits_at, bits_value, chosen, choice_value, head_value}
+use Rattle.ix_tree.specs.LoopHeads.{Valued, valued, literal_value, unary_value, binary_value, cast_type, cast_number, cast_value, bits_value, choice_value, head_value}
 use Rattle.ix_tree.specs.TypedTrees.{TypedExprTree, t_literal, t_name, t_pc, t_x, t_mem, t_index, t_range, t_unary, t_cast, t_binary, t_choose, type_of, erased}
 use Rattle.ix_typing.specs.declared.state.Setting.{Setting}
 use Rattle.ix_typing.specs.declared.state.State.{State}
@@ -24,7 +23,7 @@ use Rattle.ix_mean.specs.Meaning.{Inputs, one_number, number}
 use Rattle.ix_mean.specs.Typing.{is_constant}
 use Rattle.ix_mean.specs.ByName.{Names}
 use Rattle.ix_mean.specs.Resolving.{Slot, unary_kind, no_inputs, constant, bits, resolved_index, resolved_range, resolved}
-use Rattle.ix_behaviour.proofs.Types.{near_width, written_is, near_with}
+use Rattle.ix_behaviour.proofs.Types.{written_is, near_with}
 
 -- an expression of literals alone has this type and this number
 pub record IsValued (e : Expression) (ty : Ty) (v : Valued) : Type 0 where
@@ -81,7 +80,7 @@ unary_valued op e a ty x v h t f g = record {
   typed = refl;
   ty_is = t.1 ∙ ap (λ (r : Ty). type_near (unary_signed op r) (unary_width op r)) h.ty_is ∙ sym f;
   number_is = λ i s.
-  kind_is op (type_of_expression e) ty (number i s e) ∙ ap (λ (r : Ty). unary_number op r (number i s e)) (h.typed ∙ h.ty_is) ∙ ap (unary_number op x.ty) (h.number_is i s) ∙ g;
+      kind_is op (type_of_expression e) ty (number i s e) ∙ ap (λ (r : Ty). unary_number op r (number i s e)) (h.typed ∙ h.ty_is) ∙ ap (unary_number op x.ty) (h.number_is i s) ∙ g;
 }
 
 binary_parts : (op : BinOp) (o p : Option Valued) (v : Valued) (G : Type 0)
@@ -108,10 +107,10 @@ binary_valued op e f a b ty x y v h g t m n = record {
   typed = refl;
   ty_is = t.2 ∙ ap (λ (r : Ty). type_near (binary_signed op r b) (binary_width op r b)) h.ty_is ∙ ap (λ (r : Ty). type_near (binary_signed op x.ty r) (binary_width op x.ty r)) g.ty_is ∙ sym m;
   number_is = λ i s.
-  ap (λ (r : Ty). binary_number op r (number i s e) (type_of_expression f) (number i s f)) (h.typed ∙ h.ty_is)
-  ∙ ap (λ (r : Ty). binary_number op x.ty (number i s e) r (number i s f)) (g.typed ∙ g.ty_is)
-  ∙ ap (λ (z : ℤ). binary_number op x.ty z y.ty (number i s f)) (h.number_is i s)
-  ∙ ap (λ (z : ℤ). binary_number op x.ty x.number y.ty z) (g.number_is i s) ∙ n;
+      ap (λ (r : Ty). binary_number op r (number i s e) (type_of_expression f) (number i s f)) (h.typed ∙ h.ty_is)
+      ∙ ap (λ (r : Ty). binary_number op x.ty (number i s e) r (number i s f)) (g.typed ∙ g.ty_is)
+      ∙ ap (λ (z : ℤ). binary_number op x.ty z y.ty (number i s f)) (h.number_is i s)
+      ∙ ap (λ (z : ℤ). binary_number op x.ty x.number y.ty z) (g.number_is i s) ∙ n;
 }
 
 -- ---- casts
@@ -161,9 +160,9 @@ choice_valued d e f t a b ty c x y v h g k u m n = record {
   typed = refl;
   ty_is = u.1 ∙ ap (λ (r : Ty). type_near (common_signed r b) (common_width r b)) g.ty_is ∙ ap (λ (r : Ty). type_near (common_signed x.ty r) (common_width x.ty r)) k.ty_is ∙ sym m;
   number_is = λ i s.
-  ap (λ (z : ℤ). cond (is_true z) (number i s e) (number i s f)) (h.number_is i s)
-  ∙ ap (λ (z : ℤ). cond (is_true c.number) z (number i s f)) (g.number_is i s)
-  ∙ ap (λ (z : ℤ). cond (is_true c.number) x.number z) (k.number_is i s) ∙ n;
+      ap (λ (z : ℤ). cond (is_true z) (number i s e) (number i s f)) (h.number_is i s)
+      ∙ ap (λ (z : ℤ). cond (is_true c.number) z (number i s f)) (g.number_is i s)
+      ∙ ap (λ (z : ℤ). cond (is_true c.number) x.number z) (k.number_is i s) ∙ n;
 }
 
 -- ---- bits
@@ -203,10 +202,10 @@ bits_valued base d e a t u ty x h l v p q r m f g = record {
   typed = refl;
   ty_is = m ∙ sym f;
   number_is = λ i s.
-  ap (λ (n : ℕ). pos (bits_between (pattern_of (type_of_expression base).width (number i s base)) n (constant e))) (place_is d t h q)
-  ∙ ap (λ (n : ℕ). pos (bits_between (pattern_of (type_of_expression base).width (number i s base)) (unsigned_abs h.number) n)) (place_is e u l r)
-  ∙ ap (λ (b : Ty). pos (bits_between (pattern_of b.width (number i s base)) (unsigned_abs h.number) (unsigned_abs l.number))) (p.typed ∙ p.ty_is)
-  ∙ ap (λ (z : ℤ). pos (bits_between (pattern_of x.ty.width z) (unsigned_abs h.number) (unsigned_abs l.number))) (p.number_is i s) ∙ g;
+      ap (λ (n : ℕ). pos (bits_between (pattern_of (type_of_expression base).width (number i s base)) n (constant e))) (place_is d t h q)
+      ∙ ap (λ (n : ℕ). pos (bits_between (pattern_of (type_of_expression base).width (number i s base)) (unsigned_abs h.number) n)) (place_is e u l r)
+      ∙ ap (λ (b : Ty). pos (bits_between (pattern_of b.width (number i s base)) (unsigned_abs h.number) (unsigned_abs l.number))) (p.typed ∙ p.ty_is)
+      ∙ ap (λ (z : ℤ). pos (bits_between (pattern_of x.ty.width z) (unsigned_abs h.number) (unsigned_abs l.number))) (p.number_is i s) ∙ g;
 }
 
 none_bits : (p q : Option Valued) (v : Valued) (G : Type 0) → bits_value None p q ≡ Some v → G

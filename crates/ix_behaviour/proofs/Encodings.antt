@@ -1,10 +1,9 @@
 -- The fields of a typed instruction: the type of a field is that of its highest bit, and its pieces stand apart and in the word.
-use Rattle.std.proofs.Common.{◌≡◌, ◌≢◌, ◌∙◌, sym, ap, subst, refl, ℕ, suc, ◌+◌, ◌-◌, ◌<◌, ◌≤◌, arith, min, max, List, [], ◌∷◌, ◌++◌, Option, Some, None, Bool, true, false, cond, ◌&&◌, ◌||◌, nat_eq, ◌⊎◌, inl, inr, rules}
+use Rattle.std.proofs.Common.{◌≡◌, ◌∙◌, sym, ap, subst, refl, ℕ, ◌+◌, ◌<◌, ◌≤◌, arith, max, List, [], ◌∷◌, Option, Some, None, Bool, true, false, cond, ◌&&◌, ◌||◌, nat_eq, ◌⊎◌, inl, inr, rules}
 use Rattle.std.specs.Prelude.{nat_lt, nat_le}
 use Rattle.std.specs.List.{list_any}
-use Rattle.std.proofs.lemmas.Bool.{ltb-false, ltb-true, leb-false, and_parts, false≢true, cond_both}
+use Rattle.std.proofs.lemmas.Bool.{ltb-false, ltb-true, leb-false, false≢true, cond_both}
 use Rattle.ix_bits.specs.declared.number.Ty.{Ty}
-use Rattle.ix_bits.specs.NearTypes.{type_near}
 use Rattle.ix_tree.specs.Lexing.{same_bytes}
 use Rattle.ix_tree.specs.declared.token.Span.{Span}
 use Rattle.ix_tree.specs.declared.extension.Piece.{Piece}
@@ -17,9 +16,9 @@ use Rattle.ix_typing.specs.declared.role.Field.{Field}
 use Rattle.ix_typing.specs.declared.role.Named.{Named}
 use Rattle.ix_typing.specs.Names.{role_of, or_else}
 use Rattle.ix_typing.specs.Refusals.{Refusal, range}
-use Rattle.ix_typing.specs.Texts.{Fields, with_piece, fields, field_fault, piece_fault, pieces_fault, or_fault, grown, no_field, field_so_far}
+use Rattle.ix_typing.specs.Texts.{with_piece, fields, field_fault, piece_fault, pieces_fault, or_fault, grown, no_field, field_so_far}
 use Rattle.ix_extension.specs.Encodings.{width_of, bits_of, placed, pieces_of as pieces_in, gives_again, has_field_twice}
-use Rattle.ix_mean.specs.Resolving.{pieces_of, insert, ordered, top_of, AreOrdered, IsField, IsFieldOf}
+use Rattle.ix_mean.specs.Resolving.{pieces_of, insert, ordered, top_of, AreOrdered, IsFieldOf}
 use Rattle.ix_behaviour.proofs.Types.{near_self}
 use Rattle.ix_behaviour.proofs.FieldTypes.{ArePlaced}
 use Rattle.ix_behaviour.proofs.Scopes.{same_equal, role_behind}
@@ -56,7 +55,7 @@ highest [] = 0
 highest (p ∷ ps) = max (p.hi + 1) (highest ps)
 
 -- what the name of a field stands for, by its pieces
-abbrev FieldIs : List Named → List ℕ → List Piece → Option Role → Type 0
+abbrev pub FieldIs : List Named → List ℕ → List Piece → Option Role → Type 0
 FieldIs names n [] o = o ≡ role_of names n
 FieldIs names n (q ∷ qs) o = (f : Field) × (o ≡ Some (R.Field f)) × (f.ty.signed ≡ false) × (f.ty.width ≡ highest (q ∷ qs)) × (highest (q ∷ qs) ≤ 32) × (role_of names n ≡ None)
 

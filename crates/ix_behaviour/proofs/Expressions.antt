@@ -1,5 +1,5 @@
 -- A typed expression has its names resolved, and what it is resolved to is typed.
-use Rattle.std.proofs.Common.{◌≡◌, ◌∙◌, sym, ap, subst, refl, ℕ, suc, ◌+◌, ◌-◌, ◌^◌, ◌<◌, ◌≤◌, arith, ℤ, pos, List, [], ◌∷◌, length, map, get_or, Option, Some, None, Bool, true, false, cond, ◌||◌, ◌⊎◌, inl, inr, not, ◌&&◌}
+use Rattle.std.proofs.Common.{◌≡◌, ◌∙◌, sym, ap, subst, refl, ℕ, suc, ◌+◌, ◌-◌, ◌^◌, ◌<◌, ◌≤◌, arith, pos, List, [], ◌∷◌, length, map, get_or, Option, Some, None, Bool, true, false, cond, ◌||◌, ◌⊎◌, inl, inr, not}
 use Rattle.std.specs.Prelude.{unsigned_abs, int_le, int_lt, nat_eq, nat_le}
 use Rattle.std.proofs.lemmas.Bool.{cond_both, leb-true, and_parts, false≢true}
 use Rattle.std.proofs.lemmas.Nat.{pow_pos, mod_below}
@@ -12,7 +12,6 @@ use Rattle.ix_bits.specs.declared.operator.BinOp.TheVariants as Op
 use Rattle.ix_bits.specs.NearTypes.{type_near}
 use Rattle.ix_bits.specs.ResultTypes.{Embeds}
 use Rattle.ix_graph.specs.declared.kind.Kind.TheVariants as k
-use Rattle.ix_tree.specs.declared.extension.Piece.{Piece}
 use Rattle.ix_tree.specs.declared.token.Span.{Span}
 use Rattle.ix_tree.specs.LoopHeads.{Valued, head_value}
 use Rattle.ix_tree.specs.Trees.{ExprTree, e_literal, e_name, e_pc, e_x, e_mem, e_index, e_range, e_unary, e_cast, e_binary, e_choose}
@@ -23,21 +22,20 @@ use Rattle.ix_typing.specs.declared.role.Shape.{Shape}
 use Rattle.ix_typing.specs.declared.state.Setting.{Setting}
 use Rattle.ix_typing.specs.declared.state.State.{State}
 use Rattle.ix_typing.specs.Names.{role_of}
-use Rattle.ix_typing.specs.Expressions.{embeds, is_constant as is_constant_body, as_table, table, field_of, lies_in_source, is_always_below, is_constant_below, width_by, width_of_sum, width_loaded}
+use Rattle.ix_typing.specs.Expressions.{is_constant as is_constant_body, as_table, table, field_of, lies_in_source, is_always_below, is_constant_below, width_by, width_of_sum, width_loaded}
 use Rattle.ix_typing.proofs.Embedded.{embeds_true}
-use Rattle.ix_typed.specs.Expressions.{IsRead as IsReadName, HasUnary, HasBinary, HasCommon, AreBits, IsLoaded, IsTableOr, IsBase, IsWord, IsEntryOrBit as IsElementOf, IsElement, IsRange as IsRangeOf, IsExpr}
+use Rattle.ix_typed.specs.Expressions.{IsRead as IsReadName, HasUnary, AreBits, IsLoaded, IsTableOr, IsBase, IsWord, IsEntryOrBit as IsElementOf, IsElement, IsRange as IsRangeOf, IsExpr}
 use Rattle.ix_types.specs.Results.{IsBinaryType, IsCommon}
 use Rattle.ix_mean.specs.Core.{u1, u32, Expression, x_read, x_load, type_of_expression}
-use Rattle.ix_mean.specs.Meaning.{Inputs, number}
-use Rattle.ix_mean.specs.Typing.{Frame, IsRead, IsPart, IsOne, IsIndexOf, IsConstantIndex, AreEntriesOf, IsTypedExpression}
+use Rattle.ix_mean.specs.Typing.{Frame, IsPart, IsOne, IsIndexOf, IsConstantIndex, AreEntriesOf, IsTypedExpression}
 use Rattle.ix_mean.specs.ByName.{Names, Numbered, register_in, Entries, table_in, stands_at_15}
-use Rattle.ix_mean.specs.Resolving.{Slot, slot_in, operand_expression, register_read, resolved_other, resolved_name, unary_kind, no_inputs, constant, bits, resolved_entry, resolved_index, resolved_range, resolved, IsOther, IsName, IsPlace, IsEntryOrBit, IsIndex, IsRange, IsResolved}
+use Rattle.ix_mean.specs.Resolving.{Slot, slot_in, operand_expression, resolved_other, resolved_name, unary_kind, no_inputs, constant, bits, resolved_entry, resolved_index, resolved_range, resolved, IsOther, IsName, IsPlace, IsEntryOrBit, IsIndex, IsRange, IsResolved}
 use Rattle.ix_mean.proofs.Resolvings.{type_kept}
 use Rattle.ix_behaviour.specs.Behaviours.{type_of_register, loads_in}
 use Rattle.ix_behaviour.proofs.Types.{near_width, unary_is, binary_is, common_is}
 use Rattle.ix_behaviour.proofs.Constants.{IsValued, values, place_is}
 use Rattle.ix_behaviour.proofs.FieldTypes.{ArePlaced, field_typed}
-use Rattle.ix_behaviour.proofs.Seeing.{positive_is, order_is, least_is, below_is, IsPlaced, placed_in, Stands, Sees}
+use Rattle.ix_behaviour.proofs.Seeing.{positive_is, order_is, least_is, below_is, placed_in, Stands, Sees}
 
 -- MEM occurs before, or not
 abbrev pub bit : Bool → ℕ
@@ -259,7 +257,6 @@ module _ (ns : Names) (slots : List Ty) (m : Ty) (few : length ns.registers ≤ 
         by : (is_always_below (type_of i) len ≡ true) ⊎ (is_constant_below o len ≡ true) → IsIndexOf es (type_of_expression (resolved ns ls i)) ⊎ IsConstantIndex es (resolved ns ls i)
         by (inl f) = inl (always f)
         by (inr f) = inr (at o e f)
-
 
     -- ---- indices
     -- what an index is resolved to is sound

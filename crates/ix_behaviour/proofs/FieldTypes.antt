@@ -1,10 +1,8 @@
 -- The concatenation that a field is resolved to is typed.
-use Rattle.std.proofs.Common.{◌≡◌, ◌∙◌, sym, ap, subst, refl, ℕ, zero, suc, ◌+◌, ◌-◌, ◌^◌, ◌<◌, ◌≤◌, arith, Bool, true, false, Option, Some, None, List, [], ◌∷◌}
+use Rattle.std.proofs.Common.{◌≡◌, ◌∙◌, subst, refl, ℕ, zero, suc, ◌+◌, ◌-◌, ◌<◌, ◌≤◌, arith, false, Option, Some, None, List, [], ◌∷◌}
 use Rattle.std.specs.Prelude.{nat_lt}
 use Rattle.std.proofs.lemmas.Bool.{cond_both}
 use Rattle.std.proofs.lemmas.Nat.{pow_pos}
-use Rattle.ix_bits.specs.declared.number.Ty.{Ty}
-use Rattle.ix_bits.specs.declared.operator.BinOp.TheVariants.{Concat}
 use Rattle.ix_bits.specs.NearTypes.{type_near}
 use Rattle.ix_tree.specs.declared.extension.Piece.{Piece}
 use Rattle.ix_tree.specs.Lexing.{same_bytes}

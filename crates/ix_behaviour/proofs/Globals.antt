@@ -1,16 +1,14 @@
 -- The registers and tables of a typed text: what a name stands for in typing is the register or table of its extension.
-use Rattle.std.proofs.Common.{◌≡◌, ◌∙◌, sym, ap, subst, refl, ℕ, suc, ◌+◌, ◌^◌, ◌<◌, ◌≤◌, arith, ℤ, pos, List, [], ◌∷◌, ◌++◌, length, map, Option, Some, None, Bool, true, false, cond, nat_eq}
-use Rattle.std.specs.Prelude.{All}
+use Rattle.std.proofs.Common.{◌≡◌, ◌∙◌, sym, ap, subst, refl, ℕ, suc, ◌+◌, ◌^◌, ◌<◌, arith, pos, List, [], ◌∷◌, ◌++◌, length, map, Option, Some, None, Bool, true, false, cond}
 use Rattle.std.proofs.lemmas.Bool.{eqb-true, false≢true}
 use Rattle.std.proofs.lemmas.List.{append-nil, map-append, length-map}
 use Rattle.std.proofs.lemmas.List.Elements.{All-nil, All-cons}
 use Rattle.ix_bits.specs.declared.number.Ty.{Ty}
-use Rattle.ix_bits.specs.declared.number.Bits.{Bits}
 use Rattle.ix_tree.specs.Lexing.{same_bytes}
 use Rattle.ix_tree.specs.LoopHeads.{Valued, head_value}
 use Rattle.ix_tree.specs.declared.extension.Register.{Register}
 use Rattle.ix_tree.specs.declared.extension.Table.{Table}
-use Rattle.ix_tree.specs.Trees.{StateTree, StateKindTree, k_register, k_table}
+use Rattle.ix_tree.specs.Trees.{StateTree}
 use Rattle.ix_tree.specs.TypedTrees.{TypedExprTree, TypedStateTree, TypedStateKindTree, tk_register, tk_table, TypedSectionTree, TypedSectionKindTree, tk_states, tk_instructions, tk_always, erased, erased_state, erased_state_kind, erased_section, erased_section_kind}
 use Rattle.ix_typing.specs.declared.role.Role.{Role}
 use Rattle.ix_typing.specs.declared.role.Role.TheVariants as R
@@ -20,7 +18,7 @@ use Rattle.ix_typing.specs.declared.state.Front.{Front}
 use Rattle.ix_typing.specs.Names.{role_of, or_else}
 use Rattle.ix_typing.specs.Texts.{nearest, role_by, unless_declared, declared_state, declared_states, states_of, globals, is_numbered}
 use Rattle.ix_typed.specs.Texts.{IsStateKind, AreStates, IsKind, AreSections}
-use Rattle.ix_extension.specs.Extensions.{states_in, all_states, pattern, constant_in, entry, initial, with_register, registers_of, with_table, tables_of}
+use Rattle.ix_extension.specs.Extensions.{states_in, all_states, pattern, constant_in, entry, with_register, registers_of, with_table, tables_of}
 use Rattle.ix_mean.specs.View.{raw_of}
 use Rattle.ix_mean.specs.Typing.{AreEntriesOf}
 use Rattle.ix_mean.specs.ByName.{Numbered, register_in, Entries, table_in}

@@ -9,3 +9,5 @@ mod Assigned
 mod Statements
 mod Globals
 mod Encodings
+mod Accesses
+mod Extensions

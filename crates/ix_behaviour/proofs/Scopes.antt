@@ -1,5 +1,5 @@
 -- Slots that come later stand behind those before, and names that are declared.
-use Rattle.std.proofs.Common.{◌≡◌, ◌∙◌, sym, ap, subst, refl, ℕ, suc, ◌+◌, ◌<◌, ◌≤◌, arith, List, [], ◌∷◌, ◌++◌, length, get_or, Option, Some, None, Bool, true, false, cond, ◌&&◌, nat_eq, append_assoc}
+use Rattle.std.proofs.Common.{◌≡◌, ◌∙◌, sym, ap, subst, refl, ℕ, ◌<◌, arith, List, [], ◌∷◌, ◌++◌, length, get_or, Option, Some, None, Bool, true, false, cond, nat_eq, append_assoc}
 use Rattle.std.proofs.lemmas.Bool.{eqb-true, and_parts}
 use Rattle.std.proofs.lemmas.List.{append-nil}
 use Rattle.ix_bits.specs.declared.number.Ty.{Ty}
@@ -47,7 +47,7 @@ pub record Begins (a b : List Ty) : Type 0 where
   pub more : List Ty
   pub is : b ≡ a ++ more
 
-begins_same : (a : List Ty) → Begins a a
+pub begins_same : (a : List Ty) → Begins a a
 begins_same a = record { more = []; is = sym (append-nil a) }
 
 pub begins_on : (a b c : List Ty) → Begins a b → Begins b c → Begins a c

@@ -1,5 +1,5 @@
 -- What names stand for in typing is what they are resolved to.
-use Rattle.std.proofs.Common.{◌≡◌, ◌∙◌, sym, ap, subst, refl, ℕ, suc, ◌+◌, ◌^◌, ◌<◌, ◌≤◌, arith, ℤ, pos, negsuc, List, [], ◌∷◌, length, map, get_or, Option, Some, None, Bool, true, false, cond}
+use Rattle.std.proofs.Common.{◌≡◌, ◌∙◌, sym, ap, refl, ℕ, suc, ◌+◌, ◌<◌, ◌≤◌, arith, ℤ, pos, negsuc, List, [], ◌∷◌, length, map, get_or, Option, Some, None, Bool, true, false, cond}
 use Rattle.std.specs.Prelude.{unsigned_abs, int_le, int_lt}
 use Rattle.std.proofs.lemmas.Bool.{leb-true, le-leb, ltb-true}
 use Rattle.ix_bits.specs.declared.number.Ty.{Ty}
@@ -9,8 +9,8 @@ use Rattle.ix_typing.specs.declared.role.Role.{Role}
 use Rattle.ix_typing.specs.declared.role.Role.TheVariants as R
 use Rattle.ix_typing.specs.declared.role.Named.{Named}
 use Rattle.ix_typing.specs.Names.{role_of}
-use Rattle.ix_mean.specs.Core.{u1, u32}
-use Rattle.ix_mean.specs.Typing.{Frame, AreEntriesOf}
+use Rattle.ix_mean.specs.Core.{u1}
+use Rattle.ix_mean.specs.Typing.{AreEntriesOf}
 use Rattle.ix_mean.specs.ByName.{Names, Numbered, register_in, Entries, table_in}
 use Rattle.ix_mean.specs.Resolving.{Slot, slot_in, IsFieldOf}
 use Rattle.ix_behaviour.specs.Behaviours.{type_of_register}

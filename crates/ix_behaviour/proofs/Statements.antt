@@ -1,5 +1,5 @@
 -- A typed statement has its names resolved, and what it is resolved to is typed.
-use Rattle.std.proofs.Common.{◌≡◌, ◌∙◌, sym, ap, subst, refl, ℕ, ◌+◌, ◌^◌, ◌<◌, ◌≤◌, arith, List, [], ◌∷◌, ◌++◌, length, take, get_or, Option, Some, None, Bool, true, false, append_assoc}
+use Rattle.std.proofs.Common.{◌≡◌, ◌∙◌, sym, ap, subst, ℕ, ◌+◌, ◌≤◌, arith, List, [], ◌∷◌, ◌++◌, length, Option, Some, None, Bool, true, false, append_assoc}
 use Rattle.std.proofs.lemmas.Nat.{pow_pos}
 use Rattle.std.proofs.lemmas.List.{append-nil}
 use Rattle.ix_bits.specs.declared.number.Ty.{Ty}
@@ -9,14 +9,13 @@ use Rattle.ix_tree.specs.TypedTrees.{TypedExprTree, TypedDeclTree, TypedStmtTree
 use Rattle.ix_typing.specs.declared.role.Named.{Named}
 use Rattle.ix_typing.specs.declared.state.Setting.{Setting}
 use Rattle.ix_typing.specs.declared.state.State.{State}
-use Rattle.ix_typing.specs.Names.{role_of}
-use Rattle.ix_typing.specs.Expressions.{embeds, is_constant as is_constant_body}
-use Rattle.ix_typing.specs.Statements.{with_accessed, with_local, with_spawn, scope_end, other_path, both_paths, below_if, below_spawn}
+use Rattle.ix_typing.specs.Expressions.{is_constant as is_constant_body}
+use Rattle.ix_typing.specs.Statements.{with_accessed, with_local, with_spawn, scope_end, other_path, below_if, below_spawn}
 use Rattle.ix_typing.proofs.Embedded.{embeds_true}
 use Rattle.ix_typing.proofs.Scopes.{Grows, front_is}
 use Rattle.ix_typed.specs.Expressions.{IsWritten}
-use Rattle.ix_typed.specs.Statements.{IsInitial as IsInitialOf, IsDecl, AreDecls, IsStmt, IsRow}
-use Rattle.ix_mean.specs.Core.{u1, Expression, type_of_expression}
+use Rattle.ix_typed.specs.Statements.{IsInitial as IsInitialOf, AreDecls, IsStmt, IsRow}
+use Rattle.ix_mean.specs.Core.{type_of_expression}
 use Rattle.ix_mean.specs.EffectByName.{type_of_text}
 use Rattle.ix_mean.specs.Typing.{Frame, IsTypedExpression, IsTypedStatement}
 use Rattle.ix_mean.specs.ByName.{Names}
@@ -26,10 +25,10 @@ use Rattle.ix_behaviour.specs.Behaviours.{loads_in, accesses_in}
 use Rattle.ix_behaviour.proofs.Types.{text_is}
 use Rattle.ix_behaviour.proofs.FieldTypes.{ArePlaced}
 use Rattle.ix_behaviour.proofs.Seeing.{Sees}
-use Rattle.ix_behaviour.proofs.Expressions.{bit, frame_with, Sound, type_is, sound}
+use Rattle.ix_behaviour.proofs.Expressions.{bit, frame_with, type_is, sound}
 use Rattle.ix_behaviour.proofs.Stores.{Stores}
-use Rattle.ix_behaviour.proofs.Scopes.{Begins, begins_on, begins_declarations, begins, begins_row, HasSlot, has_slot, sees_local}
-use Rattle.ix_behaviour.proofs.Assigned.{AssignSound, assign_sound}
+use Rattle.ix_behaviour.proofs.Scopes.{Begins, begins_on, begins_declarations, begins, begins_row, has_slot, sees_local}
+use Rattle.ix_behaviour.proofs.Assigned.{assign_sound}
 
 -- ---- names that grow
 grows_same : (a : List Named) → Grows a a

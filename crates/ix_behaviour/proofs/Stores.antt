@@ -1,9 +1,8 @@
 -- Where at most one access of memory stands, all stores have one type.
-use Rattle.std.proofs.Common.{◌≡◌, ◌∙◌, sym, ap, refl, ℕ, ◌+◌, ◌≤◌, arith, Option, Some, None, Bool, true, false, cond, nat_eq}
-use Rattle.std.proofs.lemmas.Bool.{eqb-true}
+use Rattle.std.proofs.Common.{◌≡◌, ap, refl, ℕ, ◌+◌, ◌≤◌, arith, Option, Some, None, Bool, true, false, cond, nat_eq}
 use Rattle.ix_bits.specs.declared.number.Ty.{Ty}
 use Rattle.ix_mean.specs.Core.{Statement, st_skip, st_then, st_set, st_write, st_if}
-use Rattle.ix_behaviour.specs.Behaviours.{first_of, stored_in, or_byte, stored_type, loads_in, stores_at, accesses_in}
+use Rattle.ix_behaviour.specs.Behaviours.{first_of, stored_in, or_byte, stored_type, loads_in, accesses_in}
 
 -- each store has the type m
 abbrev pub Stores : Ty → Statement → Type 0

@@ -1,12 +1,12 @@
 -- The types of typing are those of meaning.
-use Rattle.std.proofs.Common.{◌≡◌, ◌∙◌, sym, ap, refl, ℕ, ◌≤◌, arith, Bool, true, false, Option, Some, None}
+use Rattle.std.proofs.Common.{◌≡◌, ◌∙◌, sym, ap, refl, ℕ, ◌≤◌, arith, Bool, true, false, Some}
 use Rattle.ix_bits.specs.declared.number.Ty.{Ty}
 use Rattle.ix_bits.specs.declared.operator.BinOp.{BinOp}
 use Rattle.ix_bits.specs.declared.operator.BinOp.TheVariants.{Add, Sub, Mul, And, Or, Xor, Shl, Shr, Eq, Ne, Lt, Le, Gt, Ge, Land, Lor, Concat}
 use Rattle.ix_bits.specs.declared.operator.UnOp.{UnOp}
 use Rattle.ix_bits.specs.declared.operator.UnOp.TheVariants.{Neg, Not, Lnot}
-use Rattle.ix_bits.specs.NearTypes.{type_near, type_with, int_type}
-use Rattle.ix_bits.specs.ResultTypes.{Embeds, IsBinary, is_mixed, widest, common_signed, common_width, binary_signed, binary_width, unary_signed, unary_width}
+use Rattle.ix_bits.specs.NearTypes.{type_near, type_with}
+use Rattle.ix_bits.specs.ResultTypes.{widest, common_signed, common_width, binary_signed, binary_width, unary_signed, unary_width}
 use Rattle.ix_bits.proofs.InRange.{common_some}
 use Rattle.ix_bits.proofs.Same.{ty_is, type_with_is}
 use Rattle.ix_bits.proofs.Embeddings.{embeds_where, common_fits_left, common_fits_right, common_least}
