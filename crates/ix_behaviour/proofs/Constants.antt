@@ -32,7 +32,7 @@ pub record IsValued (e : Expression) (ty : Ty) (v : Valued) : Type 0 where
   pub ty_is : ty ≡ v.ty
   pub number_is : (i : Inputs) (s : List ℤ) → number i s e ≡ v.number
 
-some_same : {A : Type 0} (x y : A) → Some x ≡ Some y → x ≡ y
+pub some_same : {A : Type 0} (x y : A) → Some x ≡ Some y → x ≡ y
 some_same x y e = cc
 
 valued_parts : (o : Option Ty) (n : ℤ) (v : Valued) → valued o n ≡ Some v → (o ≡ Some v.ty) × (n ≡ v.number)
@@ -45,7 +45,7 @@ with_parts true t n v e = let h = valued_parts (Some t) n v e in (sym (some_same
 with_parts false t n v e = cc
 
 -- ---- literals
-literal_parts : (b : Bool) (w v : Valued) → cond b (Some w) None ≡ Some v → (b ≡ true) × (w ≡ v)
+pub literal_parts : (b : Bool) (w v : Valued) → cond b (Some w) None ≡ Some v → (b ≡ true) × (w ≡ v)
 literal_parts true w v e = (refl, some_same w v e)
 literal_parts false w v e = cc
 
@@ -63,7 +63,7 @@ literal_valued ty u b v h e =
     }
 
 -- ---- operators
-unary_parts : (op : UnOp) (o : Option Valued) (v : Valued) (G : Type 0)
+pub unary_parts : (op : UnOp) (o : Option Valued) (v : Valued) (G : Type 0)
     → ((x : Valued) → o ≡ Some x → v.ty ≡ type_near (unary_signed op x.ty) (unary_width op x.ty) → unary_number op x.ty x.number ≡ v.number → G) → unary_value op o ≡ Some v → G
 unary_parts op None v G h e = cc
 unary_parts op (Some x) v G h e = let p = with_parts _ (type_near (unary_signed op x.ty) (unary_width op x.ty)) _ v e in h x refl p.0 p.1
@@ -83,7 +83,7 @@ unary_valued op e a ty x v h t f g = record {
       kind_is op (type_of_expression e) ty (number i s e) ∙ ap (λ (r : Ty). unary_number op r (number i s e)) (h.typed ∙ h.ty_is) ∙ ap (unary_number op x.ty) (h.number_is i s) ∙ g;
 }
 
-binary_parts : (op : BinOp) (o p : Option Valued) (v : Valued) (G : Type 0)
+pub binary_parts : (op : BinOp) (o p : Option Valued) (v : Valued) (G : Type 0)
     → ((x y : Valued) → o ≡ Some x → p ≡ Some y → v.ty ≡ type_near (binary_signed op x.ty y.ty) (binary_width op x.ty y.ty) → binary_number op x.ty x.number y.ty y.number ≡ v.number → G)
     → binary_value op o p ≡ Some v → G
 binary_parts op None None v G h e = cc
@@ -114,7 +114,7 @@ binary_valued op e f a b ty x y v h g t m n = record {
 }
 
 -- ---- casts
-cast_parts : (to : CastTo) (o : Option Valued) (v : Valued) (G : Type 0) → ((x : Valued) → o ≡ Some x → cast_type to x.ty ≡ Some v.ty → fit v.ty x.number ≡ v.number → G) → cast_value to o ≡ Some v → G
+pub cast_parts : (to : CastTo) (o : Option Valued) (v : Valued) (G : Type 0) → ((x : Valued) → o ≡ Some x → cast_type to x.ty ≡ Some v.ty → fit v.ty x.number ≡ v.number → G) → cast_value to o ≡ Some v → G
 cast_parts to None v G h e = cc
 cast_parts to (Some x) v G h e = by (cast_type to x.ty) refl e
   where
@@ -125,7 +125,7 @@ cast_parts to (Some x) v G h e = by (cast_type to x.ty) refl e
         let t : ty ≡ v.ty = ap (λ (z : Valued). z.ty) same in
         h x refl (r ∙ ap Some t) (ap (λ (u : Ty). fit u x.number) (sym t) ∙ ap (λ (z : Valued). z.number) same)
 
-cast_is : (to : CastTo) (a ty u : Ty) → HasCast to a ty → cast_type to a ≡ Some u → ty ≡ u
+pub cast_is : (to : CastTo) (a ty u : Ty) → HasCast to a ty → cast_type to a ≡ Some u → ty ≡ u
 cast_is (C.Written t) a ty u h e = some_same ty u (sym (written_is t.kind ty h) ∙ e)
 cast_is C.Signed a ty u h e = h ∙ some_same (type_near true a.width) u (sym (near_with true a.width a.some_width a.most_width) ∙ e)
 cast_is C.Unsigned a ty u h e = h ∙ some_same (type_near false a.width) u (sym (near_with false a.width a.some_width a.most_width) ∙ e)
@@ -141,7 +141,7 @@ cast_valued to e a ty x v h t f g =
     }
 
 -- ---- choices
-choice_parts : (o p q : Option Valued) (v : Valued) (G : Type 0)
+pub choice_parts : (o p q : Option Valued) (v : Valued) (G : Type 0)
     → ((c x y : Valued) → o ≡ Some c → p ≡ Some x → q ≡ Some y → v.ty ≡ type_near (common_signed x.ty y.ty) (common_width x.ty y.ty) → cond (is_true c.number) x.number y.number ≡ v.number → G)
     → choice_value o p q ≡ Some v → G
 choice_parts None None None v G h e = cc
@@ -166,7 +166,7 @@ choice_valued d e f t a b ty c x y v h g k u m n = record {
 }
 
 -- ---- bits
-bits_parts : (o p q : Option Valued) (v : Valued) (G : Type 0)
+pub bits_parts : (o p q : Option Valued) (v : Valued) (G : Type 0)
     → ((x h l : Valued) → o ≡ Some x → p ≡ Some h → q ≡ Some l → v.ty ≡ type_near false (unsigned_abs h.number - unsigned_abs l.number + 1)
     → pos (bits_between (pattern_of x.ty.width x.number) (unsigned_abs h.number) (unsigned_abs l.number)) ≡ v.number → G)
     → bits_value o p q ≡ Some v → G
@@ -184,7 +184,7 @@ bits_parts (Some c) (Some x) (Some y) v G h e = by (int_le (pos 0) y.number && i
     by false f = cc
 
 -- the type that bits between these values have
-of_bits : (base : Ty) (o p : Option Valued) (ty : Ty) (h l : Valued) → AreBits base o p ty → o ≡ Some h → p ≡ Some l → ty ≡ type_near false (unsigned_abs h.number - unsigned_abs l.number + 1)
+pub of_bits : (base : Ty) (o p : Option Valued) (ty : Ty) (h l : Valued) → AreBits base o p ty → o ≡ Some h → p ≡ Some l → ty ≡ type_near false (unsigned_abs h.number - unsigned_abs l.number + 1)
 of_bits base o p ty h l a e f =
     let P : Option Valued → Type 0 = λ z. AreBits base z p ty in
     let Q : Option Valued → Type 0 = λ z. AreBits base (Some h) z ty in

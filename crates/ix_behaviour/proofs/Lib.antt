@@ -11,3 +11,4 @@ mod Globals
 mod Encodings
 mod Accesses
 mod Extensions
+mod Values

@@ -1,12 +1,17 @@
--- Laws of the behaviours of extensions that break no rule.
-use Rattle.std.specs.Prelude.{◌≡◌, ℕ, ◌+◌, ◌^◌, ◌<◌, ◌≤◌, List, [], ◌∷◌, length, Option, Some, None}
-use Rattle.ix_tree.specs.TypedTrees.{TypedStmtTree, TypedTextTree}
+-- Laws of the behaviours of extensions that break no rule, and of the values in loops' heads.
+use Rattle.std.specs.Prelude.{◌≡◌, ℕ, ◌+◌, ◌^◌, ◌<◌, ◌≤◌, ℤ, Bool, List, [], ◌∷◌, length, Option, Some, None}
+use Rattle.ix_tree.specs.LoopHeads.{Binding, Valued, value_in, head_value}
+use Rattle.ix_tree.specs.TypedTrees.{TypedExprTree, TypedStmtTree, TypedTextTree, type_of, erased}
+use Rattle.ix_typing.specs.declared.state.Setting.{Setting}
+use Rattle.ix_typing.specs.declared.state.State.{State}
+use Rattle.ix_typing.specs.Laws.{AreVariables}
+use Rattle.ix_typed.specs.Expressions.{IsExpr}
 use Rattle.ix_extension.specs.Extensions.{ExtensionTree}
 use Rattle.ix_extension.specs.WellFormed.{IsOf}
 use Rattle.ix_mean.specs.Meaning.{Inputs, Write}
 use Rattle.ix_mean.specs.Effects.{effect, effect_reads}
 use Rattle.ix_mean.specs.Typing.{IsTypedStatement}
-use Rattle.ix_mean.specs.ByName.{Names}
+use Rattle.ix_mean.specs.ByName.{Names, Local, local_in, table_in, number_by_name}
 use Rattle.ix_mean.specs.ResolvingStatements.{Scope, step, outside, IsResolvedStatement}
 use Rattle.ix_behaviour.specs.declared.which.Which.{Which}
 use Rattle.ix_behaviour.specs.Behaviours.{HasBehaviour, body_at, names_at, statement_at, frame_at, accesses_in, effect_by_name}
@@ -51,3 +56,24 @@ pub record IsFew (x : ExtensionTree) : Type 0 where
 
 abbrev pub FewLaw : Type 0
 FewLaw = (t : TypedTextTree) (x : ExtensionTree) → IsOf t x → IsFew x
+
+-- ---- loops' heads
+-- a loop's variable is a local with this number, and no table has its name
+pub record IsVariable (ns : Names) (ls : List Local) (n : List ℕ) (z : ℤ) : Type 0 where
+  pub variable : Local
+  pub is : local_in ls n ≡ Some variable
+  pub number_is : variable.number ≡ z
+  pub no_table : table_in 0 ns.tables n ≡ None
+
+abbrev pub HaveValues : Names → List Local → List Binding → Type 0
+HaveValues ns ls bs = (n : List ℕ) (z : ℤ) → value_in bs n ≡ Some z → IsVariable ns ls n z
+
+-- the expression has this type and this number
+pub record IsNumber (ns : Names) (i : Inputs) (ls : List Local) (e : TypedExprTree) (v : Valued) : Type 0 where
+  pub ty_is : type_of e ≡ v.ty
+  pub number_is : number_by_name ns i ls e ≡ v.number
+
+-- the value of a typed expression in a loop's head, if it has one, is its number where the loops' variables have their values
+abbrev pub ConstantsLaw : Type 0
+ConstantsLaw = (g : Setting) (st : State) (a c : Bool) (e : TypedExprTree) (bs : List Binding) (v : Valued) (ns : Names) (ls : List Local) (i : Inputs)
+    → AreVariables bs st → HaveValues ns ls bs → IsExpr g st a e c → head_value (erased e) bs ≡ Some v → IsNumber ns i ls e v

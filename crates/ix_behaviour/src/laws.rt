@@ -1,4 +1,4 @@
-ghost use Rattle.ix_behaviour.specs.Laws.{ResolvedLaw, TypedBehaviourLaw, BehaviourEffectLaw, OneAccessLaw, FewLaw};
+ghost use Rattle.ix_behaviour.specs.Laws.{ResolvedLaw, TypedBehaviourLaw, BehaviourEffectLaw, OneAccessLaw, FewLaw, ConstantsLaw};
 
 use ix_typed::form_laws;
 
@@ -12,3 +12,8 @@ pub fn behaviour_laws()
 {
     form_laws();
 }
+
+/// The value that an expression has in a loop's head is its number. It does nothing: its contract is what it is for.
+pub fn constants_law()
+    ensures { ConstantsLaw }
+{}
