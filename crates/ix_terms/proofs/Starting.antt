@@ -119,8 +119,7 @@ started f old mid new p slots targets ys zs ey ez h a b =
     ∙ ap (λ (z : List Entry). let s : Terms = record { slots = map zero_of_type f.types.slots; targets = z } in s) es in
     let state : IsState (frame_of f.types) (ends_at new slots targets) = subst (IsState (frame_of f.types)) (sym same) (start_of (frame_of f.types)) in
     let longs : length slots ≡ length f.types.slots = sym (length-map slots (at new)) ∙ ap (λ (z : List Term). length z) xs ∙ length-map f.types.slots zero_of_type in
-    let longt : length targets ≡ length f.types.targets = sym (length-map targets (entry_at new)) ∙ ap (λ (z : List Entry). length z) es ∙ length-map f.types.targets no_entry in
-    (
+    let longt : length targets ≡ length f.types.targets = sym (length-map targets (entry_at new)) ∙ ap (λ (z : List Entry). length z) es ∙ length-map f.types.targets no_entry in (
       g,
       path,
       same,
@@ -146,8 +145,7 @@ pub effect_told : (f : Source) (old mid new : Stock) (p : ℕ) (s1 s2 : List ℕ
     × (map (entry_at new) t2 ≡ (effect_terms (frame_of f.types) x).targets)
 effect_told f old mid new p s1 s2 t1 t2 l2 x e i h a b =
     let more : l2 ≡ b.more = b.whole in
-    let whole = a.is ∙ ap (λ (q : Term). run_terms q x (ends_at mid s1 t1)) e ∙ ap (run_terms one_term x) i in
-    (
+    let whole = a.is ∙ ap (λ (q : Term). run_terms q x (ends_at mid s1 t1)) e ∙ ap (run_terms one_term x) i in (
       a.grows.tables ∙ h.placed.tables_are,
       subst (AllByRecursion (λ k. k < size new)) (sym more) b.below,
       ap (map (at new)) more ∙ b.are ∙ ap (λ (q : Term). map load_root (loads q x (ends_at mid s1 t1))) e ∙ ap (λ (s : Terms). map load_root (loads one_term x s)) i,

@@ -104,11 +104,38 @@ pub fn run(
     ensures loads { OnOk result (HasLoads (stock_of store.new) loads.old.items loads.new.items (loads_of (at (stock_of store.old) p) (view_statement source.now.tables whole.now) (ends_at (stock_of store.old) slots.old.items targets.old.items))) }
 {
     match whole {
-        ResolvedStmt::Block(all) => run_all(alloc, source, store, loads, slots, targets, p, all.as_slice()),
-        ResolvedStmt::Set(k, ty, e) => set(source, store, loads, slots, targets.as_slice(), p, *k, *ty, e),
+        ResolvedStmt::Block(all) => run_all(
+            alloc,
+            source,
+            store,
+            loads,
+            slots,
+            targets,
+            p,
+            all.as_slice(),
+        ),
+        ResolvedStmt::Set(k, ty, e) => set(
+            source,
+            store,
+            loads,
+            slots,
+            targets.as_slice(),
+            p,
+            *k,
+            *ty,
+            e,
+        ),
         ResolvedStmt::Write(w) => write(source, store, loads, slots.as_slice(), targets, p, w),
         ResolvedStmt::If(c, x, y) => {
-            let t = tested(source, store, loads, slots.as_slice(), targets.as_slice(), p, c)?;
+            let t = tested(
+                source,
+                store,
+                loads,
+                slots.as_slice(),
+                targets.as_slice(),
+                p,
+                c,
+            )?;
             match constant_at(store, t) {
                 Some(v) => {
                     if holds(v) {
@@ -251,11 +278,18 @@ fn branches(
     match whole {
         ResolvedStmt::If(_, x, y) => {
             let b = split_path(source, store, slots, targets, p, t)?;
-            let first = beside(alloc, source, store, loads, slots, targets, b.first, b.second, x)?;
-            let second = beside(alloc, source, store, loads, slots, targets, b.second, b.second, y)?;
+            let first = beside(
+                alloc, source, store, loads, slots, targets, b.first, b.second, x,
+            )?;
+            let second = beside(
+                alloc, source, store, loads, slots, targets, b.second, b.second, y,
+            )?;
             joined(alloc, source, store, t, b, &first, &second)
         }
-        ResolvedStmt::Block(_) | ResolvedStmt::Set(_, _, _) | ResolvedStmt::Write(_) | ResolvedStmt::Spawn(_) => Err(Memory),
+        ResolvedStmt::Block(_)
+        | ResolvedStmt::Set(_, _, _)
+        | ResolvedStmt::Write(_)
+        | ResolvedStmt::Spawn(_) => Err(Memory),
     }
 }
 
