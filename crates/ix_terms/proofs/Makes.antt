@@ -1,5 +1,5 @@
 -- What is made by places is what is made of the terms there.
-use Rattle.std.proofs.Common.{◌≡◌, ℕ, ◌+◌, ◌-◌, ◌<◌, ◌≤◌, ◌^◌, refl, sym, ap, subst, ◌∙◌, arith, Bool, true, false, cond, List, [], ◌∷◌, ◌++◌, length, ℤ, pos, negsuc, ◌-ℤ◌, ⊎_elim, append_assoc, length-append, get_or, Result, Ok, Err}
+use Rattle.std.proofs.Common.{◌≡◌, ℕ, ◌+◌, ◌-◌, ◌<◌, ◌≤◌, ◌^◌, refl, sym, ap, subst, ◌∙◌, arith, Bool, true, false, cond, List, [], ◌++◌, length, ℤ, pos, negsuc, ◌-ℤ◌, ⊎_elim, append_assoc, length-append, get_or, Result, Ok, Err}
 use Rattle.std.specs.Prelude.{IfOk, unsigned_abs, int_lt}
 use Rattle.std.proofs.lemmas.Int.{ints}
 use Rattle.std.proofs.lemmas.Bool.{cases_lt}

@@ -13,7 +13,7 @@ use Rattle.ix_graph.specs.declared.kind.Kind.TheVariants.{Ne, RdMem}
 use Rattle.std.proofs.lemmas.Bool.{cond-true, cond-false}
 use Rattle.std.proofs.lemmas.List.{get_or_default}
 use Rattle.ix_types.specs.Results.{IsBinaryType}
-use Rattle.ix_mean.specs.Core.{u1, u32, Expression, x_slot, x_entry}
+use Rattle.ix_mean.specs.Core.{u1, u32, Expression, x_slot}
 use Rattle.ix_mean.specs.Terms.{Term, t_two, type_of, same_ty, zero_term, make_two, make_entry, make_mux, cast_to, condition, term}
 use Rattle.ix_mean.specs.View.{frame_of, patterns_of}
 use Rattle.ix_terms.specs.declared.source.Source.{Source}

@@ -1,16 +1,16 @@
 -- The loads of statements by the places of their terms.
-use Rattle.std.proofs.Common.{◌≡◌, ℕ, ◌<◌, refl, sym, ap, subst, ◌∙◌, Bool, true, false, cond, List, ◌++◌, map}
+use Rattle.std.proofs.Common.{◌≡◌, ℕ, refl, sym, ap, subst, ◌∙◌, Bool, true, false, cond, List, ◌++◌, map}
 use Rattle.ix_bits.specs.declared.number.Ty.{Ty}
 use Rattle.ix_bits.specs.Operators.{value_of, is_true}
 use Rattle.ix_graph.specs.declared.kind.Kind.TheVariants.{Lnot}
 use Rattle.ix_mean.specs.Core.{Expression, Statement, st_write, st_if}
-use Rattle.ix_mean.specs.Terms.{Term, t_const, t_read, t_one, t_entry, t_two, t_three, make_one, along, when, unless, test_term, Terms, Load, expression_loads, branch_loads, loads}
+use Rattle.ix_mean.specs.Terms.{Term, t_const, t_read, t_one, t_entry, t_two, t_three, make_one, along, when, unless, test_term, Terms, expression_loads, branch_loads, loads}
 use Rattle.ix_terms.specs.declared.source.Source.{Source}
 use Rattle.ix_terms.specs.declared.branch.Paths.{Paths}
 use Rattle.ix_terms.specs.declared.targets.Target.{Target}
-use Rattle.ix_terms.specs.Stores.{Stock, at, size, Grows, Has}
+use Rattle.ix_terms.specs.Stores.{Stock, at, Grows}
 use Rattle.ix_terms.specs.Places.{IsOperation, IsPlaced, HasLoads}
-use Rattle.ix_terms.specs.Ends.{ends_at, IsEnds, IsTest, HasTest, HasPaths, IsCopy, both_loads, first_of, second_of}
+use Rattle.ix_terms.specs.Ends.{ends_at, IsEnds, HasTest, HasPaths, IsCopy, both_loads, first_of, second_of}
 use Rattle.ix_terms.proofs.Storing.{grown_at}
 use Rattle.ix_terms.proofs.Makes.{grows_on}
 use Rattle.ix_terms.proofs.Loading.{loads_grown, loads_then, loads_on}

@@ -4,9 +4,9 @@ use Rattle.std.specs.List.{AllByRecursion}
 use Rattle.std.proofs.lemmas.List.{map-append, append-nil, drop_all, drop_more, length-map}
 use Rattle.ix_bits.specs.declared.number.Ty.{Ty}
 use Rattle.ix_mean.specs.Core.{u1, u32, Statement}
-use Rattle.ix_mean.specs.Terms.{Term, Terms, Entry, Load, zero_term, one_term, loads, run_terms}
+use Rattle.ix_mean.specs.Terms.{Term, Terms, Entry, zero_term, one_term, loads, run_terms}
 use Rattle.ix_mean.specs.Order.{load_root}
-use Rattle.ix_mean.specs.Typing.{IsOf, IsState, AreOf, AreEntries}
+use Rattle.ix_mean.specs.Typing.{IsOf, IsState}
 use Rattle.ix_mean.specs.Effects.{zero_of_type, no_entry, start, effect_terms}
 use Rattle.ix_mean.specs.View.{frame_of}
 use Rattle.ix_mean.proofs.Making.{one_of}
@@ -19,7 +19,7 @@ use Rattle.ix_terms.specs.Stores.{Stock, at, size, stock_of, Grows, Has}
 use Rattle.ix_terms.specs.Places.{HasAll, HasLoads}
 use Rattle.ix_terms.specs.Targets.{entry_at, IsBelow, HasEntry, HasTargets}
 use Rattle.ix_terms.specs.Ends.{ends_at, IsEnds, HasEnds}
-use Rattle.ix_terms.specs.Effected.{HasStart, IsStarted, HasEffect}
+use Rattle.ix_terms.specs.Effected.{HasStart, HasEffect}
 use Rattle.ix_terms.proofs.Storing.{grown_at}
 use Rattle.ix_terms.proofs.Makes.{grows_itself, grows_on, grown_length}
 use Rattle.ix_terms.proofs.Placing.{places_kept, below_kept, below_push}

@@ -9,7 +9,7 @@ use Rattle.ix_bits.specs.declared.number.Ty.{Ty}
 use Rattle.ix_bits.specs.declared.number.Bits.{Bits}
 use Rattle.ix_graph.specs.declared.kind.Kind.{Kind}
 use Rattle.ix_mean.specs.Core.{u1}
-use Rattle.ix_mean.specs.Terms.{Term, t_const, t_one, t_entry, t_two, t_three, zero_term, same_term}
+use Rattle.ix_mean.specs.Terms.{Term, t_one, t_entry, t_two, t_three, zero_term, same_term}
 use Rattle.ix_mean.specs.View.{patterns_of}
 use Rattle.ix_mean.proofs.Same.{same_term_is}
 use Rattle.ix_mean.proofs.Ordering.{term_same}

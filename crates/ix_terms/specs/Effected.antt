@@ -1,10 +1,9 @@
 -- The terms of a behaviour's effect, at places of a store.
-use Rattle.std.specs.Prelude.{◌≡◌, ℕ, ◌<◌, List, map}
+use Rattle.std.specs.Prelude.{◌≡◌, ℕ, ◌<◌, map}
 use Rattle.std.specs.List.{AllByRecursion}
-use Rattle.ix_mean.specs.Core.{u1, Statement}
+use Rattle.ix_mean.specs.Core.{Statement}
 use Rattle.ix_mean.specs.Terms.{one_term, loads}
 use Rattle.ix_mean.specs.Order.{load_root}
-use Rattle.ix_mean.specs.Typing.{IsState}
 use Rattle.ix_mean.specs.Effects.{start, effect_terms}
 use Rattle.ix_mean.specs.View.{frame_of}
 use Rattle.ix_terms.specs.declared.source.Source.{Source}

@@ -1,5 +1,5 @@
 -- When two nodes are one, and what is fed to a hasher (this project's choice).
-use Rattle.std.specs.Prelude.{ℕ, ◌++◌, Bool, false, ◌&&◌, nat_eq}
+use Rattle.std.specs.Prelude.{◌++◌, Bool, false, ◌&&◌, nat_eq}
 use Rattle.std.specs.Hash as fed
 use Rattle.ix_bits.specs.declared.number.Ty.{Ty}
 use Rattle.ix_graph.specs.declared.kind.Kind.{Kind}

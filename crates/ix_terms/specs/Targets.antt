@@ -1,5 +1,5 @@
 -- Targets by the places of their terms.
-use Rattle.std.specs.Prelude.{◌≡◌, ℕ, ◌<◌, List, length, map, Bool, if◌then◌else◌}
+use Rattle.std.specs.Prelude.{◌≡◌, ℕ, ◌<◌, List, map, Bool, if◌then◌else◌}
 use Rattle.std.specs.List.{AllByRecursion}
 use Rattle.ix_mean.specs.Terms.{Term, Entry, merge}
 use Rattle.ix_terms.specs.declared.targets.Target.{Target}

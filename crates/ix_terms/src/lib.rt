@@ -14,7 +14,9 @@ mod targets;
 mod term;
 
 pub use effect::{Effect, effect_of};
+pub use merge::is_bit;
 pub use node::Node;
 pub use source::Source;
 pub use store::Store;
 pub use targets::Target;
+pub use term::u1;

@@ -1,4 +1,3 @@
-use Rattle.ix_mean.specs.View.{frame_of}
 use Rattle.ix_terms.specs.Stores.{stock_of}
 use Rattle.ix_terms.proofs.Makes.{term_grown, grows_on}
 use Rattle.ix_terms.proofs.Ending.{place_term, test_on, path_term, turned_term, paths_made}

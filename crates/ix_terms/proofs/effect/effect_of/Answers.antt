@@ -1,4 +1,4 @@
-use Rattle.std.proofs.Common.{List, ℕ, sym, subst}
+use Rattle.std.proofs.Common.{sym, subst}
 use Rattle.ix_mean.specs.Core.{Statement}
 use Rattle.ix_mean.specs.Typing.{IsTypedStatement}
 use Rattle.ix_mean.specs.View.{frame_of}

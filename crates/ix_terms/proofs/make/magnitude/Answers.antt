@@ -1,4 +1,4 @@
-use Rattle.std.proofs.Common.{◌∙◌, ap, sym}
+use Rattle.std.proofs.Common.{◌∙◌, sym}
 use Rattle.ix_terms.proofs.Makes.{magnitude_of}
 use Rattle.ix_terms.proofs.make.magnitude.Goals as goal
 

@@ -1,6 +1,6 @@
 use Rattle.std.proofs.Common.{drop}
 use Rattle.ix_mean.specs.declared.resolved.ResolvedStmt.{Block}
-use Rattle.ix_mean.specs.View.{view_statement, view_statements, frame_of}
+use Rattle.ix_mean.specs.View.{view_statement, view_statements}
 use Rattle.ix_terms.specs.Stores.{stock_of}
 use Rattle.ix_terms.specs.Ends.{IsDoing}
 use Rattle.ix_terms.proofs.run.+runs.Given as goal

@@ -1,6 +1,5 @@
 use Rattle.std.proofs.Common.{List, subst, sym}
 use Rattle.std.specs.List.{AllByRecursion}
-use Rattle.ix_mean.specs.View.{frame_of}
 use Rattle.ix_terms.specs.declared.targets.Target.{Target}
 use Rattle.ix_terms.specs.Stores.{stock_of}
 use Rattle.ix_terms.specs.Places.{AreTermsAt}

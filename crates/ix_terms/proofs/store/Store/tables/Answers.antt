@@ -1,5 +1,5 @@
 use Rattle.std.proofs.Common.{◌∙◌, ap, sym}
-use Rattle.ix_terms.specs.Stores.{Held, stock_of}
+use Rattle.ix_terms.specs.Stores.{Held}
 use Rattle.ix_terms.proofs.Storing.{tables_kept}
 use Rattle.ix_terms.proofs.store.Store.tables.Goals as goal
 
