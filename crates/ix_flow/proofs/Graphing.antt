@@ -19,7 +19,7 @@ use Rattle.ix_mean.proofs.Ordering.{among_has, among_left, among_right, among_la
 use Rattle.ix_terms.specs.Stores.{Stock, at, size, AreDistinct}
 use Rattle.ix_terms.specs.Places.{IsOperation, IsTermAt}
 use Rattle.ix_flow.specs.Orders.{terms_at, IsOrder}
-use Rattle.ix_flow.specs.Flows.{kind_of_term, args_of_term, IsArgOf, AreArgsOf, IsOpOf, AreOpsOf}
+use Rattle.ix_flow.specs.Flows.{kind_of_term, args_of_term, IsArgOf, AreArgsOf, IsOpOf, AreOpsOf, flag_of}
 use Rattle.ix_flow.specs.Operands.{IsSound, IsOperandReady, IsArgReady, IsOpReady, AreOpsReady}
 use Rattle.ix_flow.proofs.Visiting.{listed}
 
@@ -93,10 +93,10 @@ pub one_given : (all : List Term) (a : Term) (x : Arg) (bs : List Arg) → IsArg
 one_given all a x bs h e = subst (AreArgsOf all (a ∷ [])) (sym e) (h, tt)
 
 pub two_given : (all : List Term) (a b : Term) (x y : Arg) (bs : List Arg) → IsArgOf all a x → IsArgOf all b y → bs ≡ x ∷ y ∷ [] → AreArgsOf all (a ∷ b ∷ []) bs
-two_given all a b x y bs h g e = subst (AreArgsOf all (a ∷ b ∷ [])) (sym e) (h, g, tt)
+two_given all a b x y bs h g e = subst (AreArgsOf all (a ∷ b ∷ [])) (sym e) (h, (g, tt))
 
 pub three_given : (all : List Term) (a b c : Term) (x y z : Arg) (bs : List Arg) → IsArgOf all a x → IsArgOf all b y → IsArgOf all c z → bs ≡ x ∷ y ∷ z ∷ [] → AreArgsOf all (a ∷ b ∷ c ∷ []) bs
-three_given all a b c x y z bs h g i e = subst (AreArgsOf all (a ∷ b ∷ c ∷ [])) (sym e) (h, g, i, tt)
+three_given all a b c x y z bs h g i e = subst (AreArgsOf all (a ∷ b ∷ c ∷ [])) (sym e) (h, (g, (i, tt)))
 
 -- a table that is read is there
 none_past : (tables : List (List Bits)) (n : ℕ) → length tables ≤ n → length (patterns_of tables n) ≡ 0
@@ -129,3 +129,14 @@ pub op_ready : (s : Stock) (order ks : List ℕ) (i k : ℕ) → AllByRecursion 
 op_ready s order [] i k h l e = absurd (omega arith)
 op_ready s order (x ∷ ks) zero k h l e = subst (IsOpReady s order) (sym e) h.0
 op_ready s order (x ∷ ks) (suc i) k h l e = op_ready s order ks i k h.1 (omega arith) e
+
+-- ---- flags
+pub flags_step : (spawned : List Bool) (ops : List Op) (i : ℕ) (o : Op) (b : Bool) (out made : List Bool) → i < length ops → o ≡ get_or ops i o → b ≡ flag_of spawned o
+    → out ++ map (flag_of spawned) (drop i ops) ≡ map (flag_of spawned) ops → made ≡ out ++ b ∷ [] → made ++ map (flag_of spawned) (drop (i + 1) ops) ≡ map (flag_of spawned) ops
+flags_step spawned ops i o b out made l e f h g =
+    ap (λ (xs : List Bool). xs ++ map (flag_of spawned) (drop (i + 1) ops)) g ∙ append_assoc out (b ∷ []) (map (flag_of spawned) (drop (i + 1) ops))
+    ∙ ap (λ (x : Bool). out ++ (x ∷ map (flag_of spawned) (drop (i + 1) ops))) (f ∙ ap (flag_of spawned) e)
+    ∙ ap (λ (os : List Op). out ++ map (flag_of spawned) os) (sym (drop_more ops i o l)) ∙ h
+
+pub flags_end : (spawned : List Bool) (ops : List Op) (i : ℕ) (out : List Bool) → length ops ≤ i → out ++ map (flag_of spawned) (drop i ops) ≡ map (flag_of spawned) ops → out ≡ map (flag_of spawned) ops
+flags_end spawned ops i out l h = sym (append-nil out) ∙ ap (λ (os : List Op). out ++ map (flag_of spawned) os) (sym (drop_all i ops l)) ∙ h
