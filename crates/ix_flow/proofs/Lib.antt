@@ -1,3 +1,5 @@
 pub mod Visiting
 pub mod Searching
 pub mod Graphing
+pub mod Rooting
+pub mod Sounding

@@ -14,6 +14,7 @@ use Rattle.ix_mean.specs.Effects.{start, effect_terms}
 use Rattle.ix_mean.specs.View.{frame_of}
 use Rattle.ix_terms.specs.declared.source.Source.{Source}
 use Rattle.ix_terms.specs.Places.{IsOperation}
+use Rattle.ix_terms.specs.Stores.{Stock}
 use Rattle.ix_flow.specs.declared.error.FlowErr.{FlowErr}
 use Rattle.ix_flow.specs.declared.error.FlowErr.TheVariants.{TooManyOps, Memory}
 
@@ -90,3 +91,9 @@ abbrev pub FlowsTo : Source → Statement → List Bool → Result Graph FlowErr
 FlowsTo f x spawned (Ok g) = IsFlow f x spawned g
 FlowsTo f x spawned (Err TooManyOps) = 256 < length (operations_of f x)
 FlowsTo f x spawned (Err Memory) = Unit {0}
+
+-- a graph of operations, over the tables of a store
+pub record IsBuilt (s : Stock) (all : List Term) (spawned : List Bool) (g : Graph) : Type 0 where
+  pub ops : AreOpsOf all all g.ops
+  pub flags : g.spawned ≡ map (flag_of spawned) g.ops
+  pub tables : g.tables ≡ s.tables

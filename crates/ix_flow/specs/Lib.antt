@@ -2,3 +2,4 @@ pub mod Orders
 pub mod Searches
 pub mod Flows
 pub mod Operands
+pub mod Rooted
