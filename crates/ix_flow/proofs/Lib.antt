@@ -3,3 +3,4 @@ pub mod Searching
 pub mod Graphing
 pub mod Rooting
 pub mod Sounding
+pub mod Flowing

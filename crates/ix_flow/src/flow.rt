@@ -8,7 +8,7 @@ ghost use Rattle.ix_terms.specs.Targets.{entry_at, IsBelow};
 ghost use Rattle.ix_flow.specs.Orders.{terms_at, IsOrder};
 ghost use Rattle.ix_flow.specs.Operands.{AreOpsReady};
 ghost use Rattle.ix_flow.specs.Flows.{FlowsTo, IsBuilt};
-ghost use Rattle.ix_flow.specs.Rooted.{HasMore, root_terms};
+ghost use Rattle.ix_flow.specs.Rooted.{HasMore, HasRoots, root_terms};
 
 use crate::FlowErr;
 use crate::graph::{flags_of, ops_of};
@@ -94,6 +94,31 @@ fn built(
     })
 }
 
+/// A store, and the places of the roots of a behaviour's graph.
+#[derive(Drop)]
+pub struct Roots {
+    pub store: Store,
+    pub roots: Vec<u32>,
+}
+
+// The roots of a behaviour: the loads, and the writes of the targets that may be written.
+fn rooted(alloc: Global, source: &Source, body: &[ResolvedStmt]) -> Result<Roots, Memory>
+    requires typed { IsTypedStatement (frame_of source.now.types) (view_statements source.now.tables body.now) }
+    requires few_targets { length source.now.types.targets ≤ 19 }
+    ensures { IfOk result (λ r. HasRoots source.now (view_statements source.now.tables body.now) (stock_of r.store) r.roots.items) }
+{
+    let effect = effect_of(alloc, source, body)?;
+    let Effect {
+        store,
+        loads,
+        targets,
+    } = effect;
+    let mut store = store;
+    let mut roots = loads;
+    roots_of(&mut store, &mut roots, targets.as_slice())?;
+    Ok(Roots { store, roots })
+}
+
 /// The operation graph of a resolved behaviour: the distinct subterms of its roots that are no constants, each behind its
 /// arguments, in postorder of their first occurrence. `spawned` has a flag for each target.
 pub fn graph_of_resolved(
@@ -107,20 +132,18 @@ pub fn graph_of_resolved(
     requires few_tables { length source.now.tables ≤ 65536 }
     ensures { FlowsTo source.now (view_statements source.now.tables body.now) spawned.now result }
 {
-    let Effect {
-        store,
-        loads,
-        targets,
-    } = effect_of(alloc, source, body)?;
-    let mut store = store;
-    let mut roots = loads;
-    roots_of(&mut store, &mut roots, targets.as_slice())?;
-    let mut order = Vec::new(alloc);
-    match visit_all(alloc, &store, &mut order, roots.as_slice()) {
-        Err(error) => Err(error),
-        Ok(()) => match built(alloc, store, order.as_slice(), spawned) {
-            Ok(graph) => Ok(graph),
-            Err(_) => Err(FlowErr::Memory),
-        },
+    match rooted(alloc, source, body) {
+        Err(_) => Err(FlowErr::Memory),
+        Ok(rooted) => {
+            let Roots { store, roots } = rooted;
+            let mut order = Vec::new(alloc);
+            match visit_all(alloc, &store, &mut order, roots.as_slice()) {
+                Err(error) => Err(error),
+                Ok(()) => match built(alloc, store, order.as_slice(), spawned) {
+                    Ok(graph) => Ok(graph),
+                    Err(_) => Err(FlowErr::Memory),
+                },
+            }
+        }
     }
 }
