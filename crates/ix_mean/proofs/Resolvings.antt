@@ -38,8 +38,8 @@ constant_kept i j s t (x_choose ty c a b) h =
     ∙ ap (λ (z : ℤ). cond (is_true (number j t c)) z (number i s b)) (constant_kept i j s t a q.1)
     ∙ ap (λ (z : ℤ). cond (is_true (number j t c)) (number j t a) z) (constant_kept i j s t b p.1)
 
-place_kept : (i : Inputs) (s : List ℤ) (e : Expression) (z : ℤ) → IsPlace e → number i s e ≡ z → constant e ≡ unsigned_abs z
-place_kept i s e z h f = ap unsigned_abs (constant_kept no_inputs i [] s e h ∙ f)
+place_kept : (i : Inputs) (s : List ℤ) (y : TypedExprTree) (e : Expression) (z : ℤ) → IsPlace y e → number i s e ≡ z → constant e ≡ unsigned_abs z
+place_kept i s y e z h f = ap unsigned_abs (constant_kept no_inputs i [] s e h.constant ∙ f)
 
 -- ---- types
 other_type : (i : Inputs) (ns : Names) (ty : Ty) (n : List ℕ) (o : Option Numbered) → i.word < 2 ^ 32 → IsOther ns ty n o → type_of_expression (resolved_other ns n o) ≡ ty
@@ -125,37 +125,37 @@ pub record IsKept (i : Inputs) (s : List ℤ) (e : Expression) (ty : Ty) (z : �
   typed : type_of_expression e ≡ ty
   same : number i s e ≡ z
 
-entry_kept : (i : Inputs) (s : List ℤ) (o : Option Entries) (ty a : Ty) (base at : Expression) (P : Type 0) (z u : ℤ) → (P → IsKept i s base a z) → number i s at ≡ u → IsEntryOrBit o P at
+entry_kept : (i : Inputs) (s : List ℤ) (o : Option Entries) (ty a : Ty) (base : Expression) (y : TypedExprTree) (at : Expression) (P : Type 0) (z u : ℤ) → (P → IsKept i s base a z) → number i s at ≡ u → IsEntryOrBit o P y at
     → number i s (resolved_entry o ty base at) ≡ entry_or_bit o ty a z u
-entry_kept i s (Some t) ty a base at P z u f e h = ap (entry_number t.patterns ty) e
-entry_kept i s None ty a base at P z u f e h =
+entry_kept i s (Some t) ty a base y at P z u f e h = ap (entry_number t.patterns ty) e
+entry_kept i s None ty a base y at P z u f e h =
     let b = f h.0 in
-    let c = place_kept i s at u h.1 e in
+    let c = place_kept i s y at u h.1 e in
     bits_kept i s ty a base at at z u u b.typed b.same c c
 
-bit_kept : (i : Inputs) (s : List ℤ) (ty a : Ty) (base at : Expression) (P Q : Type 0) (z u : ℤ) → (P → IsKept i s base a z) → (Q → number i s at ≡ u) → P × Q × IsPlace at
+bit_kept : (i : Inputs) (s : List ℤ) (ty a : Ty) (base : Expression) (y : TypedExprTree) (at : Expression) (P Q : Type 0) (z u : ℤ) → (P → IsKept i s base a z) → (Q → number i s at ≡ u) → P × Q × IsPlace y at
     → number i s (bits ty base at at) ≡ bits_number a z u u
-bit_kept i s ty a base at P Q z u f e h =
+bit_kept i s ty a base y at P Q z u f e h =
     let b = f h.0 in
-    let c = place_kept i s at u h.2 (e h.1) in
+    let c = place_kept i s y at u h.2 (e h.1) in
     bits_kept i s ty a base at at z u u b.typed b.same c c
 
 index_kept : (i : Inputs) (s : List ℤ) (ns : Names) (ty : Ty) (x : TypedExprTree) (base : Expression) (y : TypedExprTree) (at : Expression) (P Q : Type 0) (z u : ℤ)
     → (P → IsKept i s base (type_of x) z) → (Q → number i s at ≡ u) → IsIndex ns ty x P y Q at
     → number i s (resolved_index ns ty x base y at) ≡ index_number ns i ty x z y u
 index_kept i s ns ty (t_x a b) base (t_name c d f) at P Q z u p q h = operand_kept i s ns.pieces f
-index_kept i s ns ty (t_x a b) base _ at P Q z u p q h = bit_kept i s ty b base at P Q z u p q h
+index_kept i s ns ty (t_x a b) base y at P Q z u p q h = bit_kept i s ty b base y at P Q z u p q h
 index_kept i s ns ty (t_mem a b) base y at P Q z u p q h = ap (loaded i.memory ty) (q h)
-index_kept i s ns ty (t_name a b n) base y at P Q z u p q h = entry_kept i s (table_in 0 ns.tables n) ty b base at P z u p (q h.0) h.1
-index_kept i s ns ty _ base y at P Q z u p q h = bit_kept i s ty _ base at P Q z u p q h
+index_kept i s ns ty (t_name a b n) base y at P Q z u p q h = entry_kept i s (table_in 0 ns.tables n) ty b base y at P z u p (q h.0) h.1
+index_kept i s ns ty _ base y at P Q z u p q h = bit_kept i s ty _ base y at P Q z u p q h
 
-range_kept : (i : Inputs) (s : List ℤ) (ty : Ty) (x : TypedExprTree) (base a b : Expression) (P H L : Type 0) (z u v : ℤ)
-    → (P → IsKept i s base (type_of x) z) → (H → number i s a ≡ u) → (L → number i s b ≡ v) → IsRange x P H L a b
+range_kept : (i : Inputs) (s : List ℤ) (ty : Ty) (x y w : TypedExprTree) (base a b : Expression) (P H L : Type 0) (z u v : ℤ)
+    → (P → IsKept i s base (type_of x) z) → (H → number i s a ≡ u) → (L → number i s b ≡ v) → IsRange x P y H w L a b
     → number i s (resolved_range ty x base a b) ≡ range_number i ty x z u v
-range_kept i s ty (t_mem c d) base a b P H L z u v p f g h = ap (loaded i.memory ty) (g h)
-range_kept i s ty _ base a b P H L z u v p f g h =
+range_kept i s ty (t_mem c d) y w base a b P H L z u v p f g h = ap (loaded i.memory ty) (g h)
+range_kept i s ty _ y w base a b P H L z u v p f g h =
     let k = p h.0 in
-    bits_kept i s ty _ base a b z u v k.typed k.same (place_kept i s a u h.3 (f h.1)) (place_kept i s b v h.4 (g h.2))
+    bits_kept i s ty _ base a b z u v k.typed k.same (place_kept i s y a u h.3 (f h.1)) (place_kept i s w b v h.4 (g h.2))
 
 unary_kept : (op : UnOp) (a ty : Ty) (z : ℤ) → one_number (unary_kind op) a ty z ≡ unary_number op a z
 unary_kept U.Neg a ty z = refl
@@ -174,7 +174,7 @@ number_kept ns ls i s (t_index a ty x y) g h =
     index_kept i s ns ty x (resolved ns ls x) y (resolved ns ls y) (IsResolved ns ls x) (IsResolved ns ls y) _ _
     (λ p. record { typed = type_kept i ns ls x g p; same = number_kept ns ls i s x g p }) (λ q. number_kept ns ls i s y g q) h
 number_kept ns ls i s (t_range a ty x y z) g h =
-    range_kept i s ty x (resolved ns ls x) (resolved ns ls y) (resolved ns ls z) (IsResolved ns ls x) (IsResolved ns ls y) (IsResolved ns ls z) _ _ _
+    range_kept i s ty x y z (resolved ns ls x) (resolved ns ls y) (resolved ns ls z) (IsResolved ns ls x) (IsResolved ns ls y) (IsResolved ns ls z) _ _ _
     (λ p. record { typed = type_kept i ns ls x g p; same = number_kept ns ls i s x g p }) (λ q. number_kept ns ls i s y g q) (λ q. number_kept ns ls i s z g q) h
 number_kept ns ls i s (t_unary a ty op x) g h =
     let e = resolved ns ls x in

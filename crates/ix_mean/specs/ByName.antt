@@ -1,5 +1,5 @@
 -- What an expression comes to, by the names in it (CoreDSL 2, expressions; fields by the instruction's encoding; that each expression has its type is this project's choice).
-use Rattle.std.specs.Prelude.{ℕ, suc, ◌+◌, ◌-◌, ◌*◌, ◌^◌, ℤ, pos, unsigned_abs, List, [], ◌∷◌, Option, Some, None, Bool, nat_eq, if◌then◌else◌}
+use Rattle.std.specs.Prelude.{ℕ, suc, ◌+◌, ◌-◌, ◌*◌, ◌%◌, ◌^◌, ℤ, pos, unsigned_abs, List, [], ◌∷◌, Option, Some, None, Bool, nat_eq, if◌then◌else◌}
 use Rattle.ix_bits.specs.declared.number.Ty.{Ty}
 use Rattle.ix_bits.specs.Operators.{pattern_of, value_of, fit, is_true, binary_number, unary_number, bits_between}
 use Rattle.ix_tree.specs.declared.extension.Piece.{Piece}
@@ -98,9 +98,9 @@ abbrev pub range_number : Inputs → Ty → TypedExprTree → ℤ → ℤ → �
 range_number i ty (t_mem s u) base h l = loaded i.memory ty l
 range_number i ty x base h l = bits_number (type_of x) base h l
 
--- the number of an expression, where the locals have these numbers
+-- the number of an expression, where the locals have these numbers; a literal's is that of its pattern in its type
 abbrev pub number_by_name : Names → Inputs → List Local → TypedExprTree → ℤ
-number_by_name ns i ls (t_literal s ty lt b) = value_of ty b.raw
+number_by_name ns i ls (t_literal s ty lt b) = value_of ty (b.raw % 2 ^ ty.width)
 number_by_name ns i ls (t_name s ty n) = name_number ns i n (local_in ls n)
 number_by_name ns i ls (t_pc s ty) = pos i.pc
 number_by_name ns i ls (t_x s ty) = pos 0

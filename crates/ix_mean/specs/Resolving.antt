@@ -1,5 +1,5 @@
 -- Expressions with their names resolved: a local is its slot, a register its number, a field the concatenation of its pieces (this project's choice of the order of pieces).
-use Rattle.std.specs.Prelude.{◌≡◌, ◌≢◌, ℕ, zero, suc, ◌+◌, ◌-◌, ◌^◌, ◌≤◌, ◌<◌, ℤ, pos, get_or, unsigned_abs, List, [], ◌∷◌, map, Option, Some, None, true, false, if◌then◌else◌, nat_lt}
+use Rattle.std.specs.Prelude.{◌≡◌, ◌≢◌, ℕ, zero, suc, ◌+◌, ◌-◌, ◌^◌, ◌≤◌, ◌<◌, ◌%◌, ℤ, pos, int_le, get_or, unsigned_abs, List, [], ◌∷◌, map, Option, Some, None, true, false, if◌then◌else◌, nat_lt}
 use Rattle.ix_bits.specs.declared.number.Ty.{Ty}
 use Rattle.ix_bits.specs.declared.operator.BinOp.TheVariants.{Concat}
 use Rattle.ix_bits.specs.declared.operator.UnOp.{UnOp}
@@ -10,7 +10,8 @@ use Rattle.ix_graph.specs.declared.kind.Kind.{Kind}
 use Rattle.ix_graph.specs.declared.kind.Kind.TheVariants as k
 use Rattle.ix_tree.specs.declared.extension.Piece.{Piece}
 use Rattle.ix_tree.specs.Lexing.{same_bytes}
-use Rattle.ix_tree.specs.TypedTrees.{TypedExprTree, t_literal, t_name, t_pc, t_x, t_mem, t_index, t_range, t_unary, t_cast, t_binary, t_choose}
+use Rattle.ix_tree.specs.LoopHeads.{Valued, head_value}
+use Rattle.ix_tree.specs.TypedTrees.{TypedExprTree, t_literal, t_name, t_pc, t_x, t_mem, t_index, t_range, t_unary, t_cast, t_binary, t_choose, erased}
 use Rattle.ix_mean.specs.Core.{u1, u32, Expression, x_const, x_slot, x_read, x_load, x_one, x_cast, x_entry, x_two, x_choose, type_of_expression}
 use Rattle.ix_mean.specs.Meaning.{Inputs, number}
 use Rattle.ix_mean.specs.Typing.{is_constant}
@@ -115,8 +116,9 @@ abbrev pub resolved_range : Ty → TypedExprTree → Expression → Expression �
 resolved_range ty (t_mem s u) base h l = x_load ty l
 resolved_range ty x base h l = bits ty base h l
 
+-- a literal is the number that its pattern has in its type
 abbrev pub resolved : Names → List Slot → TypedExprTree → Expression
-resolved ns ls (t_literal s ty lt b) = x_const ty b.raw
+resolved ns ls (t_literal s ty lt b) = x_const ty (b.raw % 2 ^ ty.width)
 resolved ns ls (t_name s ty n) = resolved_name ns n (slot_in ls n)
 resolved ns ls (t_pc s ty) = x_read k.RdPC u32
 resolved ns ls (t_x s ty) = x_const ty 0
@@ -154,23 +156,28 @@ abbrev pub IsName : Names → Ty → List ℕ → Option Slot → Type 0
 IsName ns ty n (Some l) = ty ≡ l.ty
 IsName ns ty n None = IsOther ns ty n (register_in 0 ns.registers n)
 
-abbrev pub IsPlace : Expression → Type 0
-IsPlace e = is_constant e ≡ true
+-- a place of bits is of literals alone: its number is the value of its tree, and not below 0
+pub record IsPlace (y : TypedExprTree) (at : Expression) : Type 0 where
+  pub constant : is_constant at ≡ true
+  pub value : Valued
+  pub is : head_value (erased y) [] ≡ Some value
+  pub same : number no_inputs [] at ≡ value.number
+  pub least : int_le (pos 0) value.number ≡ true
 
-abbrev pub IsEntryOrBit : Option Entries → Type 0 → Expression → Type 0
-IsEntryOrBit (Some t) P at = Unit {0}
-IsEntryOrBit None P at = P × IsPlace at
+abbrev pub IsEntryOrBit : Option Entries → Type 0 → TypedExprTree → Expression → Type 0
+IsEntryOrBit (Some t) P y at = Unit {0}
+IsEntryOrBit None P y at = P × IsPlace y at
 
 -- what stands below an index, with its own names, and the index of bits, which is of literals alone
 abbrev pub IsIndex : Names → Ty → TypedExprTree → Type 0 → TypedExprTree → Type 0 → Expression → Type 0
 IsIndex ns ty (t_x s u) P (t_name s' u' f) Q at = ty ≡ u32
 IsIndex ns ty (t_mem s u) P index Q at = Q
-IsIndex ns ty (t_name s u n) P index Q at = Q × IsEntryOrBit (table_in 0 ns.tables n) P at
-IsIndex ns ty x P index Q at = P × Q × IsPlace at
+IsIndex ns ty (t_name s u n) P index Q at = Q × IsEntryOrBit (table_in 0 ns.tables n) P index at
+IsIndex ns ty x P index Q at = P × Q × IsPlace index at
 
-abbrev pub IsRange : TypedExprTree → Type 0 → Type 0 → Type 0 → Expression → Expression → Type 0
-IsRange (t_mem s u) P H L h l = L
-IsRange x P H L h l = P × H × L × IsPlace h × IsPlace l
+abbrev pub IsRange : TypedExprTree → Type 0 → TypedExprTree → Type 0 → TypedExprTree → Type 0 → Expression → Expression → Type 0
+IsRange (t_mem s u) P y H z L h l = L
+IsRange x P y H z L h l = P × H × L × IsPlace y h × IsPlace z l
 
 abbrev pub IsResolved : Names → List Slot → TypedExprTree → Type 0
 IsResolved ns ls (t_literal s ty lt b) = Unit {0}
@@ -179,7 +186,7 @@ IsResolved ns ls (t_pc s ty) = ty ≡ u32
 IsResolved ns ls (t_x s ty) = Unit {0}
 IsResolved ns ls (t_mem s ty) = Unit {0}
 IsResolved ns ls (t_index s ty x y) = IsIndex ns ty x (IsResolved ns ls x) y (IsResolved ns ls y) (resolved ns ls y)
-IsResolved ns ls (t_range s ty x y z) = IsRange x (IsResolved ns ls x) (IsResolved ns ls y) (IsResolved ns ls z) (resolved ns ls y) (resolved ns ls z)
+IsResolved ns ls (t_range s ty x y z) = IsRange x (IsResolved ns ls x) y (IsResolved ns ls y) z (IsResolved ns ls z) (resolved ns ls y) (resolved ns ls z)
 IsResolved ns ls (t_unary s ty op x) = IsResolved ns ls x
 IsResolved ns ls (t_cast s ty to x) = IsResolved ns ls x
 IsResolved ns ls (t_binary s ty op x y) = IsResolved ns ls x × IsResolved ns ls y
