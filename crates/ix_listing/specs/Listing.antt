@@ -57,4 +57,4 @@ abbrev pub listing_text : ExtensionTree → List ℕ
 listing_text x =
     named_line (codes "set") x.name
     ++ (registers_text 0 x.registers
-        ++ (flat_map table_line x.tables ++ (flat_map instruction_text x.instructions ++ flat_map block_line x.blocks)))
+    ++ (flat_map table_line x.tables ++ (flat_map instruction_text x.instructions ++ flat_map block_line x.blocks)))

@@ -69,13 +69,7 @@ fn put_shared(out: &mut String, rule: &str, a: &Name, word: u32) -> Result<(), M
     put_word_end(out, word)
 }
 
-fn put_pair(
-    out: &mut String,
-    rule: &str,
-    a: &Name,
-    b: &Name,
-    word: u32,
-) -> Result<(), Memory>
+fn put_pair(out: &mut String, rule: &str, a: &Name, b: &Name, word: u32) -> Result<(), Memory>
     ensures { OnOk result (string_bytes out.new ≡ string_bytes out.old ++ pair_line rule.now a.now b.now word) }
 {
     put_front(out, rule)?;

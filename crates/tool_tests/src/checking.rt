@@ -39,10 +39,9 @@ fn an_extension_that_is_listed(rt: HostRuntime) -> Result<(), Fail> {
     let (status, sink) = answer(rt.alloc(), ADDITION)?;
     assert_eq!(rt; status, Status::Ok);
     assert_eq!(rt; status.code(), 0);
-    assert_eq!(
-        rt; sink.bytes(),
-        b"set AddX\ninstruction addx mask fe00707f match 0000000b\npiece rs2 4 0 at 20\npiece rs1 4 0 at 15\npiece rd 4 0 at 7\n"
-            .as_slice()
+    assert_eq!(rt;
+        sink.bytes(),
+        b"set AddX\ninstruction addx mask fe00707f match 0000000b\npiece rs2 4 0 at 20\npiece rs1 4 0 at 15\npiece rd 4 0 at 7\n".as_slice()
     );
     Ok(())
 }
@@ -72,7 +71,10 @@ fn a_text_of_spaces(rt: HostRuntime) -> Result<(), Fail> {
     let mut bytes = vec![in alloc; b' '; 1_048_576]?;
     let (status, sink) = answer(alloc, bytes.as_slice())?;
     assert_eq!(rt; status, Status::Extension);
-    assert_eq!(rt; sink.bytes(), b"refused Extension At 1048576 1048576\n".as_slice());
+    assert_eq!(rt;
+        sink.bytes(),
+        b"refused Extension At 1048576 1048576\n".as_slice()
+    );
     bytes.push(b' ')?;
     let (status, sink) = answer(alloc, bytes.as_slice())?;
     assert_eq!(rt; status, Status::TooLong);

@@ -34,7 +34,7 @@ pub loop-at-preserved : goal.loop-at-preserved
 loop-at-preserved g c =
     let pushed : c.push.new.self.items ≡ c.loop-at.values.items ++ c.in-Ok.value ∷ [] = grind (arith, common_steps) in
     let grown : map reading_of c.push.new.self.items ≡ map reading_of c.loop-at.values.items ++ reading_of c.in-Ok.value ∷ []
-        = ap (λ l. map reading_of l) pushed ∙ map-append reading_of c.loop-at.values.items (c.in-Ok.value ∷ []) in
+    = ap (λ l. map reading_of l) pushed ∙ map-append reading_of c.loop-at.values.items (c.in-Ok.value ∷ []) in
     let word = word_at c.args.words.now c.loop-at.at c.index-words-at.result c.as_str.result.now c.as_str.ensures.value c.index-words-at.is in
     let within = fit_within c.args.slots.now c.args.words.now c.loop-at.at c.loop-at-test.true c.loop-at.invariant.fits in
     let read = word_of_files (g.F.Shelf.files c.loop-at.shelf) (g.F.Shelf.files c.args.shelf.now) (RoseIn (g.F.Shelf.faults c.loop-at.shelf) (g.F.Shelf.faults c.read_word.new.shelf)) (get_or c.args.slots.now c.loop-at.at (Number 0)) c.as_str.result.now (string_bytes (get_or c.args.words.now c.loop-at.at c.index-words-at.result)) (Ok c.in-Ok.value) c.loop-at.invariant.kept word c.in-Ok.ensures.read in
