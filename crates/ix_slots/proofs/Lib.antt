@@ -1,0 +1,5 @@
+pub mod Makes
+pub mod MakesSteps
+pub mod Keeping
+pub mod Finding
+pub mod Chains
