@@ -3,3 +3,4 @@ pub mod MakesSteps
 pub mod Keeping
 pub mod Finding
 pub mod Chains
+pub mod Spawns

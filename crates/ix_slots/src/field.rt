@@ -1,4 +1,4 @@
-ghost use Rattle.std.specs.Prelude.{◌≡◌, ℕ, ◌+◌, ◌-◌, ◌%◌, ◌^◌, List, [], ◌∷◌, Some, option_map, IfOk, OnOk};
+ghost use Rattle.std.specs.Prelude.{◌≡◌, ℕ, ◌+◌, ◌-◌, ◌≤◌, ◌%◌, ◌^◌, List, [], ◌∷◌, Some, option_map, IfOk, OnOk};
 ghost use Rattle.ix_bits.specs.declared.number.Bits.{Bits};
 ghost use Rattle.ix_tree.specs.Lexing.{same_bytes};
 ghost use Rattle.ix_mean.specs.ByName.{stands_at_15};
@@ -31,12 +31,21 @@ pub(crate) fn zeros(ty: Ty) -> Bits
     }
 }
 
+// The greatest pattern of a width.
+fn mask(width: u8) -> u128
+    requires some { 1 ≤ width }
+    requires most { width ≤ 128 }
+    ensures { result ≡ 2 ^ width - 1 }
+{
+    u128::MAX >> (128 - width)
+}
+
 /// A pattern cut to the width of a type, with zeros above it where it is narrower.
 pub(crate) fn cut(ty: Ty, bits: Bits) -> Bits
     ensures { result.raw ≡ bits.raw % 2 ^ ty.width }
 {
     Bits {
-        raw: bits.raw & (u128::MAX >> (128 - ty.width)),
+        raw: bits.raw & mask(ty.width),
         width: ty.width,
     }
 }
@@ -188,7 +197,10 @@ fn top_of(parts: &[Part]) -> u16
 {
     match parts.split_first() {
         None => 0,
-        Some((part, _)) => u16::from(part.hi) + 1,
+        Some((part, _)) => {
+            let part = *part;
+            u16::from(part.hi) + 1
+        }
     }
 }
 

@@ -6,10 +6,10 @@ mod expression;
 mod field;
 mod locals;
 mod names;
-// mod statement;
+mod statement;
 mod types;
 
 pub use locals::Locals;
 pub use names::Names;
-// pub use statement::statements;
+pub use statement::statements;
 pub use types::type_near;

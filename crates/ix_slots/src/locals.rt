@@ -81,6 +81,17 @@ impl Locals {
         ensures slot { IfOk result (λ k. k ≡ length self.old.slots) }
         ensures scope { OnOk result (self.new ≡ with_local self.old name.now ty) }
     {
+        match Name::from_text(self.alloc, name.as_str()) {
+            Err(_) => Err(Memory),
+            Ok(name) => self.add(name, ty),
+        }
+    }
+
+    // Declares a local with the next slot.
+    fn add(&mut self, name: Name, ty: Ty) -> Result<usize, Memory>
+        ensures slot { IfOk result (λ k. k ≡ length self.old.slots) }
+        ensures scope { OnOk result (self.new ≡ with_local self.old name ty) }
+    {
         let alloc = self.alloc;
         let slot = self.slots.len();
         match put(
@@ -107,7 +118,7 @@ impl Locals {
         ensures locals { self.new.locals ≡ drop (length self.old.locals - count) self.old.locals }
         ensures slots { self.new.slots ≡ self.old.slots }
     {
-        while self.items.len() > count {
+        while self.len() > count {
             self.take_last();
         }
     }
@@ -146,16 +157,12 @@ fn put(
     items: &mut Vec<Local>,
     before: &mut Vec<Option<Place>>,
     places: &mut BTreeMap<String, Place>,
-    name: &Name,
+    name: Name,
     place: Place,
 ) -> Result<(), Memory>
-    ensures items { OnOk result (items.new.items ≡ items.old.items ++ record { name = name.now; place = place } ∷ []) }
+    ensures items { OnOk result (items.new.items ≡ items.old.items ++ record { name = name; place = place } ∷ []) }
     ensures kept { OnOk result (IsKept items.old.items before.old.items places.old → IsKept items.new.items before.new.items places.new) }
 {
-    let name = match Name::from_text(alloc, name.as_str()) {
-        Err(_) => return Err(Memory),
-        Ok(name) => name,
-    };
     match String::from_str(alloc, name.as_str()) {
         Err(_) => Err(Memory),
         Ok(key) => match places.insert(key, place) {

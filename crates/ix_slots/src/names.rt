@@ -1,8 +1,8 @@
-ghost use Rattle.std.specs.Prelude.{◌≡◌, ℕ, ◌+◌, ◌<◌, ◌≤◌, ◌∷◌, List, Some, None, length, drop, get_or, option_map, IfOk, OnOk, MatchOption};
+ghost use Rattle.std.specs.Prelude.{◌≡◌, ℕ, ◌≤◌, List, length, IfOk, OnOk};
 ghost use Rattle.std.specs.BTreeMap.{get_by_text};
-ghost use Rattle.ix_mean.specs.ByName.{table_in, register_in};
-ghost use Rattle.ix_mean.specs.View.{patterns_of};
-ghost use Rattle.ix_slots.specs.Found.{names_of, entries_of, custom_at, table_at, AreCustoms, AreTables};
+ghost use Rattle.std.specs.Map.{update};
+ghost use Rattle.std.specs.Str.{bytes_eq};
+ghost use Rattle.ix_slots.specs.Found.{names_of, custom_at, table_at, AreCustoms, AreTables};
 
 use ix_bits::{Memory, Ty};
 use ix_tree::{Piece, Register, Table};
@@ -99,8 +99,7 @@ fn customs_of(alloc: Global, registers: &[Register]) -> Result<BTreeMap<String, 
             number: at as u8,
             ty: register.ty,
         };
-        let name = String::from_str(alloc, register.name.as_str())?;
-        customs.insert(name, custom)?;
+        put_custom(alloc, &mut customs, register.name.as_str(), custom)?;
     }
     Ok(customs)
 }
@@ -113,8 +112,44 @@ fn numbers_of(alloc: Global, tables: &[Table]) -> Result<BTreeMap<String, usize>
     let mut at = tables.len();
     while at > 0 {
         at -= 1;
-        let name = String::from_str(alloc, tables[at].name.as_str())?;
-        numbers.insert(name, at)?;
+        let table = &tables[at];
+        put_number(alloc, &mut numbers, table.name.as_str(), at)?;
     }
     Ok(numbers)
+}
+
+// What a name stands for from now on.
+fn put_custom(
+    alloc: Global,
+    customs: &mut BTreeMap<String, Custom>,
+    name: &str,
+    custom: Custom,
+) -> Result<(), Memory>
+    ensures { OnOk result ((n : List ℕ) → get_by_text customs.new n ≡ update bytes_eq (get_by_text customs.old) name.now (Some custom) n) }
+{
+    match String::from_str(alloc, name) {
+        Err(_) => Err(Memory),
+        Ok(key) => match customs.insert(key, custom) {
+            Err(_) => Err(Memory),
+            Ok(_) => Ok(()),
+        },
+    }
+}
+
+// The number of the table that a name stands for from now on.
+fn put_number(
+    alloc: Global,
+    numbers: &mut BTreeMap<String, usize>,
+    name: &str,
+    number: usize,
+) -> Result<(), Memory>
+    ensures { OnOk result ((n : List ℕ) → get_by_text numbers.new n ≡ update bytes_eq (get_by_text numbers.old) name.now (Some number) n) }
+{
+    match String::from_str(alloc, name) {
+        Err(_) => Err(Memory),
+        Ok(key) => match numbers.insert(key, number) {
+            Err(_) => Err(Memory),
+            Ok(_) => Ok(()),
+        },
+    }
 }

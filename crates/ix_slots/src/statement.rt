@@ -1,13 +1,13 @@
-ghost use Rattle.std.specs.Prelude.{◌≡◌, ◌+◌, List, option_map, IfOk, OnOk, map};
+ghost use Rattle.std.specs.Prelude.{◌≡◌, ◌+◌, List, [], option_map, IfOk, OnOk, map};
 ghost use Rattle.ix_bits.specs.declared.number.Bits.{Bits};
 ghost use Rattle.ix_graph.specs.declared.kind.Kind.TheVariants.{RdPC};
 ghost use Rattle.ix_tree.specs.TypedView.{typed_view, typed_option, typed_decl, typed_assign, typed_whole, typed_items};
 ghost use Rattle.ix_mean.specs.Core.{u32 as word_type, x_const, x_read, st_skip, st_write};
 ghost use Rattle.ix_mean.specs.View.{view_expression, view_statement, view_statements};
-ghost use Rattle.ix_mean.specs.EffectByName.{type_of_text};
 ghost use Rattle.ix_mean.specs.Resolving.{slot_in};
 ghost use Rattle.ix_mean.specs.ResolvingStatements.{operated, no_address, name_written, register_written, store_type, left};
 ghost use Rattle.ix_slots.specs.Found.{entries_of, numbered};
+ghost use Rattle.ix_slots.specs.Spawned.{spawned_in, spawned_among, made_spawned, made_row_spawned};
 ghost use Rattle.ix_slots.specs.Made.{made, made_initial, made_declared, made_declarations, made_assigned, made_step, made_row};
 
 use crate::expression::{expression, word};
@@ -19,14 +19,15 @@ use ix_bits::{BinOp, List, Memory, Name, Ty};
 use ix_graph::Kind;
 use ix_mean::{ResolvedExpr, ResolvedStmt, Writing};
 use ix_tree::{
-    TypeText, TypedAssign, TypedDecl, TypedExpr, TypedExprKind, TypedLvalueKind, TypedStmt,
+    TypedAssign, TypedDecl, TypedExpr, TypedExprKind, TypedLvalueKind, TypedStmt,
     TypedStmtKind,
 };
 use std::alloc::Global;
 
 // A statement that does nothing.
 fn nothing(alloc: Global) -> ResolvedStmt
-    ensures { (tables : List (List Bits)) → view_statement tables result ≡ st_skip }
+    ensures body { (tables : List (List Bits)) → view_statement tables result ≡ st_skip }
+    ensures plain { spawned_in result ≡ [] }
 {
     ResolvedStmt::Block(List::new(alloc))
 }
@@ -64,6 +65,7 @@ fn declaration(
 ) -> Result<ResolvedStmt, Memory>
     ensures body { IfOk result (λ r. view_statement (entries_of names.now.tables) r ≡ (made_declared names.now ty (typed_decl decl.now) locals.old).body) }
     ensures scope { OnOk result (locals.new ≡ (made_declared names.now ty (typed_decl decl.now) locals.old).scope) }
+    ensures plain { IfOk result (λ r. spawned_in r ≡ []) }
 {
     let value = initial(alloc, names, locals, ty, &decl.value)?;
     let slot = locals.declare(&decl.name, ty)?;
@@ -75,13 +77,13 @@ fn declarations(
     alloc: Global,
     names: &Names,
     locals: &mut Locals,
-    text: TypeText,
+    ty: Ty,
     decls: &[TypedDecl],
 ) -> Result<ResolvedStmt, Memory>
-    ensures body { IfOk result (λ r. view_statement (entries_of names.now.tables) r ≡ (made_declarations names.now (type_of_text text) (map typed_decl decls.now) locals.old).body) }
-    ensures scope { OnOk result (locals.new ≡ (made_declarations names.now (type_of_text text) (map typed_decl decls.now) locals.old).scope) }
+    ensures body { IfOk result (λ r. view_statement (entries_of names.now.tables) r ≡ (made_declarations names.now ty (map typed_decl decls.now) locals.old).body) }
+    ensures scope { OnOk result (locals.new ≡ (made_declarations names.now ty (map typed_decl decls.now) locals.old).scope) }
+    ensures plain { IfOk result (λ r. spawned_in r ≡ []) }
 {
-    let ty = type_of_text(text);
     let mut all = List::new(alloc);
     for decl in decls {
         all.push(declaration(alloc, names, locals, ty, decl)?)?;
@@ -114,7 +116,8 @@ fn operated(
 
 // A write of a target without an address.
 fn write(target: usize, ty: Ty, value: ResolvedExpr) -> ResolvedStmt
-    ensures { (tables : List (List Bits)) → view_statement tables result ≡ st_write target ty (view_expression tables value) no_address }
+    ensures body { (tables : List (List Bits)) → view_statement tables result ≡ st_write target ty (view_expression tables value) no_address }
+    ensures plain { spawned_in result ≡ [] }
 {
     ResolvedStmt::Write(Writing {
         target,
@@ -133,7 +136,8 @@ fn write_name(
     name: &str,
     e: ResolvedExpr,
 ) -> Result<ResolvedStmt, Memory>
-    ensures { (tables : List (List Bits)) → IfOk result (λ r. view_statement tables r ≡ name_written names.now op name.now (view_expression tables e) (slot_in locals.now.locals name.now)) }
+    ensures body { (tables : List (List Bits)) → IfOk result (λ r. view_statement tables r ≡ name_written names.now op name.now (view_expression tables e) (slot_in locals.now.locals name.now)) }
+    ensures plain { IfOk result (λ r. spawned_in r ≡ []) }
 {
     match locals.find(name) {
         Some(place) => {
@@ -151,7 +155,8 @@ fn write_custom(
     e: ResolvedExpr,
     custom: Option<Custom>,
 ) -> Result<ResolvedStmt, Memory>
-    ensures { (tables : List (List Bits)) → IfOk result (λ r. view_statement tables r ≡ register_written op (view_expression tables e) (option_map numbered custom)) }
+    ensures body { (tables : List (List Bits)) → IfOk result (λ r. view_statement tables r ≡ register_written op (view_expression tables e) (option_map numbered custom)) }
+    ensures plain { IfOk result (λ r. spawned_in r ≡ []) }
 {
     match custom {
         None => {
@@ -171,7 +176,8 @@ fn write_pc(
     op: Option<BinOp>,
     e: ResolvedExpr,
 ) -> Result<ResolvedStmt, Memory>
-    ensures { (tables : List (List Bits)) → IfOk result (λ r. view_statement tables r ≡ st_write 2 word_type (operated op word_type (x_read RdPC word_type) (view_expression tables e)) no_address) }
+    ensures body { (tables : List (List Bits)) → IfOk result (λ r. view_statement tables r ≡ st_write 2 word_type (operated op word_type (x_read RdPC word_type) (view_expression tables e)) no_address) }
+    ensures plain { IfOk result (λ r. spawned_in r ≡ []) }
 {
     let old = ResolvedExpr::Read(Kind::RdPC, word());
     Ok(write(2, word(), operated(alloc, op, word(), old, e)?))
@@ -198,7 +204,8 @@ fn store(
     at: &TypedExpr,
     value: ResolvedExpr,
 ) -> Result<ResolvedStmt, Memory>
-    ensures { let tables = entries_of names.now.tables in IfOk result (λ r. view_statement tables r ≡ st_write 0 ty (view_expression tables value) (made names.now locals.now.locals (typed_view at.now))) }
+    ensures body { let tables = entries_of names.now.tables in IfOk result (λ r. view_statement tables r ≡ st_write 0 ty (view_expression tables value) (made names.now locals.now.locals (typed_view at.now))) }
+    ensures plain { IfOk result (λ r. spawned_in r ≡ []) }
 {
     let address = expression(alloc, names, locals, at)?;
     Ok(ResolvedStmt::Write(Writing {
@@ -216,7 +223,8 @@ fn assign(
     locals: &Locals,
     assign: &TypedAssign,
 ) -> Result<ResolvedStmt, Memory>
-    ensures { IfOk result (λ r. view_statement (entries_of names.now.tables) r ≡ made_assigned names.now locals.now (typed_assign assign.now)) }
+    ensures body { IfOk result (λ r. view_statement (entries_of names.now.tables) r ≡ made_assigned names.now locals.now (typed_assign assign.now)) }
+    ensures plain { IfOk result (λ r. spawned_in r ≡ []) }
 {
     let value = expression(alloc, names, locals, &assign.value)?;
     match &assign.target.kind {
@@ -244,6 +252,7 @@ pub(crate) fn statement(
 ) -> Result<ResolvedStmt, Memory>
     ensures body { IfOk result (λ r. view_statement (entries_of names.now.tables) r ≡ (made_step names.now (typed_whole x.now) locals.old).body) }
     ensures scope { OnOk result (locals.new ≡ (made_step names.now (typed_whole x.now) locals.old).scope) }
+    ensures spawns { IfOk result (λ r. spawned_in r ≡ made_spawned names.now (typed_whole x.now) locals.old) }
 {
     match &x.kind {
         TypedStmtKind::Block(all) => {
@@ -253,8 +262,14 @@ pub(crate) fn statement(
             Ok(ResolvedStmt::Block(body))
         }
         TypedStmtKind::Empty => Ok(nothing(alloc)),
-        TypedStmtKind::Locals(ty, decls) => {
-            declarations(alloc, names, locals, *ty, decls.as_slice())
+        TypedStmtKind::Locals(text, decls) => {
+            declarations(
+                alloc,
+                names,
+                locals,
+                type_of_text(*text),
+                decls.as_slice(),
+            )
         }
         TypedStmtKind::Assign(a) => assign(alloc, names, locals, a),
         TypedStmtKind::If(c, x, None) => {
@@ -281,6 +296,7 @@ fn scoped(
 ) -> Result<Box<ResolvedStmt>, Memory>
     ensures body { IfOk result (λ r. view_statement (entries_of names.now.tables) r.value ≡ (made_step names.now (typed_whole x.now) locals.old).body) }
     ensures scope { OnOk result (locals.new ≡ left locals.old (made_step names.now (typed_whole x.now) locals.old).scope) }
+    ensures spawns { IfOk result (λ r. spawned_in r.value ≡ made_spawned names.now (typed_whole x.now) locals.old) }
 {
     let count = locals.len();
     let body = statement(alloc, names, locals, x)?;
@@ -298,6 +314,7 @@ pub fn statements(
 ) -> Result<List<ResolvedStmt>, Memory>
     ensures body { IfOk result (λ r. view_statements (entries_of names.now.tables) r ≡ (made_row names.now (typed_items all.now) locals.old).body) }
     ensures scope { OnOk result (locals.new ≡ (made_row names.now (typed_items all.now) locals.old).scope) }
+    ensures spawns { IfOk result (λ r. spawned_among r ≡ made_row_spawned names.now (typed_items all.now) locals.old) }
 {
     let mut out = List::new(alloc);
     for x in all {

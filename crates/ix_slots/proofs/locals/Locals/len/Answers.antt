@@ -1,0 +1,7 @@
+use Rattle.std.proofs.Common.{◌∙◌, ap, sym, length}
+use Rattle.ix_mean.specs.ResolvingStatements.{Scope}
+use Rattle.ix_slots.proofs.Keeping.{newest_length}
+use Rattle.ix_slots.proofs.locals.Locals.len.Goals as goal
+
+pub returns : goal.returns
+returns c = c.len.ensures ∙ sym (newest_length c.self.inside.items.items) ∙ ap (λ (s : Scope). length s.locals) c.self.view_is
