@@ -1,13 +1,13 @@
 -- Behaviours of an extension with their names resolved: what each does by names, and by slots and numbered targets (CoreDSL 2, instructions and
 -- always-blocks; slots and the numbers of targets are this project's choice).
-use Rattle.std.specs.Prelude.{ℕ, false, ◌<◌, List, [], ◌∷◌, ◌++◌, map, length, slice_get, Option, Some, None, option_map, if◌then◌else◌, nat_eq}
+use Rattle.std.specs.Prelude.{ℕ, ◌+◌, false, ◌<◌, List, [], ◌∷◌, ◌++◌, map, length, slice_get, Option, Some, None, option_map, if◌then◌else◌, nat_eq}
 use Rattle.ix_bits.specs.declared.number.Ty.{Ty}
 use Rattle.ix_bits.specs.NearTypes.{type_near}
 use Rattle.ix_tree.specs.declared.extension.Register.{Register}
 use Rattle.ix_tree.specs.declared.extension.Piece.{Piece}
 use Rattle.ix_tree.specs.TypedTrees.{TypedStmtTree, ts_block, ts_empty, ts_locals, ts_assign, ts_if, ts_if_else, ts_spawn, TypedRow, typed_end, typed_more}
 use Rattle.ix_extension.specs.Extensions.{BehaviourTree, InstructionTree, ExtensionTree}
-use Rattle.ix_mean.specs.Core.{u32, Statement, st_skip, st_then, st_set, st_write, st_if}
+use Rattle.ix_mean.specs.Core.{u32, Expression, x_const, x_slot, x_read, x_load, x_one, x_cast, x_entry, x_two, x_choose, Statement, st_skip, st_then, st_set, st_write, st_if}
 use Rattle.ix_mean.specs.Meaning.{Inputs, Write}
 use Rattle.ix_mean.specs.Effects.{no_write}
 use Rattle.ix_mean.specs.Typing.{Frame}
@@ -91,6 +91,31 @@ targets_at x w = stored_type (statement_at x w) ∷ u32 ∷ u32 ∷ map type_of_
 
 abbrev pub frame_at : ExtensionTree → Which → Frame
 frame_at x w = record { slots = (resolved_at x w).scope.slots; targets = targets_at x w }
+
+-- ---- reads and stores of memory
+-- how many reads stand in an expression
+abbrev pub loads_in : Expression → ℕ
+loads_in (x_const ty raw) = 0
+loads_in (x_slot k ty) = 0
+loads_in (x_read k ty) = 0
+loads_in (x_load ty a) = loads_in a + 1
+loads_in (x_one k ty a) = loads_in a
+loads_in (x_cast ty a) = loads_in a
+loads_in (x_entry n es ty a) = loads_in a
+loads_in (x_two op ty a b) = loads_in a + loads_in b
+loads_in (x_choose ty c a b) = loads_in c + loads_in a + loads_in b
+
+-- a write of target 0 is a store
+abbrev pub stores_at : ℕ → ℕ
+stores_at k = if nat_eq k 0 then 1 else 0
+
+-- how many reads and stores stand in a statement, whatever its conditions
+abbrev pub accesses_in : Statement → ℕ
+accesses_in st_skip = 0
+accesses_in (st_then x y) = accesses_in x + accesses_in y
+accesses_in (st_set k ty e) = loads_in e
+accesses_in (st_write k ty e a) = stores_at k + loads_in e + loads_in a
+accesses_in (st_if c x y) = loads_in c + accesses_in x + accesses_in y
 
 -- ---- the targets that a spawned body writes, by their numbers
 abbrev pub targets_in : Statement → List ℕ

@@ -1,1 +1,2 @@
 pub mod Behaviours
+pub mod Laws

@@ -1,0 +1,14 @@
+mod Types
+mod Constants
+mod FieldTypes
+mod Seeing
+mod Expressions
+mod Stores
+mod Scopes
+mod Assigned
+mod Statements
+mod Globals
+mod Encodings
+mod Accesses
+mod Extensions
+mod Values
