@@ -2,9 +2,12 @@
 #![tactic(auto)]
 
 mod effect;
+mod prepared;
 mod reading;
+mod running;
 mod scratch;
 
 pub use effect::{Access, Effect};
 pub use ix_mean::State as Inputs;
-pub use scratch::{Scratch, eval};
+pub use running::eval;
+pub use scratch::Scratch;

@@ -1,18 +1,25 @@
 -- What is made of a behaviour's statements is what its names resolve to.
-use Rattle.std.proofs.Common.{◌≡◌, ◌∙◌, sym, ap, subst, refl, ℕ, List, [], ◌∷◌, ◌++◌, map, append_assoc}
+use Rattle.std.proofs.Common.{◌≡◌, ◌∙◌, sym, ap, subst, refl, ℕ, List, [], ◌∷◌, ◌++◌, map, Option}
+use Rattle.ix_bits.specs.declared.number.Ty.{Ty}
 use Rattle.ix_tree.specs.declared.extension.Extension.{Extension}
+use Rattle.ix_tree.specs.declared.extension.Piece.{Piece}
+use Rattle.ix_tree.specs.declared.extension.Register.{Register}
+use Rattle.ix_tree.specs.declared.extension.Table.{Table}
 use Rattle.ix_tree.specs.declared.typed.TypedStmt.{TypedStmt}
 use Rattle.ix_tree.specs.TypedTrees.{TypedStmtTree, ts_block, ts_empty, ts_locals, ts_assign, ts_if, ts_if_else, ts_spawn, TypedRow, typed_end, typed_more}
 use Rattle.ix_tree.specs.TypedView.{typed_whole, typed_items}
 use Rattle.ix_extension.specs.Extensions.{ExtensionTree, view_extension}
 use Rattle.ix_extension.specs.WellFormed.{IsOf, IsWellFormed}
-use Rattle.ix_mean.specs.Core.{Statement, st_skip, st_then, st_set, st_write, st_if}
+use Rattle.ix_mean.specs.declared.resolved.ResolvedStmt.{ResolvedStmt}
+use Rattle.ix_mean.specs.View.{view_statements}
+use Rattle.ix_mean.specs.Core.{u32, Statement, st_skip, st_then, st_set, st_write, st_if}
 use Rattle.ix_mean.specs.Typing.{Frame, IsTypedStatement}
 use Rattle.ix_mean.specs.ByName.{Names}
 use Rattle.ix_mean.specs.ResolvingStatements.{Scope, Step, after, left, step, step_row, outside, IsResolvedStatement, IsResolvedRow}
 use Rattle.ix_behaviour.specs.declared.which.Which.{Which}
-use Rattle.ix_behaviour.specs.Behaviours.{HasBehaviour, body_at, names_at, steps, resolved_at, statement_at, frame_at, targets_in, spawned, spawned_row, all_spawned, spawned_at}
+use Rattle.ix_behaviour.specs.Behaviours.{HasBehaviour, body_at, pieces_at, names_at, steps, resolved_at, statement_at, stored_in, or_byte, type_of_register, targets_at, frame_at, targets_in, spawned, spawned_row, all_spawned, spawned_at}
 use Rattle.ix_behaviour.specs.Laws.{AreResolved, ResolvedLaw, TypedBehaviourLaw}
+use Rattle.ix_slots.specs.Found.{names_of, entries_of}
 use Rattle.ix_slots.specs.Made.{made_step, made_row}
 use Rattle.ix_slots.specs.Spawned.{written_by, made_spawned, made_row_spawned}
 use Rattle.ix_slots.proofs.MakesSteps.{made_step_is, made_row_is}
@@ -99,3 +106,47 @@ spawned_is x w xs resolved typed well has e =
     row_spawned_are (frame_at y w) ns (typed_items xs) outside b.typed b.resolved
     ∙ row_spawned ns xs outside
     ∙ ap (λ (ys : List TypedStmtTree). all_spawned ns ys outside) e
+
+-- ---- as the code has them
+pub names_are : (x : Extension) (w : Which) (ps : List Piece) (rs : List Register) (ts : List Table) → ps ≡ pieces_at (view_extension x) w → rs ≡ x.registers → ts ≡ x.tables
+    → names_of ps rs ts ≡ names_at (view_extension x) w
+names_are x w ps rs ts e f g =
+    ap (λ (z : List Piece). names_of z rs ts) e
+    ∙ ap (λ (z : List Register). names_of (pieces_at (view_extension x) w) z ts) f
+    ∙ ap (λ (z : List Table). names_of (pieces_at (view_extension x) w) x.registers z) g
+
+-- what was made of the statements, with names and a scope that are those of the behaviour
+pub body_made : (x : Extension) (w : Which) (xs : List TypedStmt) (ns : Names) (sc : Scope) → ResolvedLaw → TypedBehaviourLaw → IsWellFormed x → HasBehaviour (view_extension x) w
+    → map typed_whole xs ≡ body_at (view_extension x) w → ns ≡ names_at (view_extension x) w → sc ≡ outside → made_row ns (typed_items xs) sc ≡ resolved_at (view_extension x) w
+body_made x w xs ns sc resolved typed well has e f g =
+    ap (λ (z : Names). made_row z (typed_items xs) sc) f
+    ∙ ap (made_row (names_at (view_extension x) w) (typed_items xs)) g
+    ∙ body_is x w xs resolved typed well has e
+
+pub spawned_made : (x : Extension) (w : Which) (xs : List TypedStmt) (ns : Names) (sc : Scope) → ResolvedLaw → TypedBehaviourLaw → IsWellFormed x → HasBehaviour (view_extension x) w
+    → map typed_whole xs ≡ body_at (view_extension x) w → ns ≡ names_at (view_extension x) w → sc ≡ outside → made_row_spawned ns (typed_items xs) sc ≡ spawned_at (view_extension x) w
+spawned_made x w xs ns sc resolved typed well has e f g =
+    ap (λ (z : Names). made_row_spawned z (typed_items xs) sc) f
+    ∙ ap (made_row_spawned (names_at (view_extension x) w) (typed_items xs)) g
+    ∙ spawned_is x w xs resolved typed well has e
+
+-- the statement that a body is seen as
+pub statement_made : (x : Extension) (w : Which) (ns : Names) (made : Step) (body : List ResolvedStmt) → ns ≡ names_at (view_extension x) w → made ≡ resolved_at (view_extension x) w
+    → view_statements (entries_of ns.tables) body ≡ made.body → view_statements (entries_of x.tables) body ≡ statement_at (view_extension x) w
+statement_made x w ns made body f e h =
+    ap (λ (z : Names). view_statements (entries_of z.tables) body) (sym f) ∙ h ∙ ap (λ (s : Step). s.body) e
+
+-- the types of slots and targets
+pub frame_made : (x : Extension) (w : Which) (slots targets : List Ty) (stored : Option Ty) (rs : List Register) (body : List ResolvedStmt)
+    → slots ≡ (resolved_at (view_extension x) w).scope.slots
+    → targets ≡ or_byte stored ∷ u32 ∷ u32 ∷ map type_of_register rs
+    → stored ≡ stored_in (view_statements (entries_of x.tables) body)
+    → view_statements (entries_of x.tables) body ≡ statement_at (view_extension x) w → rs ≡ x.registers
+    → let f : Frame = record { slots = slots; targets = targets } in f ≡ frame_at (view_extension x) w
+frame_made x w slots targets stored rs body e f g h r =
+    let y = view_extension x in
+    let is : targets ≡ targets_at y w =
+    f ∙ ap (λ (z : List Register). or_byte stored ∷ u32 ∷ u32 ∷ map type_of_register z) r
+    ∙ ap (λ (z : Option Ty). or_byte z ∷ u32 ∷ u32 ∷ map type_of_register x.registers) (g ∙ ap stored_in h) in
+    ap (λ (z : List Ty). let f : Frame = record { slots = z; targets = targets } in f) e
+    ∙ ap (λ (z : List Ty). let f : Frame = record { slots = (resolved_at y w).scope.slots; targets = z } in f) is

@@ -3,7 +3,7 @@
 
 mod behaviour;
 mod marks;
-mod resolve;
+mod parts;
 mod stores;
 
-pub use resolve::{Resolved, resolve};
+pub use behaviour::{Resolved, resolve};

@@ -70,7 +70,7 @@ pub(crate) fn flags(
     ensures { IfOk result (λ flags. flags ≡ marked (map unmarked targets.now) (spawned_among body.now)) }
 {
     let mut flags = Vec::new(alloc);
-    for _ in targets {
+    while flags.len() < targets.len() {
         flags.push(false)?;
     }
     mark_all_spawned(body, flags.as_mut_slice());

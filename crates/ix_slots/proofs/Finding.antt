@@ -64,7 +64,8 @@ found_from : (es : List (List Bits)) (t : ℕ) (ts : List Table) (n : List ℕ) 
     → table_in t ts n ≡ option_map (with_patterns es) (option_map number_of (table_in t ts n))
 found_from es t [] n h = refl
 found_from es t (x ∷ ts) n h =
-    let here : x.entries ≡ get_or es t [] = h 0 in
+    let first : t + 0 ≡ t = omega arith in
+    let here : x.entries ≡ get_or es t [] = h 0 ∙ ap (λ (i : ℕ). get_or es i []) first in
     let rest = λ (k : ℕ).
     let same : t + suc k ≡ suc t + k = omega arith in
     h (suc k) ∙ ap (λ (i : ℕ). get_or es i []) same in

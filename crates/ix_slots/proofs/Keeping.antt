@@ -1,5 +1,5 @@
 -- A map that keeps the places of locals, where one is declared or taken away.
-use Rattle.std.proofs.Common.{◌≡◌, ◌∙◌, sym, ap, refl, ℕ, suc, ◌+◌, ◌-◌, ◌<◌, ◌≤◌, List, [], ◌∷◌, ◌++◌, drop, length, Option, Some, None, Bool, true, false, cond, String, BTreeMap, IsSome, append_assoc, arith}
+use Rattle.std.proofs.Common.{◌≡◌, ◌∙◌, sym, ap, refl, ℕ, suc, ◌+◌, ◌-◌, ◌<◌, ◌≤◌, List, [], ◌∷◌, ◌++◌, drop, length, length-append, Option, Some, None, Bool, true, false, cond, String, BTreeMap, IsSome, append_assoc, arith}
 use Rattle.std.specs.Prelude.{option_map, if◌then◌else◌}
 use Rattle.std.specs.BTreeMap.{get_by_text}
 use Rattle.std.specs.Map.{update}
@@ -7,10 +7,12 @@ use Rattle.std.specs.Cmp.Lexicographic.{bytes_decides}
 use Rattle.std.specs.Str.{bytes_eq}
 use Rattle.ix_tree.specs.Lexing.{same_bytes}
 use Rattle.ix_tree.proofs.Names.{same_is}
+use Rattle.ix_bits.specs.declared.number.Ty.{Ty}
 use Rattle.ix_mean.specs.Resolving.{Slot, slot_in}
+use Rattle.ix_mean.specs.ResolvingStatements.{Scope}
 use Rattle.ix_slots.specs.declared.locals.Local.{Local}
 use Rattle.ix_slots.specs.declared.locals.Place.{Place}
-use Rattle.ix_slots.specs.Kept.{slot_of, newest_first, place_of, place_at, places_before, IsKept}
+use Rattle.ix_slots.specs.Kept.{slot_of, newest_first, scope_of, place_of, place_at, with_local, places_before, IsKept}
 
 pub newest_push : (xs : List Local) (x : Local) → newest_first (xs ++ x ∷ []) ≡ slot_of x ∷ newest_first xs
 newest_push [] x = refl
@@ -106,10 +108,22 @@ module _ {Y : Type 0} where
 pub fewer : (ls : List Slot) (count : ℕ) → count < length ls → drop (length (drop 1 ls) - count) (drop 1 ls) ≡ drop (length ls - count) ls
 fewer [] count h = absurd (omega arith)
 fewer (x ∷ xs) count h =
-    let e : length xs + 1 - count ≡ suc (length xs - count) = omega arith in
+    let e : suc (length xs) - count ≡ suc (length xs - count) = omega arith in
     sym (ap (λ (k : ℕ). drop k (x ∷ xs)) e)
 
 pub none_fewer : (ls : List Slot) (count : ℕ) → length ls ≤ count → drop (length ls - count) ls ≡ ls
 none_fewer ls count h =
     let e : length ls - count ≡ 0 = omega arith in
     ap (λ (k : ℕ). drop k ls) e
+
+-- one more local, with the next slot
+pub scope_push : (items now : List Local) (slots new : List Ty) (sc : Scope) (n : List ℕ) (ty : Ty) (k : ℕ)
+    → (let x : Local = record { name = n; place = record { ty = ty; slot = k } } in now ≡ items ++ x ∷ [])
+    → new ≡ slots ++ ty ∷ [] → k ≡ length slots → scope_of items slots ≡ sc → scope_of now new ≡ with_local sc n ty
+scope_push items now slots new sc n ty k e f g h =
+    let x : Local = record { name = n; place = record { ty = ty; slot = k } } in
+    ap (λ (z : List Local). scope_of z new) e
+    ∙ ap (λ (z : List Ty). scope_of (items ++ x ∷ []) z) f
+    ∙ ap (λ (z : List Slot). let s : Scope = record { locals = z; slots = slots ++ ty ∷ [] } in s) (newest_push items x)
+    ∙ ap (λ (z : ℕ). let s : Scope = record { locals = record { name = n; ty = ty; slot = z } ∷ newest_first items; slots = slots ++ ty ∷ [] } in s) g
+    ∙ ap (λ (s : Scope). with_local s n ty) h

@@ -4,3 +4,4 @@ pub mod Keeping
 pub mod Finding
 pub mod Chains
 pub mod Spawns
+pub mod Resolves

@@ -1,6 +1,7 @@
 -- In a typed tree whose names resolve, what the code makes is what the names resolve to.
 use Rattle.std.proofs.Common.{◌≡◌, ◌∙◌, sym, ap, subst, refl, ℕ, zero, suc, ◌+◌, ◌-◌, ◌<◌, ◌≤◌, ◌^◌, min, List, [], ◌∷◌, map, Option, Some, None, Bool, true, false, cond, ℤ, pos, negsuc, arith}
 use Rattle.std.specs.Prelude.{nat_lt, int_lt, int_le, unsigned_abs, if◌then◌else◌}
+use Rattle.std.proofs.lemmas.Bool.{lt-leb}
 use Rattle.ix_bits.specs.declared.number.Ty.{Ty}
 use Rattle.ix_bits.specs.declared.operator.BinOp.{BinOp}
 use Rattle.ix_bits.specs.NearTypes.{type_near}
@@ -14,7 +15,7 @@ use Rattle.ix_mean.specs.Core.{u1, u32, Expression, x_const, x_slot, x_read, x_l
 use Rattle.ix_mean.specs.Meaning.{number}
 use Rattle.ix_mean.specs.Typing.{Frame, IsTypedExpression}
 use Rattle.ix_mean.specs.ByName.{Names, Numbered, register_in, Entries, table_in}
-use Rattle.ix_mean.specs.Resolving.{Slot, slot_in, word_part, behind, with_zeros, field_from, pieces_of, insert, ordered, top_of, some_or, field_expression, resolved_other, resolved_name, constant, no_inputs, bits, resolved_entry, resolved_index, resolved_range, resolved, IsPlace, IsEntryOrBit, IsIndex, IsRange, IsResolved}
+use Rattle.ix_mean.specs.Resolving.{Slot, slot_in, word_part, behind, with_zeros, field_from, pieces_of, insert, ordered, top_of, some_or, field_expression, resolved_other, resolved_name, unary_kind, constant, no_inputs, bits, resolved_entry, resolved_index, resolved_range, resolved, IsPlace, IsEntryOrBit, IsIndex, IsRange, IsResolved}
 use Rattle.ix_slots.specs.declared.field.Part.{Part}
 use Rattle.ix_slots.specs.Made.{place_in, place_of, part_of, put_part, parts_of, top_of_parts, made_part, put_behind, with_part, made_from, made_field, made_other, made_name, made_bits, made_entry, made_index, made_range, made}
 
@@ -112,7 +113,9 @@ name_is f ns n None h = other_is f ns n (register_in 0 ns.registers n) h
 
 -- ---- places of bits
 place_number : (z : ℤ) → int_le (pos 0) z ≡ true → unsigned_abs z < 256 → (if int_lt z (pos 0) then 0 else min (unsigned_abs z) 255) ≡ unsigned_abs z
-place_number (pos n) e h = least_of_both n h
+place_number (pos n) e h =
+    let least : int_lt (pos n) (pos 0) ≡ false = lt-leb (suc n) 0 (omega arith) in
+    ap (λ (b : Bool). if b then 0 else min n 255) least ∙ least_of_both n h
 place_number (negsuc n) e h = cc
 
 place_is : (y : TypedExprTree) (at : Expression) → IsPlace y at → constant at < 256 → place_of y ≡ constant at
@@ -164,7 +167,7 @@ made_is f ns ls (t_index s ty x y) h r =
 made_is f ns ls (t_range s ty x y z) h r =
     range_is f ty x y z (made ns ls x) (resolved ns ls x) (resolved ns ls y) (made ns ls z) (resolved ns ls z) (IsResolved ns ls x) (IsResolved ns ls y) (IsResolved ns ls z)
     (made_is f ns ls x) (made_is f ns ls z) h r
-made_is f ns ls (t_unary s ty op x) h r = ap (x_one _ ty) (made_is f ns ls x h.0 r)
+made_is f ns ls (t_unary s ty op x) h r = ap (x_one (unary_kind op) ty) (made_is f ns ls x h.0 r)
 made_is f ns ls (t_cast s ty to x) h r = ap (x_cast ty) (made_is f ns ls x h r)
 made_is f ns ls (t_binary s ty op x y) h r =
     ap (λ (e : Expression). x_two op ty e (made ns ls y)) (made_is f ns ls x h.0 r.0) ∙ ap (x_two op ty (resolved ns ls x)) (made_is f ns ls y h.1 r.1)

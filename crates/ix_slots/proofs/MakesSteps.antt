@@ -122,3 +122,10 @@ extends_left old mid new h e f =
     let rest : new.locals ≡ old.locals =
     e ∙ ap (λ (k : ℕ). drop k mid.locals) count ∙ ap (drop (length h.newer)) h.is ∙ drop-append_seam h.newer old.locals in
     ap (λ (z : List Slot). let s : Scope = record { locals = z; slots = new.slots } in s) rest ∙ ap (λ (z : List Ty). let s : Scope = record { locals = old.locals; slots = z } in s) f
+
+-- the newer locals are taken away behind what was made
+pub kept : (old mid new st : Scope) (n : ℕ) → n ≡ length old.locals → mid ≡ st → Extends old st → new.locals ≡ drop (length mid.locals - n) mid.locals → new.slots ≡ mid.slots → new ≡ left old st
+kept old mid new st n p q h e f =
+    extends_left old st new h
+    (e ∙ ap (λ (k : ℕ). drop (length mid.locals - k) mid.locals) p ∙ ap (λ (s : Scope). drop (length s.locals - length old.locals) s.locals) q)
+    (f ∙ ap (λ (s : Scope). s.slots) q)

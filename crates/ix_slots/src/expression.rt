@@ -1,11 +1,14 @@
-ghost use Rattle.std.specs.Prelude.{◌≡◌, List, IfOk};
-ghost use Rattle.ix_bits.specs.declared.number.Bits.{Bits};
+ghost use Rattle.std.specs.Prelude.{◌≡◌, List, IfOk, if◌then◌else◌};
+ghost use Rattle.ix_bits.specs.declared.number.Ty.{Ty};
+ghost use Rattle.ix_graph.specs.declared.kind.Kind.TheVariants.{Range};
+ghost use Rattle.ix_tree.specs.TypedTrees.{TypedExprTree};
 ghost use Rattle.ix_tree.specs.TypedView.{typed_view};
-ghost use Rattle.ix_mean.specs.Core.{u32 as word_type};
+ghost use Rattle.ix_mean.specs.Core.{u32 as word_type, Expression, x_read, x_load};
 ghost use Rattle.ix_mean.specs.View.{view_expression};
 ghost use Rattle.ix_mean.specs.Resolving.{slot_in, unary_kind, operand_expression};
 ghost use Rattle.ix_slots.specs.Found.{entries_of};
-ghost use Rattle.ix_slots.specs.Made.{made, made_name, made_bits, made_index, made_range};
+ghost use Rattle.ix_slots.specs.Made.{place_of, made, made_name, made_bits, made_index, made_range};
+ghost use Rattle.ix_slots.specs.Elements.{made_element};
 
 use crate::constant::place_of;
 use crate::field::{cut, field, stands_at_15, zeros};
@@ -41,8 +44,21 @@ pub(crate) fn expression(
         TypedExprKind::Name(n) => return name(alloc, names, locals, n.as_str()),
         TypedExprKind::Pc => ResolvedExpr::Read(Kind::RdPC, word()),
         TypedExprKind::X | TypedExprKind::Mem => ResolvedExpr::Const(ty, zeros(ty)),
-        TypedExprKind::Index(x, at) => return index(alloc, names, locals, ty, x, at),
-        TypedExprKind::Range(x, h, l) => return bits(alloc, names, locals, ty, x, h, l),
+        TypedExprKind::Index(x, at) => match indexed(names, x, at) {
+            Element::Operand(kind) => ResolvedExpr::Read(kind, word()),
+            Element::Loaded => ResolvedExpr::Load(ty, boxed(alloc, names, locals, at)?),
+            Element::Entry(table) => {
+                ResolvedExpr::Entry(table, ty, boxed(alloc, names, locals, at)?)
+            }
+            Element::Bit => ResolvedExpr::One(bits(at, at), ty, boxed(alloc, names, locals, x)?),
+        },
+        TypedExprKind::Range(x, h, l) => {
+            if is_memory(x) {
+                ResolvedExpr::Load(ty, boxed(alloc, names, locals, l)?)
+            } else {
+                ResolvedExpr::One(bits(h, l), ty, boxed(alloc, names, locals, x)?)
+            }
+        }
         TypedExprKind::Unary(op, x) => ResolvedExpr::One(
             unary_kind(*op),
             ty,
@@ -108,81 +124,60 @@ fn unary_kind(op: UnOp) -> Kind
 }
 
 // The operand that a field names.
-fn operand(pieces: &[Piece], name: &str) -> ResolvedExpr
-    ensures { (tables : List (List Bits)) → view_expression tables result ≡ operand_expression pieces.now name.now }
+fn operand(pieces: &[Piece], name: &str) -> Kind
+    ensures { x_read result word_type ≡ operand_expression pieces.now name.now }
 {
-    let kind = if stands_at_15(pieces, name) {
+    if stands_at_15(pieces, name) {
         Kind::RdRS1
     } else {
         Kind::RdRS2
-    };
-    ResolvedExpr::Read(kind, word())
+    }
 }
 
-// `x[at]`: an operand, a byte of memory, an entry of a table, or a bit.
-#[cycle(expressions)]
-fn index(
-    alloc: Global,
-    names: &Names,
-    locals: &Locals,
-    ty: Ty,
-    x: &TypedExpr,
-    at: &TypedExpr,
-) -> Result<ResolvedExpr, Memory>
-    ensures { IfOk result (λ r. view_expression (entries_of names.now.tables) r ≡ made_index names.now ty (typed_view x.now) (made names.now locals.now.locals (typed_view x.now)) (typed_view at.now) (made names.now locals.now.locals (typed_view at.now))) }
+/// What `x[at]` is.
+enum Element {
+    /// An operand of the instruction.
+    Operand(Kind),
+    /// Bytes of memory.
+    Loaded,
+    /// An entry of the table with this number.
+    Entry(usize),
+    /// A bit.
+    Bit,
+}
+
+// What `x[at]` is.
+fn indexed(names: &Names, x: &TypedExpr, at: &TypedExpr) -> Element
+    ensures { (ty : Ty) (base index : Expression) → made_element (entries_of names.now.tables) result ty base (typed_view at.now) index ≡ made_index names.now ty (typed_view x.now) base (typed_view at.now) index }
 {
     match (&x.kind, &at.kind) {
-        (TypedExprKind::X, TypedExprKind::Name(n)) => Ok(operand(names.pieces(), n.as_str())),
-        (TypedExprKind::Mem, _) => {
-            Ok(ResolvedExpr::Load(ty, boxed(alloc, names, locals, at)?))
+        (TypedExprKind::X, TypedExprKind::Name(n)) => {
+            Element::Operand(operand(names.pieces(), n.as_str()))
         }
+        (TypedExprKind::Mem, _) => Element::Loaded,
         (TypedExprKind::Name(n), _) => match names.table(n.as_str()) {
-            Some(table) => Ok(ResolvedExpr::Entry(
-                table,
-                ty,
-                boxed(alloc, names, locals, at)?,
-            )),
-            None => part(alloc, names, locals, ty, x, at, at),
+            Some(table) => Element::Entry(table),
+            None => Element::Bit,
         },
-        _ => part(alloc, names, locals, ty, x, at, at),
+        _ => Element::Bit,
     }
 }
 
-// `x[h:l]`: what memory has from l on, or bits.
-#[cycle(expressions)]
-fn bits(
-    alloc: Global,
-    names: &Names,
-    locals: &Locals,
-    ty: Ty,
-    x: &TypedExpr,
-    h: &TypedExpr,
-    l: &TypedExpr,
-) -> Result<ResolvedExpr, Memory>
-    ensures { IfOk result (λ r. view_expression (entries_of names.now.tables) r ≡ made_range ty (typed_view x.now) (made names.now locals.now.locals (typed_view x.now)) (typed_view h.now) (typed_view l.now) (made names.now locals.now.locals (typed_view l.now))) }
+fn is_memory(x: &TypedExpr) -> bool
+    ensures { (ty : Ty) (base index : Expression) (h l : TypedExprTree) → made_range ty (typed_view x.now) base h l index ≡ (if result then x_load ty index else made_bits ty base h l) }
 {
     match &x.kind {
-        TypedExprKind::Mem => Ok(ResolvedExpr::Load(ty, boxed(alloc, names, locals, l)?)),
-        _ => part(alloc, names, locals, ty, x, h, l),
+        TypedExprKind::Mem => true,
+        _ => false,
     }
 }
 
-// Bits h down to l of x, which are constants.
-#[cycle(expressions)]
-fn part(
-    alloc: Global,
-    names: &Names,
-    locals: &Locals,
-    ty: Ty,
-    x: &TypedExpr,
-    h: &TypedExpr,
-    l: &TypedExpr,
-) -> Result<ResolvedExpr, Memory>
-    ensures { IfOk result (λ r. view_expression (entries_of names.now.tables) r ≡ made_bits ty (made names.now locals.now.locals (typed_view x.now)) (typed_view h.now) (typed_view l.now)) }
+// Bits h down to l, which are constants.
+fn bits(h: &TypedExpr, l: &TypedExpr) -> Kind
+    ensures { result ≡ Range (place_of (typed_view h.now)) (place_of (typed_view l.now)) }
 {
-    let kind = Kind::Range {
+    Kind::Range {
         hi: place_of(h),
         lo: place_of(l),
-    };
-    Ok(ResolvedExpr::One(kind, ty, boxed(alloc, names, locals, x)?))
+    }
 }

@@ -167,7 +167,7 @@ fn with_part(
 ) -> Result<ResolvedExpr, Memory>
     ensures { (tables : List (List Bits)) → IfOk result (λ r. view_expression tables r ≡ with_part (option_map (view_expression tables) front) below part) }
 {
-    let gap = below.saturating_sub(u16::from(part.hi) + 1);
+    let gap = below.saturating_sub(past(part));
     let front = with_zeros(alloc, front, gap)?;
     let part = word_part(alloc, part)?;
     put_behind(alloc, front, part)
@@ -191,16 +191,20 @@ fn with_parts(
     }
 }
 
+// One more than the highest bit of a part.
+fn past(part: Part) -> u16
+    ensures { result ≡ part.hi + 1 }
+{
+    u16::from(part.hi) + 1
+}
+
 // One more than the highest bit.
 fn top_of(parts: &[Part]) -> u16
     ensures { result ≡ top_of_parts parts.now }
 {
     match parts.split_first() {
         None => 0,
-        Some((part, _)) => {
-            let part = *part;
-            u16::from(part.hi) + 1
-        }
+        Some((part, _)) => past(*part),
     }
 }
 

@@ -229,15 +229,21 @@ fn assign(
     let value = expression(alloc, names, locals, &assign.value)?;
     match &assign.target.kind {
         TypedLvalueKind::Name(name) => {
-            write_name(alloc, names, locals, assign.op, name.as_str(), value)
+            let written = write_name(alloc, names, locals, assign.op, name.as_str(), value)?;
+            Ok(written)
         }
-        TypedLvalueKind::Pc => write_pc(alloc, assign.op, value),
+        TypedLvalueKind::Pc => {
+            let written = write_pc(alloc, assign.op, value)?;
+            Ok(written)
+        }
         TypedLvalueKind::X(_) => Ok(write(1, word(), value)),
         TypedLvalueKind::Mem(at, None) => {
-            store(alloc, names, locals, type_near(false, 8), at, value)
+            let stored = store(alloc, names, locals, type_near(false, 8), at, value)?;
+            Ok(stored)
         }
         TypedLvalueKind::Mem(h, Some(l)) => {
-            store(alloc, names, locals, store_type(h), l, value)
+            let stored = store(alloc, names, locals, store_type(h), l, value)?;
+            Ok(stored)
         }
     }
 }
