@@ -1,2 +1,2 @@
 pub mod Resolving
-pub mod Marks
+pub mod FlagLists

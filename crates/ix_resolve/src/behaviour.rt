@@ -6,8 +6,8 @@ ghost use Rattle.ix_behaviour.specs.Behaviours.{HasBehaviour, statement_at, fram
 ghost use Rattle.ix_slots.specs.Found.{entries_of};
 ghost use Rattle.ix_resolve.specs.Flags.{flags_at};
 
-use crate::parts::{body_of, pieces_of};
 use crate::marks::flags;
+use crate::parts::{body_of, pieces_of};
 use crate::stores::{stored_first, target_types};
 use ix_behaviour::{Which, behaviour_laws};
 use ix_bits::{List, Memory};

@@ -19,13 +19,7 @@ fn stored(x: &ResolvedStmt) -> Option<Ty>
     match x {
         ResolvedStmt::Block(all) => stored_first(all.as_slice()),
         ResolvedStmt::Set(_, _, _) => None,
-        ResolvedStmt::Write(w) => {
-            if w.target == 0 {
-                Some(w.ty)
-            } else {
-                None
-            }
-        }
+        ResolvedStmt::Write(w) => { if w.target == 0 { Some(w.ty) } else { None } }
         ResolvedStmt::If(_, x, y) => match stored(x) {
             Some(ty) => Some(ty),
             None => stored(y),

@@ -93,21 +93,13 @@ fn boxed(
 }
 
 // What a name stands for: a local, a custom register, or a field.
-fn name(
-    alloc: Global,
-    names: &Names,
-    locals: &Locals,
-    name: &str,
-) -> Result<ResolvedExpr, Memory>
+fn name(alloc: Global, names: &Names, locals: &Locals, name: &str) -> Result<ResolvedExpr, Memory>
     ensures { IfOk result (λ r. view_expression (entries_of names.now.tables) r ≡ made_name names.now name.now (slot_in locals.now.locals name.now)) }
 {
     match locals.find(name) {
         Some(place) => Ok(ResolvedExpr::Slot(place.slot, place.ty)),
         None => match names.custom(name) {
-            Some(custom) => Ok(ResolvedExpr::Read(
-                Kind::RdCustReg(custom.number),
-                custom.ty,
-            )),
+            Some(custom) => Ok(ResolvedExpr::Read(Kind::RdCustReg(custom.number), custom.ty)),
             None => field(alloc, names.pieces(), name),
         },
     }

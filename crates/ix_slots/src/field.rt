@@ -151,11 +151,7 @@ fn word_part(alloc: Global, part: Part) -> Result<ResolvedExpr, Memory>
     };
     let word = ResolvedExpr::Read(Kind::RdInstr, type_near(false, 32));
     let word = Box::new(alloc, word)?;
-    Ok(ResolvedExpr::One(
-        kind,
-        type_near(false, u128::from(more) + 1),
-        word,
-    ))
+    Ok(ResolvedExpr::One(kind, type_near(false, u128::from(more) + 1), word))
 }
 
 // What stands in front, with the zeros above a part and the part behind it.

@@ -19,8 +19,7 @@ use ix_bits::{BinOp, List, Memory, Name, Ty};
 use ix_graph::Kind;
 use ix_mean::{ResolvedExpr, ResolvedStmt, Writing};
 use ix_tree::{
-    TypedAssign, TypedDecl, TypedExpr, TypedExprKind, TypedLvalueKind, TypedStmt,
-    TypedStmtKind,
+    TypedAssign, TypedDecl, TypedExpr, TypedExprKind, TypedLvalueKind, TypedStmt, TypedStmtKind,
 };
 use std::alloc::Global;
 
@@ -171,11 +170,7 @@ fn write_custom(
     }
 }
 
-fn write_pc(
-    alloc: Global,
-    op: Option<BinOp>,
-    e: ResolvedExpr,
-) -> Result<ResolvedStmt, Memory>
+fn write_pc(alloc: Global, op: Option<BinOp>, e: ResolvedExpr) -> Result<ResolvedStmt, Memory>
     ensures body { (tables : List (List Bits)) → IfOk result (λ r. view_statement tables r ≡ st_write 2 word_type (operated op word_type (x_read RdPC word_type) (view_expression tables e)) no_address) }
     ensures plain { IfOk result (λ r. spawned_in r ≡ []) }
 {
@@ -269,13 +264,7 @@ pub(crate) fn statement(
         }
         TypedStmtKind::Empty => Ok(nothing(alloc)),
         TypedStmtKind::Locals(text, decls) => {
-            declarations(
-                alloc,
-                names,
-                locals,
-                type_of_text(*text),
-                decls.as_slice(),
-            )
+            declarations(alloc, names, locals, type_of_text(*text), decls.as_slice())
         }
         TypedStmtKind::Assign(a) => assign(alloc, names, locals, a),
         TypedStmtKind::If(c, x, None) => {

@@ -4,4 +4,4 @@ use Rattle.ix_behaviour.specs.Behaviours.{or_byte, type_of_register}
 use Rattle.ix_resolve.proofs.stores.target_types.Given as goal
 
 abbrev pub invariant-loop-register : goal.invariant-loop-register
-invariant-loop-register l = l.targets ++ map type_of_register (drop l.register-index l.registers) ≡ or_byte l.stored ∷ u32 ∷ u32 ∷ map type_of_register l.registers
+invariant-loop-register l = l.targets ++ map type_of_register (drop l.register-index l.registers) ≡ or_byte l.fn.stored ∷ u32 ∷ u32 ∷ map type_of_register l.registers

@@ -77,13 +77,14 @@ statements-loop-x-preserved t c =
     let y = c.in_ok-statement.field-0 in
     let sc = c.loop-x.locals in
     let mid = c.statement.new.locals in
-    let rest = typed_items (drop (k + 1) xs) in
-    (ap (λ (ys : List ResolvedStmt). prefixed ts ys (made_row ns rest mid)) c.in_ok-push.ensures.ok
-    ∙ row_more ts ns xs k x out y sc mid c.loop-x-test.true c.x-item.is c.in_ok-statement.ensures.body c.in_ok-statement.ensures.scope
-    ∙ c.loop-x.invariant.0,
-    ap (λ (ys : List ResolvedStmt). spawned_among ys ++ made_row_spawned ns rest mid) c.in_ok-push.ensures.ok
-    ∙ spawned_more ns xs k x out y sc mid c.loop-x-test.true c.x-item.is c.in_ok-statement.ensures.spawns c.in_ok-statement.ensures.scope
-    ∙ c.loop-x.invariant.1)
+    let rest = typed_items (drop (k + 1) xs) in (
+      ap (λ (ys : List ResolvedStmt). prefixed ts ys (made_row ns rest mid)) c.in_ok-push.ensures.ok
+          ∙ row_more ts ns xs k x out y sc mid c.loop-x-test.true c.x-item.is c.in_ok-statement.ensures.body c.in_ok-statement.ensures.scope
+          ∙ c.loop-x.invariant.0,
+      ap (λ (ys : List ResolvedStmt). spawned_among ys ++ made_row_spawned ns rest mid) c.in_ok-push.ensures.ok
+          ∙ spawned_more ns xs k x out y sc mid c.loop-x-test.true c.x-item.is c.in_ok-statement.ensures.spawns c.in_ok-statement.ensures.scope
+          ∙ c.loop-x.invariant.1,
+    )
 
 pub statements-returns-clause-body : goal.statements-returns-clause-body
 statements-returns-clause-body t c =

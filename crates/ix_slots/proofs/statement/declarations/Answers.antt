@@ -17,14 +17,15 @@ loop-decl-preserved c =
     let k = c.loop-decl.decl-index in
     let out = c.loop-decl.all in
     let y = c.in_ok-declaration.field-0 in
-    let mid = c.declaration.new.locals in
-    (ap (λ (ys : List ResolvedStmt). prefixed ts ys (made_declarations ns c.args.ty (map typed_decl (drop (k + 1) xs)) mid)) c.in_ok-push.ensures.ok
-    ∙ declarations_more ts ns c.args.ty xs k c.decl-item.result out y c.loop-decl.locals mid c.loop-decl-test.true c.decl-item.is c.in_ok-declaration.ensures.body c.in_ok-declaration.ensures.scope
-    ∙ c.loop-decl.invariant.0,
-    ap spawned_among c.in_ok-push.ensures.ok
-    ∙ spawned_push out y
-    ∙ ap (λ (z : List ℕ). z ++ spawned_in y) c.loop-decl.invariant.1
-    ∙ c.in_ok-declaration.ensures.plain)
+    let mid = c.declaration.new.locals in (
+      ap (λ (ys : List ResolvedStmt). prefixed ts ys (made_declarations ns c.args.ty (map typed_decl (drop (k + 1) xs)) mid)) c.in_ok-push.ensures.ok
+          ∙ declarations_more ts ns c.args.ty xs k c.decl-item.result out y c.loop-decl.locals mid c.loop-decl-test.true c.decl-item.is c.in_ok-declaration.ensures.body c.in_ok-declaration.ensures.scope
+          ∙ c.loop-decl.invariant.0,
+      ap spawned_among c.in_ok-push.ensures.ok
+          ∙ spawned_push out y
+          ∙ ap (λ (z : List ℕ). z ++ spawned_in y) c.loop-decl.invariant.1
+          ∙ c.in_ok-declaration.ensures.plain,
+    )
 
 pub returns-clause-body : goal.returns-clause-body
 returns-clause-body c =
