@@ -1,0 +1,4 @@
+mod Hexes
+mod Decimals
+mod Literals
+mod Sides
