@@ -1,8 +1,8 @@
 -- Which right sides words are (IEEE 1364-2005, 5.1).
-use Rattle.std.specs.Prelude.{◌≡◌, ℕ, ◌≤◌, List}
+use Rattle.std.specs.Prelude.{◌≡◌, ◌≤◌, List}
 use Rattle.std.specs.List.{AllByRecursion}
 use Rattle.ix_net.specs.declared.netlist.Form.{Form}
-use Rattle.ix_net.specs.declared.netlist.Form.TheVariants.{Hex, Copy, Add, Sub, Mul, And, Or, Xor, Not, Eq, Lt, LtSigned, Join, Range, Choose}
+use Rattle.ix_net.specs.declared.netlist.Form.TheVariants.{Range}
 use Rattle.ix_net.specs.Forms.{operands}
 use Rattle.ix_verilog.specs.Words.{Word}
 use Rattle.ix_verilog.specs.Lines.{form_words}

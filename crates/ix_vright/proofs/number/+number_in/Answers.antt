@@ -1,6 +1,6 @@
-use Rattle.std.proofs.Common.{◌≡◌, ◌≤◌, ◌-◌, [], get_or, take, length, arith}
+use Rattle.std.proofs.Common.{◌≡◌, ◌-◌, [], get_or, take, length, arith}
 use Rattle.std.proofs.lemmas.List.{length-take-le}
-use Rattle.ix_vright.proofs.Hexes.{no_digits, no_last, one_number, no_front, joined_answer, below_high, last_of, only_of, none_of, is_hex_none}
+use Rattle.ix_vright.proofs.Hexes.{no_last, one_number, no_front, joined_answer, below_high, last_of, only_of, is_hex_none}
 use Rattle.ix_vright.proofs.number.+number_in.Goals as goal
 
 pub returns-in-empty : goal.returns-in-empty

@@ -1,4 +1,4 @@
-use Rattle.std.proofs.Common.{◌≡◌, ◌≤◌, ◌-◌, length, take, drop, refl, ap, arith}
+use Rattle.std.proofs.Common.{◌-◌, length, take, drop, refl, ap, arith}
 use Rattle.ix_vright.proofs.Hexes.{based_parts, based_answer, hex_length, rest_of}
 use Rattle.ix_vright.proofs.number.based.Goals as goal
 

@@ -1,4 +1,4 @@
-use Rattle.std.proofs.Common.{sym, ap, ◌∙◌, arith}
+use Rattle.std.proofs.Common.{ap, ◌∙◌}
 use Rattle.std.specs.Fmt.{decimal}
 use Rattle.ix_vright.proofs.Decimals.{decimal_utf8, decimal_read, decimal_read_same}
 use Rattle.ix_vright.proofs.number.decimal_in.Goals as goal

@@ -1,4 +1,4 @@
-use Rattle.std.proofs.Common.{refl, sym}
+use Rattle.std.proofs.Common.{refl}
 use Rattle.std.proofs.lemmas.Bool.{false≢true}
 use Rattle.ix_vright.proofs.Sides.{no_five, choose_form, named, unnamed, both_named, not_both}
 use Rattle.ix_vright.proofs.right.choice.Goals as goal

@@ -1,4 +1,4 @@
-use Rattle.std.proofs.Common.{refl, sym}
+use Rattle.std.proofs.Common.{refl}
 use Rattle.std.proofs.lemmas.Bool.{false≢true}
 use Rattle.ix_vright.proofs.Sides.{no_nine, nine_result}
 use Rattle.ix_vright.proofs.right.nine.Goals as goal

@@ -1,4 +1,3 @@
-use Rattle.std.proofs.Common.{sym}
 use Rattle.ix_vright.proofs.Sides.{no_one, hex_form, copy_form, named, unnamed}
 use Rattle.ix_vright.proofs.right.one.Goals as goal
 

@@ -1,4 +1,4 @@
-use Rattle.std.proofs.Common.{refl, sym}
+use Rattle.std.proofs.Common.{refl}
 use Rattle.std.proofs.lemmas.Bool.{false≢true}
 use Rattle.ix_vright.proofs.Sides.{no_six, range_form, named, unnamed}
 use Rattle.ix_vright.proofs.right.six.Goals as goal

@@ -1,4 +1,3 @@
-use Rattle.std.proofs.Common.{sym}
 use Rattle.ix_vright.proofs.Sides.{no_three, both_form, both_named, not_both}
 use Rattle.ix_vright.proofs.right.three.Goals as goal
 
