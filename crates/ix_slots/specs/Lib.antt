@@ -1,0 +1,5 @@
+pub mod Kept
+pub mod Found
+pub mod Made
+pub mod Spawned
+pub mod Elements
