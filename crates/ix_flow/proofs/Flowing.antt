@@ -1,12 +1,11 @@
 -- From the terms of an effect to the graph.
-use Rattle.std.proofs.Common.{◌≡◌, ℕ, ◌<◌, ◌≤◌, refl, sym, ap, subst, ◌∙◌, arith, Bool, List, [], ◌++◌, length, map, Result, Ok, Err}
+use Rattle.std.proofs.Common.{◌≡◌, ℕ, ◌<◌, ◌≤◌, sym, ap, subst, ◌∙◌, arith, Bool, List, [], ◌++◌, length, map, Err}
 use Rattle.std.specs.List.{AllByRecursion, flat_map}
 use Rattle.std.proofs.lemmas.List.{map-append, length-map}
-use Rattle.ix_graph.specs.declared.graph.Op.{Op}
 use Rattle.ix_graph.specs.declared.graph.Graph.{Graph}
 use Rattle.ix_mean.specs.Core.{Statement}
 use Rattle.ix_mean.specs.Terms.{Term, Entry, one_term, loads}
-use Rattle.ix_mean.specs.Order.{postorder, add_all, Among, load_root, write_roots, roots}
+use Rattle.ix_mean.specs.Order.{postorder, add_all, Among, load_root, write_roots}
 use Rattle.ix_mean.specs.Typing.{IsTypedStatement}
 use Rattle.ix_mean.specs.Effects.{start, effect_terms}
 use Rattle.ix_mean.specs.View.{frame_of}

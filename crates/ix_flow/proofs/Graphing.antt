@@ -1,6 +1,6 @@
 -- Operations and their arguments by their places in an order.
-use Rattle.std.proofs.Common.{◌≡◌, ℕ, zero, suc, ◌+◌, ◌^◌, ◌<◌, ◌≤◌, refl, sym, ap, subst, ◌∙◌, ◌⊎◌, inl, inr, ⊎_elim, arith, Bool, true, false, List, [], ◌∷◌, ◌++◌, length, map, get_or, drop, append_assoc}
-use Rattle.std.specs.Prelude.{nat_eq, ◌||◌}
+use Rattle.std.proofs.Common.{◌≡◌, ℕ, zero, suc, ◌+◌, ◌<◌, ◌≤◌, refl, sym, ap, subst, ◌∙◌, inl, ⊎_elim, arith, Bool, true, false, List, [], ◌∷◌, ◌++◌, length, map, get_or, drop, append_assoc}
+use Rattle.std.specs.Prelude.{nat_eq}
 use Rattle.std.specs.List.{list_any, AllByRecursion}
 use Rattle.std.proofs.lemmas.Bool.{or_cases, eqb-true, true≢false}
 use Rattle.std.proofs.lemmas.Nat.{pow_pos}
@@ -9,18 +9,16 @@ use Rattle.ix_bits.specs.declared.number.Ty.{Ty}
 use Rattle.ix_bits.specs.declared.number.Bits.{Bits}
 use Rattle.ix_graph.specs.declared.args.Arg.{Arg}
 use Rattle.ix_graph.specs.declared.graph.Op.{Op}
-use Rattle.ix_graph.specs.declared.kind.Kind.{Kind}
-use Rattle.ix_graph.specs.declared.kind.Kind.TheVariants.{Rom}
 use Rattle.ix_mean.specs.Terms.{Term, t_const, t_read, t_one, t_entry, t_two, t_three, type_of, zero_term}
-use Rattle.ix_mean.specs.Order.{postorder, Among, IsClosed, has_term}
+use Rattle.ix_mean.specs.Order.{postorder, Among}
 use Rattle.ix_mean.specs.Typing.{IsTerm}
 use Rattle.ix_mean.specs.View.{patterns_of}
 use Rattle.ix_mean.proofs.Ordering.{among_has, among_left, among_right, among_last}
 use Rattle.ix_terms.specs.Stores.{Stock, at, size, AreDistinct}
-use Rattle.ix_terms.specs.Places.{IsOperation, IsTermAt}
+use Rattle.ix_terms.specs.Places.{IsOperation}
 use Rattle.ix_flow.specs.Orders.{terms_at, IsOrder}
 use Rattle.ix_flow.specs.Flows.{kind_of_term, args_of_term, IsArgOf, AreArgsOf, IsOpOf, AreOpsOf, flag_of}
-use Rattle.ix_flow.specs.Operands.{IsSound, IsOperandReady, IsArgReady, IsOpReady, AreOpsReady}
+use Rattle.ix_flow.specs.Operands.{IsSound, IsArgReady, IsOpReady}
 use Rattle.ix_flow.proofs.Visiting.{listed}
 
 -- ---- the place of a place

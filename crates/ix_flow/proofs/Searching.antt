@@ -1,17 +1,17 @@
 -- A search with a list of what is left puts each operation once, behind its arguments.
-use Rattle.std.proofs.Common.{◌≡◌, ℕ, ◌+◌, ◌*◌, ◌<◌, ◌≤◌, refl, sym, ap, subst, ◌∙◌, ◌⊎◌, inl, inr, ⊎_elim, arith, Bool, true, List, [], ◌∷◌, ◌++◌, length, append_assoc, Result, Ok, Err}
+use Rattle.std.proofs.Common.{◌≡◌, ℕ, ◌+◌, ◌*◌, ◌<◌, ◌≤◌, refl, sym, ap, subst, ◌∙◌, ⊎_elim, arith, true, List, [], ◌∷◌, ◌++◌, length, append_assoc, Result, Ok, Err}
 use Rattle.std.specs.List.{AllByRecursion}
 use Rattle.std.proofs.lemmas.List.{append-nil}
 use Rattle.ix_mean.specs.Terms.{Term, t_const, t_read, t_one, t_entry, t_two, t_three}
-use Rattle.ix_mean.specs.Order.{postorder, has_term, add_term, add_all, Among, IsClosed}
-use Rattle.ix_mean.proofs.Ordering.{add_append, all_length, none_added, met_before, has_among, closed_all, among_left, among_right, among_either, all_keep, all_has}
+use Rattle.ix_mean.specs.Order.{postorder, has_term, add_all, Among, IsClosed}
+use Rattle.ix_mean.proofs.Ordering.{add_append, all_length, none_added, has_among, closed_all, among_left, among_right, among_either, all_keep, all_has}
 use Rattle.ix_terms.specs.Stores.{Stock, at, size}
 use Rattle.ix_flow.specs.declared.error.FlowErr.{FlowErr}
 use Rattle.ix_flow.specs.declared.error.FlowErr.TheVariants.{TooManyOps, Memory}
 use Rattle.ix_flow.specs.declared.order.Task.{Task}
 use Rattle.ix_flow.specs.declared.order.Task.TheVariants.{Enter, Leave}
-use Rattle.ix_flow.specs.Orders.{terms_at, IsOrder, HasPut, HasVisited, Comes, Puts, Visits, below_term, itself}
-use Rattle.ix_flow.specs.Searches.{task_terms, task_place, pending, IsReady, AreReady, term_size, weight, weights, IsExtended, HasStepped, IsSearching}
+use Rattle.ix_flow.specs.Orders.{terms_at, IsOrder, HasVisited, Comes, Puts, Visits, below_term, itself}
+use Rattle.ix_flow.specs.Searches.{task_terms, task_place, pending, IsReady, AreReady, term_size, weights, IsExtended, HasStepped, IsSearching}
 use Rattle.ix_flow.proofs.Visiting.{order_split}
 
 -- ---- what is left
@@ -48,14 +48,14 @@ ready_swap : (s : Stock) (os ps : List Term) (ys zs : List Task) → ((u : Term)
 ready_swap s os ps ys zs f r [] h = r
 ready_swap s os ps ys zs f r (x ∷ xs) h = (
   ready_as s (os ++ pending s (xs ++ ys)) (ps ++ pending s (xs ++ zs)) x
-  (λ u m.
-  let to : Among (ps ++ pending s zs ++ pending s xs) u → Among (ps ++ pending s (xs ++ zs)) u =
-  (λ n. subst (λ (us : List Term). Among us u) (append_assoc ps (pending s zs) (pending s xs) ∙ ap (λ (us : List Term). ps ++ us) (sym (pending_append s xs zs))) n) in
-  let from : Among (os ++ pending s ys ++ pending s xs) u =
-  subst (λ (us : List Term). Among us u) (ap (λ (us : List Term). os ++ us) (pending_append s xs ys) ∙ sym (append_assoc os (pending s ys) (pending s xs))) m in
-  to (⊎_elim (λ (a : Among (os ++ pending s ys) u). among_left (ps ++ pending s zs) (pending s xs) u (f u a)) (λ (b : Among (pending s xs) u). among_right (ps ++ pending s zs) (pending s xs) u b)
-  (among_either (os ++ pending s ys) (pending s xs) u from)))
-  h.0,
+      (λ u m.
+      let to : Among (ps ++ pending s zs ++ pending s xs) u → Among (ps ++ pending s (xs ++ zs)) u =
+      (λ n. subst (λ (us : List Term). Among us u) (append_assoc ps (pending s zs) (pending s xs) ∙ ap (λ (us : List Term). ps ++ us) (sym (pending_append s xs zs))) n) in
+      let from : Among (os ++ pending s ys ++ pending s xs) u =
+      subst (λ (us : List Term). Among us u) (ap (λ (us : List Term). os ++ us) (pending_append s xs ys) ∙ sym (append_assoc os (pending s ys) (pending s xs))) m in
+      to (⊎_elim (λ (a : Among (os ++ pending s ys) u). among_left (ps ++ pending s zs) (pending s xs) u (f u a)) (λ (b : Among (pending s xs) u). among_right (ps ++ pending s zs) (pending s xs) u b)
+      (among_either (os ++ pending s ys) (pending s xs) u from)))
+      h.0,
   ready_swap s os ps ys zs f r xs h.1,
 )
 

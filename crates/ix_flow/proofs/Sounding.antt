@@ -1,13 +1,12 @@
 -- What is an operation of a typed behaviour has typed arguments.
-use Rattle.std.proofs.Common.{◌≡◌, ℕ, zero, suc, ◌<◌, ◌≤◌, refl, sym, ap, subst, ◌∙◌, ◌⊎◌, inl, inr, ⊎_elim, arith, Bool, true, false, cond, List, [], ◌∷◌, ◌++◌, length, map}
+use Rattle.std.proofs.Common.{◌≡◌, ℕ, zero, suc, ◌<◌, ◌≤◌, refl, sym, ap, subst, inl, inr, ⊎_elim, List, [], ◌∷◌, ◌++◌, length, map}
 use Rattle.std.specs.List.{AllByRecursion, flat_map}
 use Rattle.std.proofs.lemmas.Bool.{cond_both}
-use Rattle.std.proofs.lemmas.List.{map-append, length-map}
 use Rattle.ix_bits.specs.declared.number.Ty.{Ty}
 use Rattle.ix_bits.specs.Operators.{value_of, is_true}
 use Rattle.ix_graph.specs.declared.kind.Kind.TheVariants as k
 use Rattle.ix_mean.specs.Core.{u1, Expression, x_const, x_slot, x_read, x_load, x_one, x_cast, x_entry, x_two, x_choose, Statement, st_skip, st_then, st_set, st_write, st_if}
-use Rattle.ix_mean.specs.Terms.{Term, t_const, t_read, t_one, t_entry, t_two, t_three, same_term, zero_term, one_term, make_one, Entry, Terms, Load, term, condition, when, unless, test_term, run_terms, expression_loads, branch_loads, loads}
+use Rattle.ix_mean.specs.Terms.{Term, t_const, t_read, t_one, t_entry, t_two, t_three, same_term, zero_term, one_term, make_one, Entry, Terms, Load, term, when, unless, test_term, run_terms, expression_loads, branch_loads, loads}
 use Rattle.ix_mean.specs.Order.{postorder, Among, operations, load_root, write_root, write_roots, roots}
 use Rattle.ix_mean.specs.Typing.{Frame, IsTypedExpression, IsTypedStatement, IsTerm, IsOf, IsEntry, AreOf, AreEntries, IsState}
 use Rattle.ix_mean.specs.Effects.{start, effect_terms}
@@ -16,11 +15,11 @@ use Rattle.ix_mean.proofs.Expressions.{term_of}
 use Rattle.ix_mean.proofs.Merging.{path_of}
 use Rattle.ix_mean.proofs.Running.{run_of}
 use Rattle.ix_mean.proofs.Effecting.{start_of, effect_typed}
-use Rattle.ix_mean.proofs.Ordering.{among_either, among_left, among_right, operations_law}
+use Rattle.ix_mean.proofs.Ordering.{among_either, operations_law}
 use Rattle.ix_terms.specs.Stores.{Stock, at, size}
 use Rattle.ix_terms.specs.Places.{IsOperation}
 use Rattle.ix_flow.specs.Orders.{terms_at}
-use Rattle.ix_flow.specs.Operands.{IsSound, IsOperandReady, IsOpReady}
+use Rattle.ix_flow.specs.Operands.{IsSound, IsOpReady}
 
 -- ---- loads are typed
 abbrev AreLoads : List Ty → List Load → Type 0
@@ -151,8 +150,7 @@ pub ops_ready : (s : Stock) (ts : List Ty) (order ks : List ℕ) → length s.ta
     → ((u : Term) → Among (terms_at s order) u → IsSound ts u × IsOperation u) → AllByRecursion (IsOpReady s order) ks
 ops_ready s ts order [] n b f g = tt
 ops_ready s ts order (j ∷ ks) n b f g =
-    let there = f (at s j) (inl refl) in
-    (
+    let there = f (at s j) (inl refl) in (
       record { within = b.0; operand = record { operation = (g (at s j) there).1; there = there }; targets = ts; sound = (g (at s j) there).0; few = n },
       ops_ready s ts order ks n b.1 (λ u m. f u (inr m)) g,
     )

@@ -1,5 +1,5 @@
 -- What is known of the places of operations and of their arguments.
-use Rattle.std.specs.Prelude.{◌≡◌, ◌⊎◌, ℕ, ◌<◌, ◌≤◌, List, [], ◌∷◌, length}
+use Rattle.std.specs.Prelude.{ℕ, ◌<◌, ◌≤◌, List, length}
 use Rattle.std.specs.List.{AllByRecursion}
 use Rattle.ix_bits.specs.declared.number.Ty.{Ty}
 use Rattle.ix_mean.specs.Terms.{Term, t_const, t_read, t_one, t_entry, t_two, t_three}
@@ -8,7 +8,6 @@ use Rattle.ix_mean.specs.Typing.{IsTerm}
 use Rattle.ix_terms.specs.Stores.{Stock, at, size}
 use Rattle.ix_terms.specs.Places.{IsOperation, IsTermAt}
 use Rattle.ix_flow.specs.Orders.{terms_at}
-use Rattle.ix_flow.specs.Flows.{args_of_term}
 
 -- an operation has typed arguments; one that reads a table is typed itself
 abbrev pub IsSound : List Ty → Term → Type 0

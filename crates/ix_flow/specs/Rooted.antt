@@ -1,5 +1,5 @@
 -- The roots of a behaviour's graph at places of a store.
-use Rattle.std.specs.Prelude.{◌≡◌, ℕ, ◌<◌, ◌≤◌, List, [], ◌∷◌, ◌++◌, length, map, if◌then◌else◌}
+use Rattle.std.specs.Prelude.{◌≡◌, ℕ, ◌<◌, List, [], ◌∷◌, ◌++◌, map, if◌then◌else◌}
 use Rattle.std.specs.List.{AllByRecursion}
 use Rattle.ix_mean.specs.Core.{Statement}
 use Rattle.ix_mean.specs.Terms.{Term, Entry, same_term, zero_term, one_term, loads}

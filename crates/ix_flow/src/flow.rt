@@ -34,12 +34,7 @@ fn put_write(store: &mut Store, number: usize, target: Target) -> Result<u32, Me
         0 => store.put(Node::Three(Kind::WrMem, u1(), address, value, condition)),
         1 => store.put(Node::Two(Kind::WrRD, u1(), value, condition)),
         2 => store.put(Node::Two(Kind::WrPC, u1(), value, condition)),
-        _ => store.put(Node::Two(
-            Kind::WrCustReg((number - 3) as u8),
-            u1(),
-            value,
-            condition,
-        )),
+        _ => store.put(Node::Two(Kind::WrCustReg((number - 3) as u8), u1(), value, condition)),
     }
 }
 
@@ -75,12 +70,7 @@ fn roots_of(store: &mut Store, roots: &mut Vec<u32>, targets: &[Target]) -> Resu
 }
 
 // The graph of the operations at places.
-fn built(
-    alloc: Global,
-    store: Store,
-    order: &[u32],
-    spawned: &[bool],
-) -> Result<Graph, Memory>
+fn built(alloc: Global, store: Store, order: &[u32], spawned: &[bool]) -> Result<Graph, Memory>
     requires order { IsOrder (stock_of store) order.now }
     requires ready { AreOpsReady (stock_of store) order.now }
     ensures { IfOk result (IsBuilt (stock_of store) (terms_at (stock_of store) order.now) spawned.now) }

@@ -93,7 +93,12 @@ fn enter(store: &Store, order: &[u32], tasks: &mut Vec<Task>, k: u32) -> Result<
         }
         Node::Three(_, _, a, b, c) => extend(
             tasks,
-            &[Task::Leave(k), Task::Enter(c), Task::Enter(b), Task::Enter(a)],
+            &[
+                Task::Leave(k),
+                Task::Enter(c),
+                Task::Enter(b),
+                Task::Enter(a),
+            ],
         ),
     }
 }

@@ -1,4 +1,3 @@
-use Rattle.std.proofs.Common.{subst, sym}
 use Rattle.ix_terms.specs.Stores.{stock_of}
 use Rattle.ix_flow.proofs.Searching.{left_as}
 use Rattle.ix_flow.proofs.order.step.Goals as goal

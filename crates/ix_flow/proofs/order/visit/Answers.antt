@@ -1,6 +1,6 @@
 use Rattle.ix_mean.specs.Order.{postorder}
 use Rattle.ix_terms.specs.Stores.{at, stock_of}
-use Rattle.ix_flow.proofs.Searching.{task_ready, task_below, searching_step, searching_less, searching_err}
+use Rattle.ix_flow.proofs.Searching.{task_ready, searching_step, searching_less, searching_err}
 use Rattle.ix_flow.proofs.order.visit.Goals as goal
 
 pub step-requires-clause-ready : goal.step-requires-clause-ready
