@@ -1,0 +1,6 @@
+//! The operation graphs of an extension's behaviours.
+#![tactic(auto)]
+
+mod behaviour;
+
+pub use behaviour::graph_of;
