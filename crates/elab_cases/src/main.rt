@@ -6,13 +6,10 @@
 //! `refused Extension KIND ..` with a span, names or a word behind it.
 #![tactic(auto)]
 
-mod listing;
-mod refusal;
-
-use crate::listing::put_extension;
-use crate::refusal::put_refusal;
+use ix_bits::Memory;
 use ix_elab::elaborate;
-use std::alloc::{AllocError, Global};
+use ix_listing::{listing, refusal};
+use std::alloc::Global;
 use std::io;
 use std::io::Read;
 
@@ -22,14 +19,14 @@ const END: u8 = 30;
 /// Past the greatest count of bytes that a text may have.
 const TOO_MANY: usize = 0x1_0000_0000;
 
-/// Puts the answer of the bytes of a text behind `out`.
-fn put_answer(out: &mut String, alloc: Global, bytes: &[u8]) -> Result<(), AllocError> {
+/// The answer of the bytes of a text, where there is memory and the text is not too long.
+fn answer(alloc: Global, bytes: &[u8]) -> Result<String, Memory> {
     if bytes.len() >= TOO_MANY {
-        return out.push_str("too long\n");
+        return Err(Memory);
     }
     match elaborate(alloc, bytes) {
-        Ok(extension) => put_extension(out, &extension),
-        Err(error) => put_refusal(out, &error),
+        Ok(extension) => listing(alloc, &extension),
+        Err(error) => refusal(alloc, &error),
     }
 }
 
@@ -38,9 +35,10 @@ fn main(rt: HostRuntime) -> io::Result<()> {
     rt.reader().read_to_end(&mut bytes)?;
     for text in bytes.as_slice().split_inclusive(|byte| *byte == END) {
         let text = text.strip_suffix(&[END]).unwrap_or(text);
-        let mut answer = String::new(rt.alloc());
-        put_answer(&mut answer, rt.alloc(), text)?;
-        print!(rt; "{answer}")?;
+        match answer(rt.alloc(), text) {
+            Ok(answer) => print!(rt; "{answer}")?,
+            Err(Memory) => print!(rt; "Memory\n")?,
+        }
     }
     Ok(())
 }

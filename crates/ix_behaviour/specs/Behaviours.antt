@@ -126,7 +126,7 @@ targets_in (st_write k ty e a) = k ∷ []
 targets_in (st_if c x y) = targets_in x ++ targets_in y
 
 abbrev mutual
-  -- a `spawn` stands below blocks alone, or below an `if` where the text is not typed
+  -- the targets of each `spawn` in the statement; in a typed one it stands below blocks alone
   pub spawned : Names → TypedStmtTree → Scope → List ℕ
   spawned ns (ts_block s all) sc = spawned_row ns all sc
   spawned ns (ts_empty s) sc = []

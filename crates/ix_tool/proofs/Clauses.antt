@@ -5,72 +5,97 @@ use Rattle.ix_io.specs.Limits.{most_bytes}
 use Rattle.ix_io.specs.Shelf.{NamedFiles, told_file}
 use Rattle.ix_io.specs.Sink.{Appends}
 use Rattle.ix_tool.specs.declared.status.Status.{Status}
-use Rattle.ix_tool.specs.declared.status.Status.TheVariants.{Ok as ok_status, Usage, ReadFault, WriteFault, TooLong, Image as image_status, Certificate, Memory}
+use Rattle.ix_tool.specs.declared.status.Status.TheVariants.{Ok as ok_status, Usage, ReadFault, WriteFault, TooLong, Extension as extension_status, Image as image_status, Certificate, Memory}
 use Rattle.ix_tool.specs.declared.command.Command.{Command}
 use Rattle.ix_tool.specs.declared.command.FileKind.{FileKind}
-use Rattle.ix_tool.specs.declared.command.FileKind.TheVariants.{Image, Report}
-use Rattle.ix_tool.specs.declared.value.Value.{Value}
+use Rattle.ix_tool.specs.declared.command.FileKind.TheVariants.{Image, Report, Extension}
+use Rattle.ix_tool.specs.Readings.{Reading}
 use Rattle.ix_tool.specs.CommandLine.{command_of, slots_of, behind}
 use Rattle.ix_tool.specs.CommandOutput.{Outcome, RoseIn, NoneRises, file_line, refusal_status, IsRefusedText, IsRefusedFile, not_read, too_long, bad_text, IsFirstRefused, IsAnswer, IsDue, due_usage, due_file, due_answer, UsageAnswer, ReadFaultAnswer, WriteFaultAnswer, TooLongAnswer, IsFileOf, TextAnswer, OutputAnswer, IsBuiltAnswer, IsStatusOr, Premises, Completes}
 use Rattle.ix_tool.proofs.Reading.{at_found}
 use Rattle.ix_tool.proofs.Due.{all_one, not_refused, own_status, commanded, usage_alone, due_one}
 
 -- ---- statuses are apart
-text_status : (P : Status → Type 0) → P image_status → P Certificate → (kind : FileKind) → P (refusal_status kind)
-text_status P i r Image = i
-text_status P i r Report = r
+-- a status that refuses a text is none of these
+no_text : (s : Status) → (image_status ≡ s → ⊥) → (Certificate ≡ s → ⊥) → (extension_status ≡ s → ⊥) → (kind : FileKind) → refusal_status kind ≡ s → ⊥
+no_text s i r x Image e = i e
+no_text s i r x Report e = r e
+no_text s i r x Extension e = x e
 
--- a status that refuses a file is none of these
-no_text : (s : Status) → (image_status ≡ s → ⊥) → (Certificate ≡ s → ⊥) → (kind : FileKind) → refusal_status kind ≡ s → ⊥
-no_text s i r Image e = i e
-no_text s i r Report e = r e
+text_no_usage : (kind : FileKind) → refusal_status kind ≡ Usage → ⊥
+text_no_usage = no_text Usage (λ q. cc) (λ q. cc) (λ q. cc)
+
+text_no_read_fault : (kind : FileKind) → refusal_status kind ≡ ReadFault → ⊥
+text_no_read_fault = no_text ReadFault (λ q. cc) (λ q. cc) (λ q. cc)
+
+text_no_write_fault : (kind : FileKind) → refusal_status kind ≡ WriteFault → ⊥
+text_no_write_fault = no_text WriteFault (λ q. cc) (λ q. cc) (λ q. cc)
+
+text_not_long : (kind : FileKind) → refusal_status kind ≡ TooLong → ⊥
+text_not_long = no_text TooLong (λ q. cc) (λ q. cc) (λ q. cc)
+
+text_not_ok : (kind : FileKind) → refusal_status kind ≡ ok_status → ⊥
+text_not_ok = no_text ok_status (λ q. cc) (λ q. cc) (λ q. cc)
+
+text_no_memory : (kind : FileKind) → refusal_status kind ≡ Memory → ⊥
+text_no_memory = no_text Memory (λ q. cc) (λ q. cc) (λ q. cc)
+
+text_is_built : (kind : FileKind) → IsBuiltAnswer (refusal_status kind)
+text_is_built Image = tt
+text_is_built Report = tt
+text_is_built Extension = tt
 
 one_kind : (found kind : FileKind) → refusal_status found ≡ refusal_status kind → found ≡ kind
 one_kind Image Image e = refl
 one_kind Image Report e = cc
+one_kind Image Extension e = cc
 one_kind Report Image e = cc
 one_kind Report Report e = refl
+one_kind Report Extension e = cc
+one_kind Extension Image e = cc
+one_kind Extension Report e = cc
+one_kind Extension Extension e = refl
 
 -- the status of a file's refusal, by what is so of each
-of_refusal : (P : Status → Type 0) → P ReadFault → P TooLong → P image_status → P Certificate → (files : Option NamedFiles) (R : List ℕ → Type 0) (kind : FileKind) (name : List ℕ) (status : Status) (line : List ℕ) → IsRefusedFile files R kind name status line → P status
-of_refusal P f l i r files R kind name _ _ (not_read rose) = f
-of_refusal P f l i r files R kind name _ _ (too_long long) = l
-of_refusal P f l i r files R kind name _ _ (bad_text bytes line file bad) = text_status P i r kind
+of_refusal : (P : Status → Type 0) → P ReadFault → P TooLong → ((kind : FileKind) → P (refusal_status kind)) → (files : Option NamedFiles) (R : List ℕ → Type 0) (kind : FileKind) (name : List ℕ) (status : Status) (line : List ℕ) → IsRefusedFile files R kind name status line → P status
+of_refusal P f l t files R kind name _ _ (not_read rose) = f
+of_refusal P f l t files R kind name _ _ (too_long long) = l
+of_refusal P f l t files R kind name _ _ (bad_text bytes line file bad) = t kind
 
-of_first : (P : Status → Type 0) → P ReadFault → P TooLong → P image_status → P Certificate → (files : Option NamedFiles) (R : List ℕ → Type 0) (command : Command) (words : List (List ℕ)) (status : Status) (line : List ℕ) → IsFirstRefused files R (slots_of command) (behind words) status line → P status
-of_first P f l i r files R command words status line h =
+of_first : (P : Status → Type 0) → P ReadFault → P TooLong → ((kind : FileKind) → P (refusal_status kind)) → (files : Option NamedFiles) (R : List ℕ → Type 0) (command : Command) (words : List (List ℕ)) (status : Status) (line : List ℕ) → IsFirstRefused files R (slots_of command) (behind words) status line → P status
+of_first P f l t files R command words status line h =
     let found = at_found files (λ kind name. IsRefusedFile files R kind name status line) (slots_of command) (behind words) h in
-    of_refusal P f l i r files R found.0 found.1 status line found.2
+    of_refusal P f l t files R found.0 found.1 status line found.2
 
 -- the status of a command's answer, by what is so of each
-of_answer : (P : Status → Type 0) → P ok_status → (command : Command) (vs : List Value) (status : Status) (bytes : List ℕ) → IsAnswer command vs status bytes → P status
+of_answer : (P : Status → Type 0) → P ok_status → (command : Command) (vs : List Reading) (status : Status) (bytes : List ℕ) → IsAnswer command vs status bytes → P status
 of_answer P o command vs status bytes (inl own) = own_status P command vs status bytes own
 of_answer P o command vs status bytes (inr out) = subst P (sym out.0) o
 
 -- a status that is due, by what is so of each
-of_due : (P : Status → Type 0) → P ok_status → P Usage → P ReadFault → P TooLong → P image_status → P Certificate → (files : Option NamedFiles) (R : List ℕ → Type 0) (words : List (List ℕ)) (status : Status) (bytes : List ℕ) → IsDue files R words status bytes → P status
-of_due P o u f l i r files R words _ _ (due_usage none) = u
-of_due P o u f l i r files R words _ _ (due_file command status line is first) = of_first P f l i r files R command words status line first
-of_due P o u f l i r files R words _ _ (due_answer command vs status bytes is read answer) = of_answer P o command vs status bytes answer
+of_due : (P : Status → Type 0) → P ok_status → P Usage → P ReadFault → P TooLong → ((kind : FileKind) → P (refusal_status kind)) → (files : Option NamedFiles) (R : List ℕ → Type 0) (words : List (List ℕ)) (status : Status) (bytes : List ℕ) → IsDue files R words status bytes → P status
+of_due P o u f l t files R words _ _ (due_usage none) = u
+of_due P o u f l t files R words _ _ (due_file command status line is first) = of_first P f l t files R command words status line first
+of_due P o u f l t files R words _ _ (due_answer command vs status bytes is read answer) = of_answer P o command vs status bytes answer
 
 due_no_fault : (files : Option NamedFiles) (R : List ℕ → Type 0) (words : List (List ℕ)) (status : Status) (bytes : List ℕ) → IsDue files R words status bytes → status ≡ WriteFault → ⊥
-due_no_fault = of_due (λ s. s ≡ WriteFault → ⊥) (λ e. cc) (λ e. cc) (λ e. cc) (λ e. cc) (λ e. cc) (λ e. cc)
+due_no_fault = of_due (λ s. s ≡ WriteFault → ⊥) (λ e. cc) (λ e. cc) (λ e. cc) (λ e. cc) text_no_write_fault
 
 due_no_memory : (files : Option NamedFiles) (R : List ℕ → Type 0) (words : List (List ℕ)) (status : Status) (bytes : List ℕ) → IsDue files R words status bytes → status ≡ Memory → ⊥
-due_no_memory = of_due (λ s. s ≡ Memory → ⊥) (λ e. cc) (λ e. cc) (λ e. cc) (λ e. cc) (λ e. cc) (λ e. cc)
+due_no_memory = of_due (λ s. s ≡ Memory → ⊥) (λ e. cc) (λ e. cc) (λ e. cc) (λ e. cc) text_no_memory
 
 -- ---- what is due, by its status
 usage_of : (files : Option NamedFiles) (R : List ℕ → Type 0) (words : List (List ℕ)) (before now : Option (List ℕ)) (status : Status) (bytes : List ℕ) → IsDue files R words status bytes → status ≡ Usage → Appends before now bytes → UsageAnswer words before now
 usage_of files R words before now _ _ (due_usage none) e a = (none, a)
 usage_of files R words before now _ _ (due_file command status line is first) e a =
-    absurd (of_first (λ s. s ≡ Usage → ⊥) (λ q. cc) (λ q. cc) (λ q. cc) (λ q. cc) files R command words status line first e)
+    absurd (of_first (λ s. s ≡ Usage → ⊥) (λ q. cc) (λ q. cc) text_no_usage files R command words status line first e)
 usage_of files R words before now _ _ (due_answer command vs status bytes is read answer) e a = absurd (of_answer (λ s. s ≡ Usage → ⊥) (λ q. cc) command vs status bytes answer e)
 
 fault_of : (files : Option NamedFiles) (counts counts_now : List ℕ → ℕ) (before now : Option (List ℕ)) (kind : FileKind) (name : List ℕ) (status : Status) (line : List ℕ) → IsRefusedFile files (RoseIn counts counts_now) kind name status line → status ≡ ReadFault → Appends before now line
     → RoseIn counts counts_now name × Appends before now (file_line (codes "ReadFault") name)
 fault_of files counts counts_now before now kind name _ _ (not_read rose) e a = (rose, a)
 fault_of files counts counts_now before now kind name _ _ (too_long long) e a = absurd cc
-fault_of files counts counts_now before now kind name _ _ (bad_text bytes line file bad) e a = absurd (no_text ReadFault (λ q. cc) (λ q. cc) kind e)
+fault_of files counts counts_now before now kind name _ _ (bad_text bytes line file bad) e a = absurd (text_no_read_fault kind e)
 
 read_fault_of : (files : Option NamedFiles) (counts counts_now : List ℕ → ℕ) (words : List (List ℕ)) (before now : Option (List ℕ)) (status : Status) (bytes : List ℕ) → IsDue files (RoseIn counts counts_now) words status bytes → status ≡ ReadFault → Appends before now bytes → ReadFaultAnswer files words counts counts_now before now
 read_fault_of files counts counts_now words before now _ _ (due_usage none) e a = absurd cc
@@ -84,7 +109,7 @@ long_of : (files : Option NamedFiles) (R : List ℕ → Type 0) (before now : Op
     → IfSome (told_file files name) (λ file. most_bytes < length file) × Appends before now (file_line (codes "TooLong") name)
 long_of files R before now kind name _ _ (not_read rose) e a = absurd cc
 long_of files R before now kind name _ _ (too_long long) e a = (long, a)
-long_of files R before now kind name _ _ (bad_text bytes line file bad) e a = absurd (no_text TooLong (λ q. cc) (λ q. cc) kind e)
+long_of files R before now kind name _ _ (bad_text bytes line file bad) e a = absurd (text_not_long kind e)
 
 too_long_of : (files : Option NamedFiles) (R : List ℕ → Type 0) (words : List (List ℕ)) (before now : Option (List ℕ)) (status : Status) (bytes : List ℕ) → IsDue files R words status bytes → status ≡ TooLong → Appends before now bytes → TooLongAnswer files words before now
 too_long_of files R words before now _ _ (due_usage none) e a = absurd cc
@@ -96,8 +121,8 @@ too_long_of files R words before now _ _ (due_answer command vs status bytes is 
 
 bad_of : (files : Option NamedFiles) (R : List ℕ → Type 0) (words : List (List ℕ)) (kind : FileKind) (before now : Option (List ℕ)) (command : Command) (found : FileKind) (name : List ℕ) (status : Status) (line : List ℕ) → command_of words ≡ Some command → IsRefusedFile files R found name status line
     → IsFileOf files found name (slots_of command) (behind words) → status ≡ refusal_status kind → Appends before now line → TextAnswer files words kind before now
-bad_of files R words kind before now command found name _ _ is (not_read rose) at e a = absurd (no_text ReadFault (λ q. cc) (λ q. cc) kind (sym e))
-bad_of files R words kind before now command found name _ _ is (too_long long) at e a = absurd (no_text TooLong (λ q. cc) (λ q. cc) kind (sym e))
+bad_of files R words kind before now command found name _ _ is (not_read rose) at e a = absurd (text_no_read_fault kind (sym e))
+bad_of files R words kind before now command found name _ _ is (too_long long) at e a = absurd (text_not_long kind (sym e))
 bad_of files R words kind before now command found name _ _ is (bad_text bytes line content bad) at e a =
     let same = one_kind found kind e in
     record {
@@ -113,17 +138,17 @@ bad_of files R words kind before now command found name _ _ is (bad_text bytes l
     }
 
 text_of_kind : (files : Option NamedFiles) (R : List ℕ → Type 0) (words : List (List ℕ)) (kind : FileKind) (before now : Option (List ℕ)) (status : Status) (bytes : List ℕ) → IsDue files R words status bytes → status ≡ refusal_status kind → Appends before now bytes → TextAnswer files words kind before now
-text_of_kind files R words kind before now _ _ (due_usage none) e a = absurd (no_text Usage (λ q. cc) (λ q. cc) kind (sym e))
+text_of_kind files R words kind before now _ _ (due_usage none) e a = absurd (text_no_usage kind (sym e))
 text_of_kind files R words kind before now _ _ (due_file command status line is first) e a =
     let found = at_found files (λ other name. IsRefusedFile files R other name status line) (slots_of command) (behind words) first in
     bad_of files R words kind before now command found.0 found.1 status line is found.2 found.3 e a
 text_of_kind files R words kind before now _ _ (due_answer command vs status bytes is read answer) e a =
-    absurd (of_answer (λ s. s ≡ refusal_status kind → ⊥) (λ q. no_text ok_status (λ p. cc) (λ p. cc) kind (sym q)) command vs status bytes answer e)
+    absurd (of_answer (λ s. s ≡ refusal_status kind → ⊥) (λ q. text_not_ok kind (sym q)) command vs status bytes answer e)
 
 output_of : (files : Option NamedFiles) (R : List ℕ → Type 0) (words : List (List ℕ)) (before now : Option (List ℕ)) (status : Status) (bytes : List ℕ) → IsDue files R words status bytes → status ≡ ok_status → Appends before now bytes → OutputAnswer files words before now
 output_of files R words before now _ _ (due_usage none) e a = absurd cc
 output_of files R words before now _ _ (due_file command status line is first) e a =
-    absurd (of_first (λ s. s ≡ ok_status → ⊥) (λ q. cc) (λ q. cc) (λ q. cc) (λ q. cc) files R command words status line first e)
+    absurd (of_first (λ s. s ≡ ok_status → ⊥) (λ q. cc) (λ q. cc) text_not_ok files R command words status line first e)
 output_of files R words before now _ _ (due_answer command vs status bytes is read (inl own)) e a = absurd (own_status (λ s. s ≡ ok_status → ⊥) command vs status bytes own e)
 output_of files R words before now _ _ (due_answer command vs status bytes is read (inr out)) e a = record { command = command; values = vs; text = bytes; command_is = is; read = read; output = out.1; written = a }
 
@@ -155,6 +180,9 @@ module _ (files : Option NamedFiles) (counts counts_now : List ℕ → ℕ) (wor
   pub certificate : result ≡ Certificate → TextAnswer files words Report before now
   certificate e = let w = written (λ q. grind (arith, e, q)) (λ q. grind (arith, e, q)) in text_of_kind files (RoseIn counts counts_now) words Report before now result w.0 w.1 e w.2
 
+  pub extension : result ≡ extension_status → TextAnswer files words Extension before now
+  extension e = let w = written (λ q. grind (arith, e, q)) (λ q. grind (arith, e, q)) in text_of_kind files (RoseIn counts counts_now) words Extension before now result w.0 w.1 e w.2
+
   pub output : result ≡ ok_status → OutputAnswer files words before now
   output e = let w = written (λ q. grind (arith, e, q)) (λ q. grind (arith, e, q)) in output_of files (RoseIn counts counts_now) words before now result w.0 w.1 e w.2
 
@@ -180,7 +208,7 @@ module _ (files : Option NamedFiles) (counts counts_now : List ℕ → ℕ) (wor
   built = elim outcome [
     | inl memory ↦ subst IsBuiltAnswer (sym memory.1) tt
     | inr due ↦ elim due.3 [
-      | inl whole ↦ subst IsBuiltAnswer (sym whole.0) (of_due IsBuiltAnswer tt tt tt tt tt tt files (RoseIn counts counts_now) words due.0 due.1 due.2)
+      | inl whole ↦ subst IsBuiltAnswer (sym whole.0) (of_due IsBuiltAnswer tt tt tt tt text_is_built files (RoseIn counts counts_now) words due.0 due.1 due.2)
       | inr front ↦ subst IsBuiltAnswer (sym front.0) tt
     ]
   ]
@@ -206,7 +234,7 @@ module _ (files : Option NamedFiles) (counts counts_now : List ℕ → ℕ) (wor
     ]
   ]
 
-  pub complete : (command : Command) (vs : List Value) → Premises files words counts counts_now faults faults_now command vs → Completes command vs before now result
+  pub complete : (command : Command) (vs : List Reading) → Premises files words counts counts_now faults faults_now command vs → Completes command vs before now result
   complete command vs p = elim outcome [
     | inl memory ↦ inr (memory.1, memory.2)
     | inr due ↦ elim due.3 [

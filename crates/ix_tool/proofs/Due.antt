@@ -8,15 +8,15 @@ use Rattle.ix_tool.specs.declared.status.Status.{Status}
 use Rattle.ix_tool.specs.declared.status.Status.TheVariants.{Usage, ReadFault}
 use Rattle.ix_tool.specs.declared.command.Command.{Command}
 use Rattle.ix_tool.specs.declared.command.FileKind.{FileKind}
-use Rattle.ix_tool.specs.declared.command.FileKind.TheVariants.{Image, Report}
+use Rattle.ix_tool.specs.declared.command.FileKind.TheVariants.{Image, Report, Extension}
 use Rattle.ix_tool.specs.declared.command.Slot.{Slot}
 use Rattle.ix_tool.specs.declared.command.Slot.TheVariants.{Number, File}
-use Rattle.ix_tool.specs.declared.value.Value.{Value}
-use Rattle.ix_tool.specs.declared.value.Value.TheVariants as value
+use Rattle.ix_tool.specs.Readings.{Reading, number_read, image_read, report_read, extension_read}
 use Rattle.rv_asm.specs.ImageText.{IsImageText}
 use Rattle.ix_tool.specs.BuiltImages.{AllBuilt}
 use Rattle.ix_tool.specs.CommandLine.{command_of, slots_of, behind, number_within}
 use Rattle.ix_tool.specs.CommandOutput.{IsRefusedImage, bad_line, unbuilt_line, IsRefusedText, IsReadAs, IsFile, IsRead, AreRead, IsRefusedFile, not_read, too_long, bad_text, IsFirstRefused, IsOwnRefusal, IsAnswer, IsDue, due_usage, due_file, due_answer, NoneRises, NoFileRises}
+use Rattle.ix_listing.proofs.OneExtension.{same_extension, extension_not_refused}
 use Rattle.rv_asm.proofs.ImageLemmas.{image_not_refused}
 use Rattle.ix_tool.proofs.BuiltWords.{built_not_refused}
 
@@ -32,25 +32,42 @@ image_apart : (bytes image : List ℕ) (number : ℕ) → IsImageText bytes imag
 image_apart bytes image _ t b (bad_line number bad) = image_not_refused bytes image number t bad
 image_apart bytes image _ t b (unbuilt_line other number u bad) = built_not_refused bytes image number t.words_are b bad
 
-text_apart : (kind : FileKind) (bytes line : List ℕ) (v : Value) → IsReadAs kind bytes v → IsRefusedText kind bytes line → ⊥
-text_apart Image bytes line (value.Image image) r bad = image_apart bytes image bad.0 r.0 r.1 bad.1
-text_apart Image bytes line (value.Number n) r bad = r
-text_apart Image bytes line value.Report r bad = r
-text_apart Report bytes line value.Report r bad = faultless_not_refused bytes bad.0 r bad.1
-text_apart Report bytes line (value.Image image) r bad = r
-text_apart Report bytes line (value.Number n) r bad = r
+text_apart : (kind : FileKind) (bytes line : List ℕ) (v : Reading) → IsReadAs kind bytes v → IsRefusedText kind bytes line → ⊥
+text_apart Image bytes line (image_read image) r bad = image_apart bytes image bad.0 r.0 r.1 bad.1
+text_apart Image bytes line (number_read n) r bad = r
+text_apart Image bytes line report_read r bad = r
+text_apart Image bytes line (extension_read x) r bad = r
+text_apart Report bytes line report_read r bad = faultless_not_refused bytes bad.0 r bad.1
+text_apart Report bytes line (image_read image) r bad = r
+text_apart Report bytes line (number_read n) r bad = r
+text_apart Report bytes line (extension_read x) r bad = r
+text_apart Extension bytes line (extension_read x) r bad = extension_not_refused bytes x bad.0 r bad.1
+text_apart Extension bytes line (image_read image) r bad = r
+text_apart Extension bytes line (number_read n) r bad = r
+text_apart Extension bytes line report_read r bad = r
 
-text_one : (kind : FileKind) (bytes : List ℕ) (v u : Value) → IsReadAs kind bytes v → IsReadAs kind bytes u → v ≡ u
-text_one Image bytes (value.Image i) (value.Image j) r s = ap (λ x. value.Image x) (r.0.words_are ∙ sym s.0.words_are)
-text_one Image bytes (value.Image i) (value.Number n) r s = absurd s
-text_one Image bytes (value.Image i) value.Report r s = absurd s
-text_one Image bytes (value.Number n) u r s = absurd r
-text_one Image bytes value.Report u r s = absurd r
-text_one Report bytes value.Report value.Report r s = refl
-text_one Report bytes value.Report (value.Image i) r s = absurd s
-text_one Report bytes value.Report (value.Number n) r s = absurd s
-text_one Report bytes (value.Number n) u r s = absurd r
-text_one Report bytes (value.Image i) u r s = absurd r
+text_one : (kind : FileKind) (bytes : List ℕ) (v u : Reading) → IsReadAs kind bytes v → IsReadAs kind bytes u → v ≡ u
+text_one Image bytes (image_read i) (image_read j) r s = ap (λ x. image_read x) (r.0.words_are ∙ sym s.0.words_are)
+text_one Image bytes (image_read i) (number_read n) r s = absurd s
+text_one Image bytes (image_read i) report_read r s = absurd s
+text_one Image bytes (image_read i) (extension_read y) r s = absurd s
+text_one Image bytes (number_read n) u r s = absurd r
+text_one Image bytes report_read u r s = absurd r
+text_one Image bytes (extension_read x) u r s = absurd r
+text_one Report bytes report_read report_read r s = refl
+text_one Report bytes report_read (image_read i) r s = absurd s
+text_one Report bytes report_read (number_read n) r s = absurd s
+text_one Report bytes report_read (extension_read y) r s = absurd s
+text_one Report bytes (number_read n) u r s = absurd r
+text_one Report bytes (image_read i) u r s = absurd r
+text_one Report bytes (extension_read x) u r s = absurd r
+text_one Extension bytes (extension_read x) (extension_read y) r s = ap (λ z. extension_read z) (same_extension bytes x y r s)
+text_one Extension bytes (extension_read x) (image_read i) r s = absurd s
+text_one Extension bytes (extension_read x) (number_read n) r s = absurd s
+text_one Extension bytes (extension_read x) report_read r s = absurd s
+text_one Extension bytes (image_read i) u r s = absurd r
+text_one Extension bytes (number_read n) u r s = absurd r
+text_one Extension bytes report_read u r s = absurd r
 
 -- ---- a told file has one text
 same_file : (files : Option NamedFiles) (name a b : List ℕ) → files ≢ None → IsFile files name a → IsFile files name b → a ≡ b
@@ -65,15 +82,15 @@ not_long (Some files) name a told f long =
     let l : most_bytes < length a = subst (λ x. most_bytes < length x) (sym same) long in
     omega (arith, within, l)
 
-one_number : (most : ℕ) (word : List ℕ) (v u : Value) → ((n : ℕ) × (number_within most word ≡ Some n) × (v ≡ value.Number n)) → ((n : ℕ) × (number_within most word ≡ Some n) × (u ≡ value.Number n)) → v ≡ u
-one_number most word v u r s = r.2 ∙ ap (λ n. value.Number n) (one (number_within most word) r.0 s.0 r.1 s.1) ∙ sym s.2
+one_number : (most : ℕ) (word : List ℕ) (v u : Reading) → ((n : ℕ) × (number_within most word ≡ Some n) × (v ≡ number_read n)) → ((n : ℕ) × (number_within most word ≡ Some n) × (u ≡ number_read n)) → v ≡ u
+one_number most word v u r s = r.2 ∙ ap (λ n. number_read n) (one (number_within most word) r.0 s.0 r.1 s.1) ∙ sym s.2
 
-read_one : (files : Option NamedFiles) (slot : Slot) (word : List ℕ) (v u : Value) → files ≢ None → IsRead files slot word v → IsRead files slot word u → v ≡ u
+read_one : (files : Option NamedFiles) (slot : Slot) (word : List ℕ) (v u : Reading) → files ≢ None → IsRead files slot word v → IsRead files slot word u → v ≡ u
 read_one files (Number most) word v u told r s = one_number most word v u r s
 read_one files (File kind) word v u told r s =
     text_one kind s.0 v u (subst (λ b. IsReadAs kind b v) (same_file files word r.0 s.0 told r.1 s.1) r.2) s.2
 
-pub all_one : (files : Option NamedFiles) (slots : List Slot) (words : List (List ℕ)) (vs us : List Value) → files ≢ None → AreRead files slots words vs → AreRead files slots words us → vs ≡ us
+pub all_one : (files : Option NamedFiles) (slots : List Slot) (words : List (List ℕ)) (vs us : List Reading) → files ≢ None → AreRead files slots words vs → AreRead files slots words us → vs ≡ us
 all_one files [] [] [] [] told r s = refl
 all_one files [] [] [] (u ∷ us) told r s = absurd s
 all_one files [] [] (v ∷ vs) us told r s = absurd r
@@ -85,7 +102,7 @@ all_one files (slot ∷ slots) (word ∷ words) (v ∷ vs) (u ∷ us) told r s =
     ap (λ x. x ∷ vs) (read_one files slot word v u told r.0 s.0) ∙ ap (λ xs. u ∷ xs) (all_one files slots words vs us told r.1 s.1)
 
 -- ---- a file that is read is refused for a fault alone
-only_fault : (files : Option NamedFiles) (R : List ℕ → Type 0) (kind : FileKind) (name : List ℕ) (v : Value) (status : Status) (line : List ℕ) → files ≢ None → IsRead files (File kind) name v → IsRefusedFile files R kind name status line → R name × (status ≡ ReadFault)
+only_fault : (files : Option NamedFiles) (R : List ℕ → Type 0) (kind : FileKind) (name : List ℕ) (v : Reading) (status : Status) (line : List ℕ) → files ≢ None → IsRead files (File kind) name v → IsRefusedFile files R kind name status line → R name × (status ≡ ReadFault)
 only_fault files R kind name v _ _ told r (not_read rose) = (rose, refl)
 only_fault files R kind name v _ _ told r (too_long long) = absurd (not_long files name r.0 told r.1 long)
 only_fault files R kind name v _ _ told r (bad_text bytes line file bad) =
@@ -112,7 +129,7 @@ first_two files R (File kind ∷ slots) (word ∷ words) s t a b told (inl f) (i
 first_two files R (File kind ∷ slots) (word ∷ words) s t a b told (inr f) (inl g) = absurd (only_fault files NoneRises kind word f.0 t b told f.1 g).0
 first_two files R (File kind ∷ slots) (word ∷ words) s t a b told (inr f) (inr g) = first_two files R slots words s t a b told f.2 g.2
 
-first_fault : (files : Option NamedFiles) (R : List ℕ → Type 0) (slots : List Slot) (words : List (List ℕ)) (vs : List Value) (s : Status) (a : List ℕ) → files ≢ None → IsFirstRefused files R slots words s a → AreRead files slots words vs → s ≡ ReadFault
+first_fault : (files : Option NamedFiles) (R : List ℕ → Type 0) (slots : List Slot) (words : List (List ℕ)) (vs : List Reading) (s : Status) (a : List ℕ) → files ≢ None → IsFirstRefused files R slots words s a → AreRead files slots words vs → s ≡ ReadFault
 first_fault files R [] words vs s a told f r = absurd f
 first_fault files R (Number most ∷ slots) [] vs s a told f r = absurd f
 first_fault files R (File kind ∷ slots) [] vs s a told f r = absurd f
@@ -122,7 +139,7 @@ first_fault files R (File kind ∷ slots) (word ∷ words) (v ∷ vs) s a told (
 first_fault files R (File kind ∷ slots) (word ∷ words) (v ∷ vs) s a told (inr f) r = first_fault files R slots words vs s a told f.2 r.1
 
 -- where no count rises, words that are read are not refused
-pub not_refused : (files : Option NamedFiles) (R : List ℕ → Type 0) (slots : List Slot) (words : List (List ℕ)) (vs : List Value) (s : Status) (a : List ℕ) → files ≢ None → NoFileRises R slots words → IsFirstRefused files R slots words s a → AreRead files slots words vs → ⊥
+pub not_refused : (files : Option NamedFiles) (R : List ℕ → Type 0) (slots : List Slot) (words : List (List ℕ)) (vs : List Reading) (s : Status) (a : List ℕ) → files ≢ None → NoFileRises R slots words → IsFirstRefused files R slots words s a → AreRead files slots words vs → ⊥
 not_refused files R [] words vs s a told none f r = f
 not_refused files R (Number most ∷ slots) [] vs s a told none f r = f
 not_refused files R (File kind ∷ slots) [] vs s a told none f r = f
@@ -140,11 +157,11 @@ none_rises (File kind ∷ slots) (word ∷ words) = (λ rose. rose, none_rises s
 
 -- ---- a command's own refusals, of which there are none yet
 -- their statuses, by what is so of each
-pub own_status : (P : Status → Type 0) (command : Command) (vs : List Value) (status : Status) (line : List ℕ) → IsOwnRefusal command vs status line → P status
+pub own_status : (P : Status → Type 0) (command : Command) (vs : List Reading) (status : Status) (line : List ℕ) → IsOwnRefusal command vs status line → P status
 own_status P command vs status line own = absurd own
 
 -- a command answers its values with one status
-answer_one : (command : Command) (vs : List Value) (s t : Status) (a b : List ℕ) → IsAnswer command vs s a → IsAnswer command vs t b → s ≡ t
+answer_one : (command : Command) (vs : List Reading) (s t : Status) (a b : List ℕ) → IsAnswer command vs s a → IsAnswer command vs t b → s ≡ t
 answer_one command vs s t a b (inl own) other = absurd own
 answer_one command vs s t a b (inr out) (inl own) = absurd own
 answer_one command vs s t a b (inr out) (inr other) = out.0 ∙ sym other.0
@@ -153,7 +170,7 @@ answer_one command vs s t a b (inr out) (inr other) = out.0 ∙ sym other.0
 abbrev pub IsCommanded : Option NamedFiles → (List ℕ → Type 0) → List (List ℕ) → Command → Status → List ℕ → Type 0
 IsCommanded files R words command status bytes =
     IsFirstRefused files R (slots_of command) (behind words) status bytes
-    ⊎ ((vs : List Value) × AreRead files (slots_of command) (behind words) vs × IsAnswer command vs status bytes)
+    ⊎ ((vs : List Reading) × AreRead files (slots_of command) (behind words) vs × IsAnswer command vs status bytes)
 
 pub commanded : (files : Option NamedFiles) (R : List ℕ → Type 0) (words : List (List ℕ)) (command : Command) (status : Status) (bytes : List ℕ) → command_of words ≡ Some command → IsDue files R words status bytes → IsCommanded files R words command status bytes
 commanded files R words command _ _ e (due_usage none) = absurd (both (command_of words) command e none)

@@ -1,21 +1,25 @@
--- What an output shows: of a run the headline, of a yes that the report is certified.
+-- What an output shows: of a run the headline, of a listing the extension, of a yes that the report is certified.
 use Rattle.std.proofs.Common.{◌≡◌, ◌≢◌, ℕ, ◌<◌, ◌≤◌, ◌^◌, List, [], ◌∷◌, length, Option, Some, None, Bool, true, false, refl, ap, sym, ◌∙◌, subst, arith}
 use Rattle.std.specs.Prelude.{codes, if◌then◌else◌}
 use Rattle.std.specs.Str.{bytes_eq}
 use Rattle.std.proofs.lemmas.Bool.{and_parts, true≢false}
+use Rattle.std.proofs.lemmas.Slice.Eq.{bytes_eq-Decides}
 use Rattle.ix_io.specs.Shelf.{NamedFiles, told_file}
 use Rattle.ix_io.specs.Sink.{Appends}
 use Rattle.ix_cert.specs.Certificates.{IsFaultless}
 use Rattle.ix_cert.proofs.Verdicts.{faultless_certified}
 use Rattle.ix_tool.specs.declared.command.Command.{Command}
-use Rattle.ix_tool.specs.declared.command.Command.TheVariants.{RunImage, Certify}
-use Rattle.ix_tool.specs.declared.command.FileKind.TheVariants.{Image, Report}
-use Rattle.ix_tool.specs.declared.value.Value.{Value}
-use Rattle.ix_tool.specs.declared.value.Value.TheVariants as value
+use Rattle.ix_tool.specs.declared.command.Command.TheVariants.{RunImage, Check, Certify}
+use Rattle.ix_tool.specs.declared.command.FileKind.TheVariants.{Image, Report, Extension}
+use Rattle.ix_tool.specs.Readings.{Reading, number_read, image_read, report_read, extension_read}
 use Rattle.rv_asm.specs.ImageText.{IsImageText}
+use Rattle.ix_extension.specs.Extensions.{ExtensionTree}
+use Rattle.ix_elab.specs.Elaborating.{Elaborates}
+use Rattle.ix_listing.specs.Listing.{listing_text}
+use Rattle.ix_listing.proofs.OneExtension.{is_well_formed}
 use Rattle.ix_tool.specs.BuiltImages.{AllBuilt}
-use Rattle.ix_tool.specs.CommandLine.{command_of, commands, first_command, is_command, slots_of, fits_slots, behind, number_within, run_of, run_command, report_of}
-use Rattle.ix_tool.specs.CommandOutput.{IsReadAs, IsFile, AreRead, IsOutput, Takes, OutputAnswer, RunAnswer, CertifiedAnswer, image_of_run, told_of}
+use Rattle.ix_tool.specs.CommandLine.{command_of, commands, first_command, is_command, slots_of, fits_slots, behind, number_within, run_of, run_command, extension_of, report_of}
+use Rattle.ix_tool.specs.CommandOutput.{IsReadAs, IsFile, AreRead, IsOutput, Takes, OutputAnswer, RunAnswer, ListedAnswer, CertifiedAnswer, image_of_run, told_of}
 use Rattle.ix_tool.proofs.Due.{both, one}
 
 -- ---- the words of a command
@@ -40,30 +44,38 @@ fit_behind [] command e = cc
 fit_behind (word ∷ rest) command e = (and_parts _ _ (is_of (word ∷ rest) command e)).1
 
 -- ---- what a command takes
-image_of : (bytes : List ℕ) (v : Value) → IsReadAs Image bytes v → (image : List ℕ) × (v ≡ value.Image image) × IsImageText bytes image × AllBuilt image
-image_of bytes (value.Image image) r = (image, refl, r.0, r.1)
-image_of bytes (value.Number n) r = absurd r
-image_of bytes value.Report r = absurd r
+image_of : (bytes : List ℕ) (v : Reading) → IsReadAs Image bytes v → (image : List ℕ) × (v ≡ image_read image) × IsImageText bytes image × AllBuilt image
+image_of bytes (image_read image) r = (image, refl, r.0, r.1)
+image_of bytes (number_read n) r = absurd r
+image_of bytes report_read r = absurd r
+image_of bytes (extension_read x) r = absurd r
 
-report_in : (bytes : List ℕ) (v : Value) → IsReadAs Report bytes v → (v ≡ value.Report) × IsFaultless bytes
-report_in bytes value.Report r = (refl, r)
-report_in bytes (value.Image image) r = absurd r
-report_in bytes (value.Number n) r = absurd r
+report_in : (bytes : List ℕ) (v : Reading) → IsReadAs Report bytes v → (v ≡ report_read) × IsFaultless bytes
+report_in bytes report_read r = (refl, r)
+report_in bytes (image_read image) r = absurd r
+report_in bytes (number_read n) r = absurd r
+report_in bytes (extension_read x) r = absurd r
 
-pub record IsRunRead (files : Option NamedFiles) (rest : List (List ℕ)) (vs : List Value) : Type 0 where
+extension_in : (bytes : List ℕ) (v : Reading) → IsReadAs Extension bytes v → (x : ExtensionTree) × (v ≡ extension_read x) × Elaborates bytes x
+extension_in bytes (extension_read x) r = (x, refl, r)
+extension_in bytes (image_read image) r = absurd r
+extension_in bytes (number_read n) r = absurd r
+extension_in bytes report_read r = absurd r
+
+pub record IsRunRead (files : Option NamedFiles) (rest : List (List ℕ)) (vs : List Reading) : Type 0 where
   pub name : List ℕ
   pub number : List ℕ
   pub bytes : List ℕ
   pub image : List ℕ
   pub cycles : ℕ
   pub words : rest ≡ name ∷ number ∷ []
-  pub values : vs ≡ value.Image image ∷ value.Number cycles ∷ []
+  pub values : vs ≡ image_read image ∷ number_read cycles ∷ []
   pub file : IsFile files name bytes
   pub text : IsImageText bytes image
   pub are_built : AllBuilt image
   pub within : number_within 200000 number ≡ Some cycles
 
-run_read : (files : Option NamedFiles) (rest : List (List ℕ)) (vs : List Value) → AreRead files (slots_of RunImage) rest vs → IsRunRead files rest vs
+run_read : (files : Option NamedFiles) (rest : List (List ℕ)) (vs : List Reading) → AreRead files (slots_of RunImage) rest vs → IsRunRead files rest vs
 run_read files [] vs h = absurd h
 run_read files (a ∷ rest) [] h = absurd h
 run_read files (a ∷ []) (v ∷ vs) h = absurd h.1
@@ -79,34 +91,53 @@ run_read files (a ∷ b ∷ []) (v ∷ u ∷ []) h =
       image = i.0;
       cycles = h.1.0.0;
       words = refl;
-      values = ap (λ x. x ∷ u ∷ []) i.1 ∙ ap (λ y. value.Image i.0 ∷ y ∷ []) h.1.0.2;
+      values = ap (λ x. x ∷ u ∷ []) i.1 ∙ ap (λ y. image_read i.0 ∷ y ∷ []) h.1.0.2;
       file = h.0.1;
       text = i.2;
       are_built = i.3;
       within = h.1.0.1;
     }
 
-pub record IsReportRead (files : Option NamedFiles) (rest : List (List ℕ)) (vs : List Value) : Type 0 where
+pub record IsReportRead (files : Option NamedFiles) (rest : List (List ℕ)) (vs : List Reading) : Type 0 where
   pub name : List ℕ
   pub bytes : List ℕ
   pub words : rest ≡ name ∷ []
-  pub values : vs ≡ value.Report ∷ []
+  pub values : vs ≡ report_read ∷ []
   pub file : IsFile files name bytes
   pub faultless : IsFaultless bytes
 
-report_read : (files : Option NamedFiles) (rest : List (List ℕ)) (vs : List Value) → AreRead files (slots_of Certify) rest vs → IsReportRead files rest vs
-report_read files [] vs h = absurd h
-report_read files (a ∷ rest) [] h = absurd h
-report_read files (a ∷ b ∷ rest) (v ∷ vs) h = absurd h.1
-report_read files (a ∷ []) (v ∷ u ∷ vs) h = absurd h.1
-report_read files (a ∷ []) (v ∷ []) h =
+report_is_read : (files : Option NamedFiles) (rest : List (List ℕ)) (vs : List Reading) → AreRead files (slots_of Certify) rest vs → IsReportRead files rest vs
+report_is_read files [] vs h = absurd h
+report_is_read files (a ∷ rest) [] h = absurd h
+report_is_read files (a ∷ b ∷ rest) (v ∷ vs) h = absurd h.1
+report_is_read files (a ∷ []) (v ∷ u ∷ vs) h = absurd h.1
+report_is_read files (a ∷ []) (v ∷ []) h =
     let r = report_in h.0.0 v h.0.2 in
     record { name = a; bytes = h.0.0; words = refl; values = ap (λ x. x ∷ []) r.0; file = h.0.1; faultless = r.1 }
 
+pub record IsExtensionRead (files : Option NamedFiles) (rest : List (List ℕ)) (vs : List Reading) : Type 0 where
+  pub name : List ℕ
+  pub bytes : List ℕ
+  pub extension : ExtensionTree
+  pub words : rest ≡ name ∷ []
+  pub values : vs ≡ extension_read extension ∷ []
+  pub file : IsFile files name bytes
+  pub elaborates : Elaborates bytes extension
+
+extension_is_read : (files : Option NamedFiles) (rest : List (List ℕ)) (vs : List Reading) → AreRead files (slots_of Check) rest vs → IsExtensionRead files rest vs
+extension_is_read files [] vs h = absurd h
+extension_is_read files (a ∷ rest) [] h = absurd h
+extension_is_read files (a ∷ b ∷ rest) (v ∷ vs) h = absurd h.1
+extension_is_read files (a ∷ []) (v ∷ u ∷ vs) h = absurd h.1
+extension_is_read files (a ∷ []) (v ∷ []) h =
+    let r = extension_in h.0.0 v h.0.2 in
+    record { name = a; bytes = h.0.0; extension = r.0; words = refl; values = ap (λ x. x ∷ []) r.1; file = h.0.1; elaborates = r.2 }
+
 -- the values of the words are those that the command takes
-pub takes : (files : Option NamedFiles) (command : Command) (rest : List (List ℕ)) (vs : List Value) → AreRead files (slots_of command) rest vs → Takes command vs
+pub takes : (files : Option NamedFiles) (command : Command) (rest : List (List ℕ)) (vs : List Reading) → AreRead files (slots_of command) rest vs → Takes command vs
 takes files RunImage rest vs h = subst (λ x. Takes RunImage x) (sym (run_read files rest vs h).values) tt
-takes files Certify rest vs h = subst (λ x. Takes Certify x) (sym (report_read files rest vs h).values) tt
+takes files Check rest vs h = subst (λ x. Takes Check x) (sym (extension_is_read files rest vs h).values) tt
+takes files Certify rest vs h = subst (λ x. Takes Certify x) (sym (report_is_read files rest vs h).values) tt
 
 -- ---- the headline
 -- the words of a run
@@ -116,20 +147,36 @@ run_words_are (word ∷ rest) name number cycles is e w =
     let first = (and_parts _ _ is).0 in
     ap (λ r. run_of (word ∷ r)) e ∙ ap (λ n. run_command (bytes_eq word (codes "run")) name n) w ∙ ap (λ b. run_command b name (Some cycles)) first
 
--- a check is no run
-certify_no_run : (words : List (List ℕ)) (name : List ℕ) → is_command Certify words ≡ true → behind words ≡ name ∷ [] → run_of words ≡ None
-certify_no_run [] name is e = absurd (true≢false (sym is))
-certify_no_run (word ∷ rest) name is e = ap (λ r. run_of (word ∷ r)) e
+-- two words are no run
+two_no_run : (words : List (List ℕ)) (name : List ℕ) (command : Command) → is_command command words ≡ true → behind words ≡ name ∷ [] → run_of words ≡ None
+two_no_run [] name command is e = absurd (true≢false (sym is))
+two_no_run (word ∷ rest) name command is e = ap (λ r. run_of (word ∷ r)) e
+
+-- and three are none of a file alone
+three_no_file : (words : List (List ℕ)) (name number : List ℕ) → is_command RunImage words ≡ true → behind words ≡ name ∷ number ∷ [] → (extension_of words ≡ None) × (report_of words ≡ None)
+three_no_file [] name number is e = absurd (true≢false (sym is))
+three_no_file (word ∷ rest) name number is e = (ap (λ r. extension_of (word ∷ r)) e, ap (λ r. report_of (word ∷ r)) e)
+
+-- the word of one command is none of another
+not_its_word : (a b c : List ℕ) → bytes_eq b c ≡ false → bytes_eq a b ≡ true → bytes_eq a c ≡ false
+not_its_word a b c unlike same = subst (λ w. bytes_eq w c ≡ false) (sym ((bytes_eq-Decides a b).0 same)) unlike
+
+none_where : (b : Bool) (name : List ℕ) → b ≡ false → (if b then Some name else None) ≡ None
+none_where true name e = absurd (true≢false e)
+none_where false name e = refl
 
 told_is : (files : Option NamedFiles) (name bytes : List ℕ) → told_file files name ≢ None → IsFile files name bytes → told_file files name ≡ Some bytes
 told_is None name bytes told f = absurd (told refl)
 told_is (Some files) name bytes told f = ap (λ x. Some x) (sym f.told)
 
-headline_of : (files : Option NamedFiles) (words : List (List ℕ)) (before now : Option (List ℕ)) (command : Command) (vs : List Value) (text : List ℕ) → is_command command words ≡ true → AreRead files (slots_of command) (behind words) vs → IsOutput command vs text → Appends before now text
+headline_of : (files : Option NamedFiles) (words : List (List ℕ)) (before now : Option (List ℕ)) (command : Command) (vs : List Reading) (text : List ℕ) → is_command command words ≡ true → AreRead files (slots_of command) (behind words) vs → IsOutput command vs text → Appends before now text
     → told_of files words ≢ None → RunAnswer words (told_of files words) before now
 headline_of files words before now Certify vs text is read out a told =
-    let r = report_read files (behind words) vs read in
-    absurd (told (ap (λ o. image_of_run files o) (certify_no_run words r.name is r.words)))
+    let r = report_is_read files (behind words) vs read in
+    absurd (told (ap (λ o. image_of_run files o) (two_no_run words r.name Certify is r.words)))
+headline_of files words before now Check vs text is read out a told =
+    let r = extension_is_read files (behind words) vs read in
+    absurd (told (ap (λ o. image_of_run files o) (two_no_run words r.name Check is r.words)))
 headline_of files words before now RunImage vs text is read out a told =
     let r = run_read files (behind words) vs read in
     let run = run_words_are words r.name r.number r.cycles is r.words r.within in
@@ -157,18 +204,22 @@ report_words_are (word ∷ rest) name report is e h =
     let named : report_of (word ∷ rest) ≡ Some name = ap (λ r. report_of (word ∷ r)) e ∙ ap (λ b. if b then Some name else None) first in
     one (report_of (word ∷ rest)) name report named h
 
--- a run is no check
-run_no_report : (words : List (List ℕ)) (name number report : List ℕ) → is_command RunImage words ≡ true → behind words ≡ name ∷ number ∷ [] → report_of words ≡ Some report → ⊥
-run_no_report [] name number report is e h = true≢false (sym is)
-run_no_report (word ∷ rest) name number report is e h = both (report_of (word ∷ rest)) report h (ap (λ r. report_of (word ∷ r)) e)
+-- the words that list an extension check no report
+check_no_report : (words : List (List ℕ)) (name : List ℕ) → is_command Check words ≡ true → behind words ≡ name ∷ [] → report_of words ≡ None
+check_no_report [] name is e = absurd (true≢false (sym is))
+check_no_report (word ∷ rest) name is e =
+    ap (λ r. report_of (word ∷ r)) e ∙ none_where (bytes_eq word (codes "certify")) name (not_its_word word (codes "check") (codes "certify") refl (and_parts _ _ is).0)
 
-certified_of : (files : Option NamedFiles) (words : List (List ℕ)) (before now : Option (List ℕ)) (command : Command) (vs : List Value) (text report : List ℕ) → is_command command words ≡ true → AreRead files (slots_of command) (behind words) vs → IsOutput command vs text → Appends before now text
+certified_of : (files : Option NamedFiles) (words : List (List ℕ)) (before now : Option (List ℕ)) (command : Command) (vs : List Reading) (text report : List ℕ) → is_command command words ≡ true → AreRead files (slots_of command) (behind words) vs → IsOutput command vs text → Appends before now text
     → report_of words ≡ Some report → CertifiedAnswer files report before now
 certified_of files words before now RunImage vs text report is read out a e =
     let r = run_read files (behind words) vs read in
-    absurd (run_no_report words r.name r.number report is r.words e)
+    absurd (both (report_of words) report e (three_no_file words r.name r.number is r.words).1)
+certified_of files words before now Check vs text report is read out a e =
+    let r = extension_is_read files (behind words) vs read in
+    absurd (both (report_of words) report e (check_no_report words r.name is r.words))
 certified_of files words before now Certify vs text report is read out a e =
-    let r = report_read files (behind words) vs read in
+    let r = report_is_read files (behind words) vs read in
     let within = r.file.within in
     let small : length r.bytes < 2 ^ 32 = omega (arith, within) in
     let yes_text : text ≡ codes "yes\n" = subst (λ x. IsOutput Certify x text) r.values out in
@@ -182,3 +233,40 @@ certified_of files words before now Certify vs text report is read out a e =
 
 pub certified : (files : Option NamedFiles) (words : List (List ℕ)) (before now : Option (List ℕ)) → OutputAnswer files words before now → (report : List ℕ) → report_of words ≡ Some report → CertifiedAnswer files report before now
 certified files words before now o report e = certified_of files words before now o.command o.values o.text report (is_of words o.command o.command_is) o.read o.output o.written e
+
+-- ---- an extension that is listed
+extension_words_are : (words : List (List ℕ)) (name extension : List ℕ) → is_command Check words ≡ true → behind words ≡ name ∷ [] → extension_of words ≡ Some extension → name ≡ extension
+extension_words_are [] name extension is e h = absurd (true≢false (sym is))
+extension_words_are (word ∷ rest) name extension is e h =
+    let first = (and_parts _ _ is).0 in
+    let named : extension_of (word ∷ rest) ≡ Some name = ap (λ r. extension_of (word ∷ r)) e ∙ ap (λ b. if b then Some name else None) first in
+    one (extension_of (word ∷ rest)) name extension named h
+
+-- the words that check a report list no extension
+certify_no_extension : (words : List (List ℕ)) (name : List ℕ) → is_command Certify words ≡ true → behind words ≡ name ∷ [] → extension_of words ≡ None
+certify_no_extension [] name is e = absurd (true≢false (sym is))
+certify_no_extension (word ∷ rest) name is e =
+    ap (λ r. extension_of (word ∷ r)) e ∙ none_where (bytes_eq word (codes "check")) name (not_its_word word (codes "certify") (codes "check") refl (and_parts _ _ is).0)
+
+listed_of : (files : Option NamedFiles) (words : List (List ℕ)) (before now : Option (List ℕ)) (command : Command) (vs : List Reading) (text name : List ℕ) → is_command command words ≡ true → AreRead files (slots_of command) (behind words) vs → IsOutput command vs text → Appends before now text
+    → extension_of words ≡ Some name → ListedAnswer files name before now
+listed_of files words before now RunImage vs text name is read out a e =
+    let r = run_read files (behind words) vs read in
+    absurd (both (extension_of words) name e (three_no_file words r.name r.number is r.words).0)
+listed_of files words before now Certify vs text name is read out a e =
+    let r = report_is_read files (behind words) vs read in
+    absurd (both (extension_of words) name e (certify_no_extension words r.name is r.words))
+listed_of files words before now Check vs text name is read out a e =
+    let r = extension_is_read files (behind words) vs read in
+    let listing : text ≡ listing_text r.extension = subst (λ x. IsOutput Check x text) r.values out in
+    record {
+      bytes = r.bytes;
+      extension = r.extension;
+      file = subst (λ n. IsFile files n r.bytes) (extension_words_are words r.name name is r.words e) r.file;
+      elaborates = r.elaborates;
+      well_formed = is_well_formed r.bytes r.extension r.elaborates;
+      written = subst (λ t. Appends before now t) listing a;
+    }
+
+pub listed : (files : Option NamedFiles) (words : List (List ℕ)) (before now : Option (List ℕ)) → OutputAnswer files words before now → (name : List ℕ) → extension_of words ≡ Some name → ListedAnswer files name before now
+listed files words before now o name e = listed_of files words before now o.command o.values o.text name (is_of words o.command o.command_is) o.read o.output o.written e

@@ -5,12 +5,16 @@ use Rattle.std.specs.declared.alloc.Global.{Global}
 use Rattle.ix_io.specs.Limits.{most_bytes}
 use Rattle.ix_io.specs.Shelf.{NamedFiles, told_file}
 use Rattle.ix_tool.specs.declared.status.Status.{Status}
-use Rattle.ix_tool.specs.declared.status.Status.TheVariants.{ReadFault, TooLong, Certificate}
+use Rattle.ix_tool.specs.declared.status.Status.TheVariants.{ReadFault, TooLong, Certificate, Extension as extension_status}
 use Rattle.ix_tool.specs.declared.command.FileKind.{FileKind}
-use Rattle.ix_tool.specs.declared.command.FileKind.TheVariants.{Report}
+use Rattle.ix_tool.specs.declared.command.FileKind.TheVariants.{Report, Extension}
 use Rattle.ix_cert.specs.declared.report.CertErr.{CertErr}
 use Rattle.ix_cert.specs.declared.report.CertErr.TheVariants.{Memory as cert_memory}
 use Rattle.ix_cert.specs.Certificates.{IsRefused as IsRefusedReport}
+use Rattle.ix_elab.specs.declared.error.FrontErr.{FrontErr}
+use Rattle.ix_elab.specs.declared.error.FrontErr.TheVariants.{Memory as front_memory}
+use Rattle.ix_elab.specs.Refusing.{IsCause}
+use Rattle.ix_listing.specs.RefusalLine.{refusal_line}
 use Rattle.ix_tool.specs.declared.command.Slot.TheVariants.{File}
 use Rattle.ix_tool.specs.declared.value.Value.{Value}
 use Rattle.ix_tool.specs.declared.value.Refusal.{Refusal}
@@ -34,6 +38,12 @@ pub report_judged : (bytes : List ℕ) (e : CertErr) (why : Refusal) → (e ≢ 
 report_judged bytes e refusal.Memory refused memory told = tt
 report_judged bytes e (refusal.Line status text) refused memory told =
     judged_err Report bytes (certificate_line e) (refusal.Line status text) (e, refused (λ m. line_no_memory status text (memory m)), refl) told
+
+-- an extension is refused with the line of its error, or memory was not found
+pub extension_judged : (bytes : List ℕ) (e : FrontErr) (why : Refusal) → IsCause bytes e → (e ≡ front_memory → why ≡ refusal.Memory) → Refuses extension_status (refusal_line e) why → Judged Extension bytes (Err why)
+extension_judged bytes e refusal.Memory cause memory told = tt
+extension_judged bytes e (refusal.Line status text) cause memory told =
+    judged_err Extension bytes (refusal_line e) (refusal.Line status text) (e, record { some = λ m. line_no_memory status text (memory m); cause = cause }, refl) told
 
 told_as : (files : Option NamedFiles) (R : List ℕ → Type 0) (kind : FileKind) (name line : List ℕ) (status : Status) (why : Refusal) → IsRefusedFile files R kind name status line → Refuses status line why → WordRead files R (File kind) name (Err why)
 told_as files R kind name line status refusal.Memory bad told = tt

@@ -8,7 +8,7 @@ use Rattle.ix_tool.specs.declared.status.Status.{Status}
 use Rattle.ix_tool.specs.declared.status.Status.TheVariants.{Usage}
 use Rattle.ix_tool.specs.declared.command.Command.{Command}
 use Rattle.ix_tool.specs.declared.command.Slot.{Slot}
-use Rattle.ix_tool.specs.declared.value.Value.{Value}
+use Rattle.ix_tool.specs.Readings.{Reading}
 use Rattle.ix_tool.specs.CommandLine.{command_of, slots_of, behind, bytes_of}
 use Rattle.ix_tool.specs.CommandOutput.{Writes, Outcome, AreRead, IsFirstRefused, Answered, due_usage, due_file, due_answer}
 use Rattle.ix_tool.proofs.Due.{both}
@@ -27,7 +27,7 @@ rest_of (word ∷ words) =
 pub usage_outcome : (files : Option NamedFiles) (R : List ℕ → Type 0) (words : List (List ℕ)) (before now : Option (List ℕ)) (faults faults_now : ℕ) (result : Status) → command_of words ≡ None → Writes Usage (codes "refused Usage\n") before now faults faults_now result → Outcome files R words before now faults faults_now result
 usage_outcome files R words before now faults faults_now result none w = inr (Usage, codes "refused Usage\n", due_usage none, w)
 
-pub answered_outcome : (files : Option NamedFiles) (R : List ℕ → Type 0) (words rest : List (List ℕ)) (slots : List Slot) (command : Command) (vs : List Value) (before now : Option (List ℕ)) (faults faults_now : ℕ) (result : Status) → command_of words ≡ Some command → slots ≡ slots_of command → rest ≡ behind words
+pub answered_outcome : (files : Option NamedFiles) (R : List ℕ → Type 0) (words rest : List (List ℕ)) (slots : List Slot) (command : Command) (vs : List Reading) (before now : Option (List ℕ)) (faults faults_now : ℕ) (result : Status) → command_of words ≡ Some command → slots ≡ slots_of command → rest ≡ behind words
     → AreRead files slots rest vs → Answered command vs before now faults faults_now result → Outcome files R words before now faults faults_now result
 answered_outcome files R words rest slots command vs before now faults faults_now result is s r read (inl memory) = inl (λ none. both (command_of words) command is none, memory.0, memory.1)
 answered_outcome files R words rest slots command vs before now faults faults_now result is s r read (inr out) =

@@ -11,6 +11,7 @@ use Rattle.ix_tool.specs.declared.command.FileKind.{FileKind}
 use Rattle.ix_tool.specs.declared.command.Slot.{Slot}
 use Rattle.ix_tool.specs.declared.command.Slot.TheVariants.{Number, File}
 use Rattle.ix_tool.specs.declared.value.Value.{Value}
+use Rattle.ix_tool.specs.Readings.{Reading, reading_of}
 use Rattle.ix_tool.specs.declared.value.Refusal.{Refusal}
 use Rattle.ix_tool.specs.declared.value.Refusal.TheVariants as refusal
 use Rattle.ix_tool.specs.CommandLine.{fits_slot, fits_slots, bytes_of}
@@ -43,7 +44,7 @@ pub word_of_files : (old files : Option NamedFiles) (R : List ℕ → Type 0) (s
 word_of_files old files R slot shown word result p q h = subst (λ f. WordRead f R slot word result) p (subst (λ w. WordRead old R slot w result) q h)
 
 -- ---- the words are read
-read_next : (files : Option NamedFiles) (slots : List Slot) (words : List (String Global)) (n : ℕ) (d : Slot) (e : String Global) (v : Value) (vs : List Value) → n < length slots → n < length words
+read_next : (files : Option NamedFiles) (slots : List Slot) (words : List (String Global)) (n : ℕ) (d : Slot) (e : String Global) (v : Reading) (vs : List Reading) → n < length slots → n < length words
     → IsRead files (get_or slots n d) (string_bytes (get_or words n e)) v → AreRead files (drop (suc n) slots) (drop (suc n) (bytes_of words)) vs → AreRead files (drop n slots) (drop n (bytes_of words)) (v ∷ vs)
 read_next files [] words n d e v vs h k r rest = absurd (omega (arith, h))
 read_next files (slot ∷ slots) [] n d e v vs h k r rest = absurd (omega (arith, k))
@@ -51,10 +52,10 @@ read_next files (slot ∷ slots) (word ∷ words) zero d e v vs h k r rest = (r,
 read_next files (slot ∷ slots) (word ∷ words) (suc n) d e v vs h k r rest = read_next files slots words n d e v vs (omega (arith, h)) (omega (arith, k)) r rest
 
 -- one value more
-pub read_more : (files : Option NamedFiles) (slots : List Slot) (words : List (String Global)) (n : ℕ) (d : Slot) (e : String Global) (v : Value) (front : List Value) → n < length slots → n < length words
+pub read_more : (files : Option NamedFiles) (slots : List Slot) (words : List (String Global)) (n : ℕ) (d : Slot) (e : String Global) (v : Reading) (front : List Reading) → n < length slots → n < length words
     → IsRead files (get_or slots n d) (string_bytes (get_or words n e)) v
-    → ((vs : List Value) → AreRead files (drop n slots) (drop n (bytes_of words)) vs → AreRead files slots (bytes_of words) (front ++ vs))
-    → (vs : List Value) → AreRead files (drop (n + 1) slots) (drop (n + 1) (bytes_of words)) vs → AreRead files slots (bytes_of words) ((front ++ v ∷ []) ++ vs)
+    → ((vs : List Reading) → AreRead files (drop n slots) (drop n (bytes_of words)) vs → AreRead files slots (bytes_of words) (front ++ vs))
+    → (vs : List Reading) → AreRead files (drop (n + 1) slots) (drop (n + 1) (bytes_of words)) vs → AreRead files slots (bytes_of words) ((front ++ v ∷ []) ++ vs)
 read_more files slots words n d e v front h k r before vs rest =
     subst (λ l. AreRead files slots (bytes_of words) l) (sym (append_assoc front (v ∷ []) vs))
     (before (v ∷ vs) (read_next files slots words n d e v vs h k r (subst (λ m. AreRead files (drop m slots) (drop m (bytes_of words)) vs) (add-one n) rest)))
@@ -77,8 +78,8 @@ read_none files (slot ∷ slots) [] (suc n) h fits = none_read files slots n (om
 read_none files (slot ∷ slots) (word ∷ words) (suc n) h fits = read_none files slots words n (omega (arith, h)) fits
 
 -- all of them are
-pub read_all_of : (files : Option NamedFiles) (slots : List Slot) (words : List (String Global)) (n : ℕ) (front : List Value) → length slots ≤ n → fits_slots (drop n slots) (drop n (bytes_of words)) ≡ true
-    → ((vs : List Value) → AreRead files (drop n slots) (drop n (bytes_of words)) vs → AreRead files slots (bytes_of words) (front ++ vs)) → AreRead files slots (bytes_of words) front
+pub read_all_of : (files : Option NamedFiles) (slots : List Slot) (words : List (String Global)) (n : ℕ) (front : List Reading) → length slots ≤ n → fits_slots (drop n slots) (drop n (bytes_of words)) ≡ true
+    → ((vs : List Reading) → AreRead files (drop n slots) (drop n (bytes_of words)) vs → AreRead files slots (bytes_of words) (front ++ vs)) → AreRead files slots (bytes_of words) front
 read_all_of files slots words n front h fits before =
     subst (λ l. AreRead files slots (bytes_of words) l) (append-nil front) (before [] (read_none files slots words n h fits))
 
@@ -117,12 +118,12 @@ pub refused_by : (files : Option NamedFiles) (R Q : List ℕ → Type 0) (slots 
 refused_by files R Q slots words n d e refusal.Memory h k f r before = tt
 refused_by files R Q slots words n d e (refusal.Line status text) h k f r before = before status (string_bytes text) (refused_here files R Q slots words n d e status text h k f r)
 
-behind_one : (files : Option NamedFiles) (R : List ℕ → Type 0) (slot : Slot) (slots : List Slot) (word : List ℕ) (words : List (List ℕ)) (v : Value) (status : Status) (line : List ℕ) → IsRead files slot word v
+behind_one : (files : Option NamedFiles) (R : List ℕ → Type 0) (slot : Slot) (slots : List Slot) (word : List ℕ) (words : List (List ℕ)) (v : Reading) (status : Status) (line : List ℕ) → IsRead files slot word v
     → IsFirstRefused files R slots words status line → IsFirstRefused files R (slot ∷ slots) (word ∷ words) status line
 behind_one files R (Number most) slots word words v status line r h = h
 behind_one files R (File kind) slots word words v status line r h = inr (v, r, h)
 
-refused_next : (files : Option NamedFiles) (R : List ℕ → Type 0) (slots : List Slot) (words : List (String Global)) (n : ℕ) (d : Slot) (e : String Global) (v : Value) (status : Status) (line : List ℕ) → n < length slots → n < length words
+refused_next : (files : Option NamedFiles) (R : List ℕ → Type 0) (slots : List Slot) (words : List (String Global)) (n : ℕ) (d : Slot) (e : String Global) (v : Reading) (status : Status) (line : List ℕ) → n < length slots → n < length words
     → IsRead files (get_or slots n d) (string_bytes (get_or words n e)) v → IsFirstRefused files R (drop (suc n) slots) (drop (suc n) (bytes_of words)) status line → IsFirstRefused files R (drop n slots) (drop n (bytes_of words)) status line
 refused_next files R [] words n d e v status line h k r rest = absurd (omega (arith, h))
 refused_next files R (slot ∷ slots) [] n d e v status line h k r rest = absurd (omega (arith, k))
@@ -130,7 +131,7 @@ refused_next files R (slot ∷ slots) (word ∷ words) zero d e v status line h 
 refused_next files R (slot ∷ slots) (word ∷ words) (suc n) d e v status line h k r rest = refused_next files R slots words n d e v status line (omega (arith, h)) (omega (arith, k)) r rest
 
 -- what is refused behind a word that is read
-pub refused_behind : (files : Option NamedFiles) (R : List ℕ → Type 0) (slots : List Slot) (words : List (String Global)) (n : ℕ) (d : Slot) (e : String Global) (v : Value) → n < length slots → n < length words
+pub refused_behind : (files : Option NamedFiles) (R : List ℕ → Type 0) (slots : List Slot) (words : List (String Global)) (n : ℕ) (d : Slot) (e : String Global) (v : Reading) → n < length slots → n < length words
     → IsRead files (get_or slots n d) (string_bytes (get_or words n e)) v → (status : Status) (line : List ℕ) → IsFirstRefused files R (drop (n + 1) slots) (drop (n + 1) (bytes_of words)) status line
     → IsFirstRefused files R (drop n slots) (drop n (bytes_of words)) status line
 refused_behind files R slots words n d e v h k r status line rest =

@@ -4,8 +4,8 @@ use Rattle.std.specs.Option.{option_and_then}
 use Rattle.std.specs.Str.{bytes_eq}
 use Rattle.std.specs.declared.alloc.Global.{Global}
 use Rattle.ix_tool.specs.declared.command.Command.{Command}
-use Rattle.ix_tool.specs.declared.command.Command.TheVariants.{RunImage, Certify}
-use Rattle.ix_tool.specs.declared.command.FileKind.TheVariants.{Image, Report}
+use Rattle.ix_tool.specs.declared.command.Command.TheVariants.{RunImage, Check, Certify}
+use Rattle.ix_tool.specs.declared.command.FileKind.TheVariants.{Image, Report, Extension}
 use Rattle.ix_tool.specs.declared.command.Slot.{Slot}
 use Rattle.ix_tool.specs.declared.command.Slot.TheVariants.{Number, File}
 
@@ -33,16 +33,18 @@ number_within most word = option_and_then (at_most most) (number_of word)
 -- ---- the table of commands: the first word, and what stands behind it
 abbrev pub word_of : Command → List ℕ
 word_of RunImage = codes "run"
+word_of Check = codes "check"
 word_of Certify = codes "certify"
 
 -- numbers and files, in the order of the words
 abbrev pub slots_of : Command → List Slot
 slots_of RunImage = File Image ∷ Number 200000 ∷ []
+slots_of Check = File Extension ∷ []
 slots_of Certify = File Report ∷ []
 
 -- the commands, in the order in which words are tried
 abbrev pub commands : List Command
-commands = RunImage ∷ Certify ∷ []
+commands = RunImage ∷ Check ∷ Certify ∷ []
 
 -- ---- which command words are
 -- any word names a file; a number is at most the given one
@@ -92,6 +94,14 @@ run_of (command ∷ []) = None
 run_of (command ∷ image ∷ []) = None
 run_of (command ∷ image ∷ cycles ∷ []) = run_command (bytes_eq command (codes "run")) image (number_within 200000 cycles)
 run_of (command ∷ image ∷ cycles ∷ more ∷ rest) = None
+
+-- ---- check EXT
+-- the extension that these words ask to be listed, if they do
+abbrev pub extension_of : List (List ℕ) → Option (List ℕ)
+extension_of [] = None
+extension_of (command ∷ []) = None
+extension_of (command ∷ extension ∷ []) = if bytes_eq command (codes "check") then Some extension else None
+extension_of (command ∷ extension ∷ more ∷ rest) = None
 
 -- ---- certify REPORT
 -- the report that these words ask to be checked, if they do

@@ -1,16 +1,15 @@
 -- What a command answers and writes, from its words and the bytes of its files (this project's choice).
-use Rattle.std.specs.Prelude.{◌≡◌, ◌≢◌, IfSome, ℕ, ◌<◌, ◌≤◌, List, [], ◌∷◌, ◌++◌, length, reverse, Option, Some, None, codes, decimal, ◌⊎◌, string_bytes, Result, Ok, Err}
+use Rattle.std.specs.Prelude.{◌≡◌, ◌≢◌, IfSome, ℕ, ◌<◌, ◌≤◌, List, [], ◌∷◌, ◌++◌, length, map, reverse, Option, Some, None, codes, decimal, ◌⊎◌, string_bytes, Result, Ok, Err}
 use Rattle.rv_trace.specs.declared.row.Row.{Row}
 use Rattle.ix_tool.specs.declared.status.Status.{Status}
-use Rattle.ix_tool.specs.declared.status.Status.TheVariants.{Ok as ok_status, Usage, ReadFault, WriteFault, TooLong, Extension, Sheet, Image as image_status, NoSchedule, Certificate, Memory, Source, Waits}
+use Rattle.ix_tool.specs.declared.status.Status.TheVariants.{Ok as ok_status, Usage, ReadFault, WriteFault, TooLong, Extension as extension_status, Sheet, Image as image_status, NoSchedule, Certificate, Memory, Source, Waits}
 use Rattle.ix_tool.specs.declared.command.Command.{Command}
-use Rattle.ix_tool.specs.declared.command.Command.TheVariants.{RunImage, Certify}
+use Rattle.ix_tool.specs.declared.command.Command.TheVariants.{RunImage, Check, Certify}
 use Rattle.ix_tool.specs.declared.command.FileKind.{FileKind}
-use Rattle.ix_tool.specs.declared.command.FileKind.TheVariants.{Image, Report}
+use Rattle.ix_tool.specs.declared.command.FileKind.TheVariants.{Image, Report, Extension}
 use Rattle.ix_tool.specs.declared.command.Slot.{Slot}
 use Rattle.ix_tool.specs.declared.command.Slot.TheVariants.{Number, File}
 use Rattle.ix_tool.specs.declared.value.Value.{Value}
-use Rattle.ix_tool.specs.declared.value.Value.TheVariants as value
 use Rattle.ix_tool.specs.declared.value.Refusal.{Refusal}
 use Rattle.ix_tool.specs.declared.value.Refusal.TheVariants as refusal
 use Rattle.rv_core.specs.declared.Shape.{Shape}
@@ -20,7 +19,16 @@ use Rattle.rv_trace.specs.Trace.{newest, architecture}
 use Rattle.rv_trace.specs.Headline.{Headline}
 use Rattle.rv_trace.specs.TraceText.{trace_text, state_text}
 use Rattle.rv_asm.specs.ImageText.{IsImageText, IsBadLine}
+use Rattle.ix_extension.specs.Extensions.{ExtensionTree}
+use Rattle.ix_extension.specs.WellFormed.{IsOf}
+use Rattle.ix_tree.specs.TypedTrees.{TypedTextTree}
+use Rattle.ix_elab.specs.declared.error.FrontErr.{FrontErr}
+use Rattle.ix_elab.specs.Elaborating.{Elaborates}
+use Rattle.ix_elab.specs.Refusing.{IsRefused as IsRefusedExtension}
+use Rattle.ix_listing.specs.Listing.{listing_text}
+use Rattle.ix_listing.specs.RefusalLine.{refusal_line}
 use Rattle.ix_tool.specs.BuiltImages.{AllBuilt, IsUnbuiltLine}
+use Rattle.ix_tool.specs.Readings.{Reading, number_read, image_read, report_read, extension_read, reading_of}
 use Rattle.ix_tool.specs.CommandLine.{RunCommand, run_of, report_of, command_of, slots_of, behind, number_within}
 use Rattle.ix_cert.specs.declared.report.CertErr.{CertErr}
 use Rattle.ix_cert.specs.Certificates.{IsCertifiedText, IsFaultless, IsRefused as IsRefusedReport}
@@ -64,18 +72,22 @@ pub data IsRefusedImage (bytes : List ℕ) : ℕ → Type 0 where
 abbrev pub IsRefusedText : FileKind → List ℕ → List ℕ → Type 0
 IsRefusedText Image bytes line = (number : ℕ) × IsRefusedImage bytes number × (line ≡ image_line number)
 IsRefusedText Report bytes line = (e : CertErr) × IsRefusedReport bytes e × (line ≡ certificate_line e)
+IsRefusedText Extension bytes line = (e : FrontErr) × IsRefusedExtension bytes e × (line ≡ refusal_line e)
 
 -- the status of that refusal
 abbrev pub refusal_status : FileKind → Status
 refusal_status Image = image_status
 refusal_status Report = Certificate
+refusal_status Extension = extension_status
 
 -- the text of a file of this kind is read as this value
-abbrev pub IsReadAs : FileKind → List ℕ → Value → Type 0
-IsReadAs Image bytes (value.Image image) = IsImageText bytes image × AllBuilt image
+abbrev pub IsReadAs : FileKind → List ℕ → Reading → Type 0
+IsReadAs Image bytes (image_read image) = IsImageText bytes image × AllBuilt image
 IsReadAs Image bytes v = ⊥
-IsReadAs Report bytes value.Report = IsFaultless bytes
+IsReadAs Report bytes report_read = IsFaultless bytes
 IsReadAs Report bytes v = ⊥
+IsReadAs Extension bytes (extension_read x) = Elaborates bytes x
+IsReadAs Extension bytes v = ⊥
 
 -- ---- the words behind the first, in order: each file is read whole and judged before the next is read
 -- the bytes of a file that was read whole: those that are told, or some where nothing is told
@@ -84,12 +96,12 @@ pub record IsFile (files : Option NamedFiles) (name bytes : List ℕ) : Type 0 w
   pub within : length bytes ≤ most_bytes
 
 -- the word in this place stands for this value
-abbrev pub IsRead : Option NamedFiles → Slot → List ℕ → Value → Type 0
-IsRead files (Number most) word v = (n : ℕ) × (number_within most word ≡ Some n) × (v ≡ value.Number n)
+abbrev pub IsRead : Option NamedFiles → Slot → List ℕ → Reading → Type 0
+IsRead files (Number most) word v = (n : ℕ) × (number_within most word ≡ Some n) × (v ≡ number_read n)
 IsRead files (File kind) word v = (bytes : List ℕ) × IsFile files word bytes × IsReadAs kind bytes v
 
 -- each of the words does
-abbrev pub AreRead : Option NamedFiles → List Slot → List (List ℕ) → List Value → Type 0
+abbrev pub AreRead : Option NamedFiles → List Slot → List (List ℕ) → List Reading → Type 0
 AreRead files [] [] [] = Unit {0}
 AreRead files (slot ∷ slots) (word ∷ words) (v ∷ values) = IsRead files slot word v × AreRead files slots words values
 AreRead files slots words values = ⊥
@@ -103,7 +115,7 @@ pub data IsRefusedFile (files : Option NamedFiles) (Rises : List ℕ → Type 0)
 -- a word behind the first names a file of which this is so, and the words before it are read
 abbrev pub AtFile : Option NamedFiles → (FileKind → List ℕ → Type 0) → List Slot → List (List ℕ) → Type 0
 AtFile files P (Number most ∷ slots) (word ∷ words) = AtFile files P slots words
-AtFile files P (File kind ∷ slots) (word ∷ words) = P kind word ⊎ ((v : Value) × IsRead files (File kind) word v × AtFile files P slots words)
+AtFile files P (File kind ∷ slots) (word ∷ words) = P kind word ⊎ ((v : Reading) × IsRead files (File kind) word v × AtFile files P slots words)
 AtFile files P slots words = ⊥
 
 -- the first file that is refused is refused with this status and line
@@ -112,24 +124,25 @@ IsFirstRefused files Rises slots words status line = AtFile files (λ kind name.
 
 -- ---- what a command answers where all its words are read
 -- the bytes due
-abbrev pub IsOutput : Command → List Value → List ℕ → Type 0
-IsOutput RunImage (value.Image image ∷ value.Number cycles ∷ []) text = IsRunOutput image cycles text
-IsOutput Certify (value.Report ∷ []) text = text ≡ codes "yes\n"
+abbrev pub IsOutput : Command → List Reading → List ℕ → Type 0
+IsOutput RunImage (image_read image ∷ number_read cycles ∷ []) text = IsRunOutput image cycles text
+IsOutput Check (extension_read x ∷ []) text = text ≡ listing_text x
+IsOutput Certify (report_read ∷ []) text = text ≡ codes "yes\n"
 IsOutput command values text = ⊥
 
 -- a refusal of the command's own, behind those of its files; no command has one yet
-abbrev pub IsOwnRefusal : Command → List Value → Status → List ℕ → Type 0
+abbrev pub IsOwnRefusal : Command → List Reading → Status → List ℕ → Type 0
 IsOwnRefusal command values status line = ⊥
 
 -- what the command answers: its own refusal, or its output
-abbrev pub IsAnswer : Command → List Value → Status → List ℕ → Type 0
+abbrev pub IsAnswer : Command → List Reading → Status → List ℕ → Type 0
 IsAnswer command values status bytes = IsOwnRefusal command values status bytes ⊎ ((status ≡ ok_status) × IsOutput command values bytes)
 
 -- ---- the one relation: the status and the bytes that are due, by the words, then the files, then the command itself
 pub data IsDue (files : Option NamedFiles) (Rises : List ℕ → Type 0) (words : List (List ℕ)) : Status → List ℕ → Type 0 where
   due_usage : command_of words ≡ None → IsDue files Rises words Usage (codes "refused Usage\n")
   due_file : (command : Command) (status : Status) (line : List ℕ) → command_of words ≡ Some command → IsFirstRefused files Rises (slots_of command) (behind words) status line → IsDue files Rises words status line
-  due_answer : (command : Command) (values : List Value) (status : Status) (bytes : List ℕ) → command_of words ≡ Some command → AreRead files (slots_of command) (behind words) values → IsAnswer command values status bytes → IsDue files Rises words status bytes
+  due_answer : (command : Command) (values : List Reading) (status : Status) (bytes : List ℕ) → command_of words ≡ Some command → AreRead files (slots_of command) (behind words) values → IsAnswer command values status bytes → IsDue files Rises words status bytes
 
 -- ---- what was written
 -- a front of the bytes was written, and the rest is what is left
@@ -166,13 +179,13 @@ Refuses status line (refusal.Line told text) = (told ≡ status) × (string_byte
 
 -- a file's text is read as the value, or refused
 abbrev pub Judged : FileKind → List ℕ → Result Value Refusal → Type 0
-Judged kind bytes (Ok v) = IsReadAs kind bytes v
+Judged kind bytes (Ok v) = IsReadAs kind bytes (reading_of v)
 Judged kind bytes (Err refusal.Memory) = Unit {0}
 Judged kind bytes (Err (refusal.Line status text)) = (status ≡ refusal_status kind) × IsRefusedText kind bytes (string_bytes text)
 
 -- a word is read as a value, or the file that it names is refused
 abbrev pub WordRead : Option NamedFiles → (List ℕ → Type 0) → Slot → List ℕ → Result Value Refusal → Type 0
-WordRead files Rises slot word (Ok v) = IsRead files slot word v
+WordRead files Rises slot word (Ok v) = IsRead files slot word (reading_of v)
 WordRead files Rises slot word (Err refusal.Memory) = Unit {0}
 WordRead files Rises (Number most) word (Err (refusal.Line status text)) = ⊥
 WordRead files Rises (File kind) word (Err (refusal.Line status text)) = IsRefusedFile files Rises kind word status (string_bytes text)
@@ -183,13 +196,14 @@ WordsRefused files Rises slots words refusal.Memory = Unit {0}
 WordsRefused files Rises slots words (refusal.Line status text) = IsFirstRefused files Rises slots words status (string_bytes text)
 
 -- the values are those that the command takes
-abbrev pub Takes : Command → List Value → Type 0
-Takes RunImage (value.Image image ∷ value.Number cycles ∷ []) = Unit {0}
-Takes Certify (value.Report ∷ []) = Unit {0}
+abbrev pub Takes : Command → List Reading → Type 0
+Takes RunImage (image_read image ∷ number_read cycles ∷ []) = Unit {0}
+Takes Check (extension_read x ∷ []) = Unit {0}
+Takes Certify (report_read ∷ []) = Unit {0}
 Takes command values = ⊥
 
 -- what a command with these values did
-abbrev pub Answered : Command → List Value → Option (List ℕ) → Option (List ℕ) → ℕ → ℕ → Status → Type 0
+abbrev pub Answered : Command → List Reading → Option (List ℕ) → Option (List ℕ) → ℕ → ℕ → Status → Type 0
 Answered command values before now faults faults_now result =
     ((result ≡ Memory) × (now ≡ before))
     ⊎ ((status : Status) × (bytes : List ℕ) × IsAnswer command values status bytes × Writes status bytes before now faults faults_now result)
@@ -269,7 +283,7 @@ pub record TextAnswer (files : Option NamedFiles) (words : List (List ℕ)) (kin
 -- the output of the command was written whole
 pub record OutputAnswer (files : Option NamedFiles) (words : List (List ℕ)) (before now : Option (List ℕ)) : Type 0 where
   pub command : Command
-  pub values : List Value
+  pub values : List Reading
   pub text : List ℕ
   pub command_is : command_of words ≡ Some command
   pub read : AreRead files (slots_of command) (behind words) values
@@ -296,6 +310,15 @@ pub record CertifiedAnswer (files : Option NamedFiles) (report : List ℕ) (befo
   pub certified : IsCertifiedText bytes
   pub written : Appends before now (codes "yes\n")
 
+-- the file is the text of this extension, by its tokens, their tree, the tree without loops, its types and the encodings; it is well formed, and its listing was written
+pub record ListedAnswer (files : Option NamedFiles) (name : List ℕ) (before now : Option (List ℕ)) : Type 0 where
+  pub bytes : List ℕ
+  pub extension : ExtensionTree
+  pub file : IsFile files name bytes
+  pub elaborates : Elaborates bytes extension
+  pub well_formed : (text : TypedTextTree) × IsOf text extension
+  pub written : Appends before now (listing_text extension)
+
 -- one of the answers that are built
 abbrev pub IsBuiltAnswer : Status → Type 0
 IsBuiltAnswer ok_status = Unit {0}
@@ -303,10 +326,10 @@ IsBuiltAnswer Usage = Unit {0}
 IsBuiltAnswer ReadFault = Unit {0}
 IsBuiltAnswer WriteFault = Unit {0}
 IsBuiltAnswer TooLong = Unit {0}
+IsBuiltAnswer extension_status = Unit {0}
 IsBuiltAnswer image_status = Unit {0}
 IsBuiltAnswer Certificate = Unit {0}
 IsBuiltAnswer Memory = Unit {0}
-IsBuiltAnswer Extension = ⊥
 IsBuiltAnswer Sheet = ⊥
 IsBuiltAnswer NoSchedule = ⊥
 IsBuiltAnswer Source = ⊥
@@ -323,7 +346,7 @@ NoFileRises Rises (File kind ∷ slots) (word ∷ words) = (Rises word → ⊥) 
 NoFileRises Rises slots words = Unit {0}
 
 -- what a complete answer asks: the words of a command, told files that are all read, no refusal of the command's own, and no count that rises
-pub record Premises (files : Option NamedFiles) (words : List (List ℕ)) (counts counts_now : List ℕ → ℕ) (faults faults_now : ℕ) (command : Command) (values : List Value) : Type 0 where
+pub record Premises (files : Option NamedFiles) (words : List (List ℕ)) (counts counts_now : List ℕ → ℕ) (faults faults_now : ℕ) (command : Command) (values : List Reading) : Type 0 where
   pub command_is : command_of words ≡ Some command
   pub told : files ≢ None
   pub read : AreRead files (slots_of command) (behind words) values
@@ -332,6 +355,6 @@ pub record Premises (files : Option NamedFiles) (words : List (List ℕ)) (count
   pub no_write_fault : Rose faults faults_now → ⊥
 
 -- the output is written whole, or memory was not found and nothing was written
-abbrev pub Completes : Command → List Value → Option (List ℕ) → Option (List ℕ) → Status → Type 0
+abbrev pub Completes : Command → List Reading → Option (List ℕ) → Option (List ℕ) → Status → Type 0
 Completes command values before now result =
     ((result ≡ ok_status) × ((text : List ℕ) × IsOutput command values text × Appends before now text)) ⊎ ((result ≡ Memory) × (now ≡ before))

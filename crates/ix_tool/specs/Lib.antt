@@ -1,4 +1,5 @@
 pub mod BuiltImages
-pub mod CommandLine
-pub mod CommandOutput
 pub mod Codes
+pub mod CommandLine
+pub mod Readings
+pub mod CommandOutput

@@ -6,6 +6,8 @@ ghost use Rattle.ix_tool.specs.CommandLine.{digit_value as specified_digit_value
 pub enum Command {
     /// `run IMAGE CYCLES`, with 0 to 200,000 cycles.
     RunImage,
+    /// `check EXT`.
+    Check,
     /// `certify REPORT`.
     Certify,
 }
@@ -17,6 +19,8 @@ pub enum FileKind {
     Image,
     /// A report of schedules.
     Report,
+    /// The text of an extension.
+    Extension,
 }
 
 /// What may stand in a place behind the first word.
@@ -29,10 +33,13 @@ pub enum Slot {
 }
 
 /// The commands, in the order in which words are tried.
-const COMMANDS: [Command; 2] = [Command::RunImage, Command::Certify];
+const COMMANDS: [Command; 3] = [Command::RunImage, Command::Check, Command::Certify];
 
 /// What stands behind `run` for an image alone.
 const RUN_IMAGE: [Slot; 2] = [Slot::File(FileKind::Image), Slot::Number(200_000)];
+
+/// What stands behind `check`.
+const CHECK: [Slot; 1] = [Slot::File(FileKind::Extension)];
 
 /// What stands behind `certify`.
 const CERTIFY: [Slot; 1] = [Slot::File(FileKind::Report)];
@@ -44,6 +51,7 @@ impl Command {
     {
         match self {
             Command::RunImage => "run",
+            Command::Check => "check",
             Command::Certify => "certify",
         }
     }
@@ -54,6 +62,7 @@ impl Command {
     {
         match self {
             Command::RunImage => &RUN_IMAGE,
+            Command::Check => &CHECK,
             Command::Certify => &CERTIFY,
         }
     }

@@ -1,16 +1,20 @@
-ghost use Rattle.std.specs.Prelude.{◌≡◌, ◌≢◌, ℕ, List, Some, None, ◌⊎◌};
+ghost use Rattle.std.specs.Prelude.{◌≡◌, ◌≢◌, ℕ, List, map, Some, None, ◌⊎◌};
 ghost use Rattle.ix_tool.specs.declared.status.Status.{Status};
-ghost use Rattle.ix_tool.specs.declared.value.Value.{Value as ReadValue};
 ghost use Rattle.ix_tool.specs.declared.command.Command.{Command as TheCommand};
-ghost use Rattle.ix_tool.specs.declared.command.FileKind.TheVariants.{Image as image_kind, Report as report_kind};
-ghost use Rattle.ix_tool.specs.CommandLine.{command_of as specified_command_of, report_of, bytes_of};
-ghost use Rattle.ix_tool.specs.CommandOutput.{Writes, Takes, Answered, Outcome, RoseIn, NoneRises, IsDue, UsageAnswer, ReadFaultAnswer, WriteFaultAnswer, TooLongAnswer, TextAnswer, OutputAnswer, RunAnswer, CertifiedAnswer, IsBuiltAnswer, IsStatusOr, Premises, Completes, told_of};
+ghost use Rattle.ix_tool.specs.declared.command.FileKind.TheVariants.{Image as image_kind, Report as report_kind, Extension as extension_kind};
+ghost use Rattle.ix_tool.specs.CommandLine.{command_of as specified_command_of, extension_of, report_of, bytes_of};
+ghost use Rattle.ix_extension.specs.Extensions.{view_extension};
+ghost use Rattle.ix_listing.specs.Listing.{listing_text};
+ghost use Rattle.ix_tool.specs.Readings.{Reading, reading_of};
+ghost use Rattle.ix_tool.specs.CommandOutput.{Writes, Takes, Answered, Outcome, RoseIn, NoneRises, IsDue, UsageAnswer, ReadFaultAnswer, WriteFaultAnswer, TooLongAnswer, TextAnswer, OutputAnswer, RunAnswer, ListedAnswer, CertifiedAnswer, IsBuiltAnswer, IsStatusOr, Premises, Completes, told_of};
 
 use crate::command::{Command, command_of};
 use crate::running::run_image;
 use crate::status::Status;
 use crate::value::{Refusal, Value, read_words};
 use ix_io::{Shelf, Sink, write_all};
+use ix_listing::listing;
+use ix_tree::Extension;
 use std::alloc::Global;
 
 /// Writes these bytes and answers the status, or that they could not be written.
@@ -23,15 +27,27 @@ fn finish<S: Sink>(sink: &mut S, status: Status, bytes: &[u8]) -> Status
     }
 }
 
+/// Writes the listing of an extension.
+fn list_extension<S: Sink>(alloc: Global, extension: &Extension, sink: &mut S) -> Status
+    ensures { ((result ≡ Status.Memory) × (S.written sink.new ≡ S.written sink.old))
+        ⊎ Writes Status.Ok (listing_text (view_extension extension.now)) (S.written sink.old) (S.written sink.new) (S.faults sink.old) (S.faults sink.new) result }
+{
+    match listing(alloc, extension) {
+        Ok(text) => finish(sink, Status::Ok, text.as_bytes()),
+        Err(_) => Status::Memory,
+    }
+}
+
 /// Writes what is due of the values of a command.
 fn answer<S: Sink>(alloc: Global, command: Command, values: &[Value], sink: &mut S) -> Status
-    requires { Takes command values.now }
-    ensures { Answered command values.now (S.written sink.old) (S.written sink.new) (S.faults sink.old) (S.faults sink.new) result }
+    requires { Takes command (map reading_of values.now) }
+    ensures { Answered command (map reading_of values.now) (S.written sink.old) (S.written sink.new) (S.faults sink.old) (S.faults sink.new) result }
 {
     match (command, values) {
         (Command::RunImage, [Value::Image(image), Value::Number(cycles)]) => {
             run_image(alloc, image, *cycles, sink)
         }
+        (Command::Check, [Value::Extension(extension)]) => list_extension(alloc, extension, sink),
         (Command::Certify, [Value::Report]) => finish(sink, Status::Ok, b"yes\n"),
         _ => unreachable!(),
     }
@@ -59,7 +75,8 @@ fn run_words<F: Shelf, S: Sink>(
 /// Runs the command of these words over a shelf of files and writes its output to the sink.
 ///
 /// `run IMAGE CYCLES` writes the trace and the state of a run on the core of three stages: at most 200,000 cycles over an
-/// image of at most 1,048,576 bytes and 65,536 words. `certify REPORT` writes `yes` where the check of a report finds no
+/// image of at most 1,048,576 bytes and 65,536 words. `check EXT` writes the listing of an extension: its registers, tables,
+/// encodings and blocks. `certify REPORT` writes `yes` where the check of a report finds no
 /// fault. The files are read whole and judged one after another, in the order of the words. A refusal writes its one line
 /// alone; want of memory writes nothing, and comes before the first cycle.
 pub fn run_tool<F: Shelf, S: Sink>(
@@ -72,6 +89,10 @@ pub fn run_tool<F: Shelf, S: Sink>(
     // sequential run with its states and its stop, and no more rows than the bound pass without a retirement.
     ensures headline { result ≡ Status.Ok → told_of (F.files shelf.old) (bytes_of words.now) ≢ None
         → RunAnswer (bytes_of words.now) (told_of (F.files shelf.old) (bytes_of words.now)) (S.written sink.old) (S.written sink.new) }
+
+    // A listing is that of the extension which the file is the text of, and this is well formed.
+    ensures listed { result ≡ Status.Ok → (name : List ℕ) → extension_of (bytes_of words.now) ≡ Some name
+        → ListedAnswer (F.files shelf.old) name (S.written sink.old) (S.written sink.new) }
 
     // A yes shows of each behaviour of the report that its times are legal and cheapest, or that there are none.
     ensures certified { result ≡ Status.Ok → (report : List ℕ) → report_of (bytes_of words.now) ≡ Some report
@@ -95,6 +116,8 @@ pub fn run_tool<F: Shelf, S: Sink>(
         → TooLongAnswer (F.files shelf.old) (bytes_of words.now) (S.written sink.old) (S.written sink.new) }
     ensures image { result ≡ Status.Image
         → TextAnswer (F.files shelf.old) (bytes_of words.now) image_kind (S.written sink.old) (S.written sink.new) }
+    ensures extension { result ≡ Status.Extension
+        → TextAnswer (F.files shelf.old) (bytes_of words.now) extension_kind (S.written sink.old) (S.written sink.new) }
     ensures certificate { result ≡ Status.Certificate
         → TextAnswer (F.files shelf.old) (bytes_of words.now) report_kind (S.written sink.old) (S.written sink.new) }
     ensures memory { result ≡ Status.Memory → S.written sink.new ≡ S.written sink.old }
@@ -107,7 +130,7 @@ pub fn run_tool<F: Shelf, S: Sink>(
     ensures no_command { specified_command_of (bytes_of words.now) ≡ None → (result ≡ Status.Usage) ⊎ (result ≡ Status.WriteFault) }
 
     // Each command is complete.
-    ensures complete { (command : TheCommand) (values : List ReadValue)
+    ensures complete { (command : TheCommand) (values : List Reading)
         → Premises (F.files shelf.old) (bytes_of words.now) (F.faults shelf.old) (F.faults shelf.new) (S.faults sink.old) (S.faults sink.new) command values
         → Completes command values (S.written sink.old) (S.written sink.new) result }
 {

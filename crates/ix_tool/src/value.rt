@@ -1,19 +1,24 @@
-ghost use Rattle.std.specs.Prelude.{◌≡◌, ◌≤◌, ◌++◌, codes, length, true, IfOk, IfErr, MatchOption};
+ghost use Rattle.std.specs.Prelude.{◌≡◌, ◌≤◌, ◌++◌, codes, length, map, true, IfOk, IfErr, MatchOption};
 ghost use Rattle.ix_io.specs.Faults.{NoneFell};
 ghost use Rattle.ix_io.specs.Limits.{most_bytes};
 ghost use Rattle.rv_isa.specs.Images.{most_words};
 ghost use Rattle.rv_asm.specs.ImageText.{IsImageText};
 ghost use Rattle.ix_tool.specs.BuiltImages.{AllBuilt, IsFirstUnbuilt};
 ghost use Rattle.ix_cert.specs.declared.report.CertErr.TheVariants.{Memory};
+ghost use Rattle.ix_listing.specs.RefusalLine.{refusal_line};
 ghost use Rattle.ix_tool.specs.CommandLine.{fits_slot, fits_slots, bytes_of};
 ghost use Rattle.ix_tool.specs.CommandOutput.{image_line, file_line, certificate_line, Refuses, Judged, WordRead, WordsRefused, AreRead, RoseIn};
+ghost use Rattle.ix_tool.specs.Readings.{reading_of};
 ghost use Rattle.ix_tool.specs.declared.command.FileKind.{FileKind as Kind};
-ghost use Rattle.ix_tool.specs.declared.command.FileKind.TheVariants.{Image as image_kind, Report as report_kind};
+ghost use Rattle.ix_tool.specs.declared.command.FileKind.TheVariants.{Image as image_kind, Report as report_kind, Extension as extension_kind};
 
 use crate::command::{FileKind, Slot, number_within};
 use crate::status::Status;
 use ix_cert::{CertErr, certify};
+use ix_elab::{FrontErr, elaborate};
 use ix_io::{ReadErr, Shelf, read_all};
+use ix_listing::refusal;
+use ix_tree::Extension;
 use rv_asm::{TextErr, line_of_word, read_image};
 use rv_isa::Image;
 use rv_seq::instruction_of;
@@ -28,6 +33,8 @@ pub enum Value {
     Image(Image),
     /// A report in which no step of the check found a fault.
     Report,
+    /// The extension of a text.
+    Extension(Extension),
 }
 
 /// Why a word stands for nothing: the status and the line of the refusal.
@@ -70,6 +77,17 @@ fn report_refusal(alloc: Global, error: CertErr) -> Refusal
     let kind = error.kind();
     match format!(in alloc; "refused Certificate {line} {kind}\n") {
         Ok(line) => Refusal::Line(Status::Certificate, line),
+        Err(_) => Refusal::Memory,
+    }
+}
+
+/// The refusal of an extension.
+fn extension_refusal(alloc: Global, error: &FrontErr) -> Refusal
+    ensures memory { error.now ≡ FrontErr.Memory → result ≡ Refusal.Memory }
+    ensures line { Refuses Status.Extension (refusal_line error.now) result }
+{
+    match refusal(alloc, error) {
+        Ok(line) => Refusal::Line(Status::Extension, line),
         Err(_) => Refusal::Memory,
     }
 }
@@ -125,6 +143,16 @@ fn judge_report(alloc: Global, bytes: &[u8]) -> Result<Value, Refusal>
     }
 }
 
+fn judge_extension(alloc: Global, bytes: &[u8]) -> Result<Value, Refusal>
+    requires { length bytes.now ≤ most_bytes }
+    ensures { Judged extension_kind bytes.now result }
+{
+    match elaborate(alloc, bytes) {
+        Ok(extension) => Ok(Value::Extension(extension)),
+        Err(error) => Err(extension_refusal(alloc, &error)),
+    }
+}
+
 /// What the text of a file is read as, or its refusal.
 fn judge(alloc: Global, kind: FileKind, bytes: &[u8]) -> Result<Value, Refusal>
     requires { length bytes.now ≤ most_bytes }
@@ -133,6 +161,7 @@ fn judge(alloc: Global, kind: FileKind, bytes: &[u8]) -> Result<Value, Refusal>
     match kind {
         FileKind::Image => judge_image(alloc, bytes),
         FileKind::Report => judge_report(alloc, bytes),
+        FileKind::Extension => judge_extension(alloc, bytes),
     }
 }
 
@@ -181,7 +210,7 @@ pub fn read_words<F: Shelf>(
     shelf: &mut F,
 ) -> Result<Vec<Value>, Refusal>
     requires { fits_slots slots.now (bytes_of words.now) ≡ true }
-    ensures read { IfOk result (λ values. AreRead (F.files shelf.old) slots.now (bytes_of words.now) values.items) }
+    ensures read { IfOk result (λ values. AreRead (F.files shelf.old) slots.now (bytes_of words.now) (map reading_of values.items)) }
     ensures refused { IfErr result (WordsRefused (F.files shelf.old) (RoseIn (F.faults shelf.old) (F.faults shelf.new)) slots.now (bytes_of words.now)) }
 {
     let mut values = Vec::new(alloc);

@@ -10,13 +10,13 @@ use Rattle.rv_trace.specs.LawfulTrace.{name_of, leaves, front, serial_after, add
 use Rattle.rv_pipe.specs.PlainMachine.{Slots, decided, new_token, fill_first, next_after, fetch_after, first_slot, cell_of, cells_of, gone, going, advanced, leaving}
 use Rattle.rv_pipe.specs.Placed.{one_more, count, tail, expected_after, expected, IsPlaced, Placed, IsShape}
 use Rattle.rv_pipe.proofs.Tokens.{decided_count, decided_expected, Decided, NoStops, decided_tail, no_stops_tail, free_ahead, Guesses, Guessed, expected_advanced}
-use Rattle.rv_pipe.proofs.Moving.{FlushesNone}
+use Rattle.rv_pipe.proofs.Moving.{KeepsAll}
 
 new_placed : (k : Setting) (shape : IsShape k) (p address serial at word : ℕ) → at ≡ address → word_at k.image at ≡ Some word → IsPlaced k p address 0 (new_token serial at word)
 new_placed k shape p address serial at word a w =
     let rd = shape.rd_pos in
     let ex = shape.rd_ex in
-    record { at = a; word = w; decoded = refl; value = λ lt. absurd (omega arith); goes = λ lt. absurd (omega arith) }
+    record { at = a; word = w; decoded = refl; value = λ lt. absurd (omega arith); next = λ lt n a. absurd (omega arith); goes = λ lt. absurd (omega arith) }
 
 pub fill_placed : (k : Setting) (shape : IsShape k) (r serial at : ℕ) (slots : Slots) (o : Option ℕ) → Placed k r 0 slots → at ≡ expected k r 1 (tail slots) → word_at k.image at ≡ o → Placed k r 0 (fill_first slots serial at o)
 fill_placed k shape r serial at [] o h a w = tt
@@ -46,10 +46,10 @@ serial_told k serial at (None ∷ older) None lt e = refl
 serial_told k serial at (None ∷ older) (Some word) lt e = refl
 
 -- the fetch address is the one that the rows tell
-pub fetch_told : (row : Row) (fetch : ℕ) (seen : Slots) → FlushesNone row → fetch_after fetch seen ≡ address_after fetch (leaves row (front (cells_of seen)))
+pub fetch_told : (row : Row) (fetch : ℕ) (seen : Slots) → KeepsAll row seen → fetch_after fetch seen ≡ address_after fetch (leaves row (front (cells_of seen)))
 fetch_told row fetch [] u = refl
 fetch_told row fetch (None ∷ older) u = refl
-fetch_told row fetch (Some t ∷ older) u = rw (u t.cell.serial) (by_case (is_some t.cell.hold)) where
+fetch_told row fetch (Some t ∷ older) u = rw u.0 (by_case (is_some t.cell.hold)) where
   by_case : (b : Bool) → (if b then fetch else (t.cell.at + 4) % 2 ^ 32) ≡ address_after fetch (if b || false then None else name_of (Some t.cell))
   by_case true = refl
   by_case false = refl

@@ -31,9 +31,12 @@ out_of [] = 0
 out_of (s ∷ []) = out_last s
 out_of (s ∷ u ∷ rest) = out_of (u ∷ rest)
 
--- what is told of a row with these slots
+-- what is told of a row with these slots, of which the first stages are flushed
 pub record Told (k : Setting) (earlier : List Row) (row : Row) (seen : Slots) : Type 0 where
-  pub cells : stages_of k row ≡ cells_of seen
+  pub flushed : ℕ
+  pub left : (stage : ℕ) (t : Token) → slice_get seen stage ≡ Some (Some t) → flushed ≤ stage
+  pub cells : (stage : ℕ) → flushed ≤ stage → slice_get (stages_of k row) stage ≡ slice_get (cells_of seen) stage
+  pub gone : (stage : ℕ) (c : Cell) → stage < flushed → Stands k row stage c → (c.hold ≡ None) × (has_serial row.flushed c.serial ≡ true)
   pub placed : Placed k (retirements earlier) 0 seen
   pub decided : Decided k 0 seen
   pub serials : Serials (row ∷ earlier) (retirements earlier) seen
@@ -107,9 +110,9 @@ cells_drop (suc n) [] = refl
 cells_drop (suc n) (s ∷ seen) = cells_drop n seen
 
 -- the cells of the later stages are those of the older tokens
-pub stands_older : (k : Setting) (row : Row) (seen older : Slots) (s : Option Token) (stage n : ℕ) → stages_of k row ≡ cells_of seen → drop stage seen ≡ s ∷ older → slice_get (stages_of k row) (suc stage + n) ≡ slice_get (cells_of older) n
+pub stands_older : (k : Setting) (row : Row) (seen older : Slots) (s : Option Token) (stage n : ℕ) → slice_get (stages_of k row) (suc stage + n) ≡ slice_get (cells_of seen) (suc stage + n) → drop stage seen ≡ s ∷ older → slice_get (stages_of k row) (suc stage + n) ≡ slice_get (cells_of older) n
 stands_older k row seen older s stage n c e =
-    ap (λ l. slice_get l (suc stage + n)) c
+    c
     ∙ sym (slice_get-drop (cells_of seen) (suc stage) n)
     ∙ ap (λ l. slice_get l n) (cells_drop (suc stage) seen ∙ ap cells_of (drop_more seen older s stage e))
 
@@ -128,7 +131,7 @@ here_of [] older t (suc n) e = cc
 here_of (x ∷ seen) older t zero e = cc
 here_of (x ∷ seen) older t (suc n) e = here_of seen older t n e
 
-cell_here : (seen : Slots) (n : ℕ) (u : Token) → slice_get seen n ≡ Some (Some u) → slice_get (cells_of seen) n ≡ Some (Some u.cell)
+pub cell_here : (seen : Slots) (n : ℕ) (u : Token) → slice_get seen n ≡ Some (Some u) → slice_get (cells_of seen) n ≡ Some (Some u.cell)
 cell_here [] n u e = cc
 cell_here (None ∷ seen) zero u e = cc
 cell_here (Some t ∷ seen) zero u e = ap (λ (v : Token). Some (Some v.cell)) (same_token t u e)
@@ -300,10 +303,14 @@ module _ (k : Setting) (shape : IsShape k) (earlier : List Row) (row : Row) (see
   decoded_in : (n : ℕ) (u : Token) → slice_get older n ≡ Some (Some u) → u.instruction ≡ instruction_of u.cell.word
   decoded_in n u e = decoded_at k (retirements earlier) 0 (suc stage + n) seen u told.placed (here_in n u e)
 
+  -- no stage from this one on is flushed
+  past_flushed : (n : ℕ) → told.flushed ≤ suc stage + n
+  past_flushed n = let le = told.left stage t (here_of seen older t stage rest) in omega (arith, le)
+
   -- the word of an older token
   word_of : (j reg : ℕ) → Writes older reg j → (word : ℕ) × IsWordOf k (row ∷ earlier) j word × (destination_of (instruction_of word) ≡ reg)
   word_of j reg writes =
-      let stands : Stands k row (suc stage + writes.0) writes.1.cell = ap (λ l. slice_get l (suc stage + writes.0)) told.cells ∙ cell_here seen (suc stage + writes.0) writes.1 (here_in writes.0 writes.1 writes.2) in
+      let stands : Stands k row (suc stage + writes.0) writes.1.cell = told.cells (suc stage + writes.0) (past_flushed writes.0) ∙ cell_here seen (suc stage + writes.0) writes.1 (here_in writes.0 writes.1 writes.2) in
       let known : IsWordOf k (row ∷ earlier) j writes.1.cell.word = inl (suc stage + writes.0, writes.1.cell, stands, writes.3, refl) in
       (writes.1.cell.word, known, sym (ap destination_of (decoded_in writes.0 writes.1 writes.2)) ∙ writes.4)
 
@@ -586,7 +593,7 @@ module _ (k : Setting) (shape : IsShape k) (earlier : List Row) (row : Row) (see
     by_case false o p e w q x = cc
 
 -- whether the next stage blocks
-module _ (k : Setting) (shape : IsShape k) (earlier : List Row) (row : Row) (seen : Slots) (told : Told k earlier row seen) (stage : ℕ) where
+module _ (k : Setting) (shape : IsShape k) (earlier : List Row) (row : Row) (seen : Slots) (told : Told k earlier row seen) (stage : ℕ) (le : told.flushed ≤ stage) where
   behind_stage : (older : Slots) → drop stage seen ≡ older → Placed k (retirements earlier) stage older
       → (((d : Cell) × Stands k row stage d × ((is_some d.hold ≡ true) ⊎ ((stop : Stop) × StopsRun k earlier row stage d stop))) → is_blocked k.shape stage older ≡ true)
       × (is_blocked k.shape stage older ≡ true → (d : Cell) × Stands k row stage d × ((is_some d.hold ≡ true) ⊎ ((stop : Stop) × StopsRun k earlier row stage d stop)))
@@ -594,7 +601,7 @@ module _ (k : Setting) (shape : IsShape k) (earlier : List Row) (row : Row) (see
     stands_here : slice_get (stages_of k row) stage ≡ slice_get (cells_of (drop stage seen)) 0
     stands_here =
         let z : stage + 0 ≡ stage = omega arith in
-        ap (λ l. slice_get l stage) told.cells ∙ sym (slice_get-drop (cells_of seen) stage 0 ∙ ap (λ n. slice_get (cells_of seen) n) z) ∙ ap (λ l. slice_get l 0) (cells_drop stage seen)
+        told.cells stage le ∙ sym (slice_get-drop (cells_of seen) stage 0 ∙ ap (λ n. slice_get (cells_of seen) n) z) ∙ ap (λ l. slice_get l 0) (cells_drop stage seen)
 
     by_slot : (l : Slots) → drop stage seen ≡ l → Placed k (retirements earlier) stage l
         → (((d : Cell) × Stands k row stage d × ((is_some d.hold ≡ true) ⊎ ((stop : Stop) × StopsRun k earlier row stage d stop))) → is_blocked k.shape stage l ≡ true)
@@ -651,8 +658,11 @@ module _ (k : Setting) (shape : IsShape k) (earlier : List Row) (row : Row) (see
         unflushed_cell : has_serial row.flushed t.cell.serial ≡ false
         unflushed_cell = not_flushed row earlier t.cell.serial (ordered k shape earlier row seen told stage t older rest placed).0.1
 
+        later : told.flushed ≤ suc stage
+        later = let le = told.left stage t (here_of seen older t stage rest) in omega (arith, le)
+
         blocked : (WaitsBehind k earlier row stage → is_blocked k.shape (suc stage) older ≡ true) × (is_blocked k.shape (suc stage) older ≡ true → WaitsBehind k earlier row stage)
-        blocked = behind_stage k shape earlier row seen told (suc stage) older (drop_more seen older (Some t) stage rest) placed.1
+        blocked = behind_stage k shape earlier row seen told (suc stage) later older (drop_more seen older (Some t) stage rest) placed.1
 
         own : (o : Option Hold) → own_hold k.shape stage t.instruction older ≡ o → Chosen k earlier row stage t.cell o
         own None e = own_nothing k shape earlier row seen told stage t older rest placed e
@@ -705,7 +715,22 @@ module _ (k : Setting) (shape : IsShape k) (earlier : List Row) (row : Row) (see
           by_case false z None q false w x (inr y) = cc (blocked.0 y.1, w)
           by_case false z (Some f) q b w x o = cc
 
+  -- a flushed cell shows no hold
+  shows_flushed : (stage : ℕ) (c : Cell) → stage < told.flushed → Stands k row stage c → ShowsHold k earlier row stage c
+  shows_flushed stage c lt stands =
+      let x = told.gone stage c lt stands in
+      record {
+        flushed = λ f. x.0;
+        stopping = λ stop s. x.0;
+        shown = λ h e. cc (x.0, e);
+        shown_first = λ h g e o. cc (x.0, e);
+        free = λ e u n h o. cc (x.1, u);
+      }
+
   pub shows : (stage : ℕ) (c : Cell) → Stands k row stage c → ShowsHold k earlier row stage c
-  shows stage c stands =
-      let at = at_stage k (retirements earlier) stage c seen told.placed told.decided (ap (λ l. slice_get l stage) (sym told.cells) ∙ stands) in
-      subst (λ d. ShowsHold k earlier row stage d) at.is (shows_token stage at.token at.older at.rest at.placed at.decided.0)
+  shows stage c stands = elim (cases_lt stage told.flushed) [
+    | inl lt ↦ shows_flushed stage c lt stands
+    | inr le ↦
+        let at = at_stage k (retirements earlier) stage c seen told.placed told.decided (sym (told.cells stage le) ∙ stands) in
+        subst (λ d. ShowsHold k earlier row stage d) at.is (shows_token stage at.token at.older at.rest at.placed at.decided.0)
+  ]

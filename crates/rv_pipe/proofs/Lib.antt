@@ -2,11 +2,16 @@ pub mod Runs
 pub mod Places
 pub mod Tokens
 pub mod Holds
+pub mod Clearing
 pub mod Moving
 pub mod Filling
 pub mod Stopping
 pub mod Bound
+pub mod Flushing
+pub mod Telling
+pub mod Succeeding
 pub mod Rows
+pub mod NextRow
 pub mod Sound
 pub mod WorkedRun
 pub mod DetourRows

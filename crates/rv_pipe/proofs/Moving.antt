@@ -1,5 +1,5 @@
 -- Where the machine puts its tokens is where the law of moves wants them.
-use Rattle.std.proofs.Common.{◌≡◌, ℕ, zero, suc, ◌+◌, List, [], ◌∷◌, drop, length, Option, Some, None, Bool, true, false, refl, sym, ap, ◌∙◌, arith, add-zero, ◌⊎◌, inl, inr}
+use Rattle.std.proofs.Common.{◌≡◌, ℕ, zero, suc, ◌+◌, ◌<◌, ◌≤◌, List, [], ◌∷◌, drop, length, Option, Some, None, Bool, true, false, refl, sym, ap, ◌∙◌, arith, add-zero, ◌⊎◌, inl, inr}
 use Rattle.std.specs.Prelude.{◌&&◌, ◌||◌, if◌then◌else◌, is_some, slice_get}
 use Rattle.rv_core.specs.declared.Shape.{Shape}
 use Rattle.rv_trace.specs.declared.row.Cell.{Cell}
@@ -7,39 +7,74 @@ use Rattle.rv_trace.specs.declared.row.Row.{Row}
 use Rattle.rv_pipe.specs.declared.stages.Token.{Token}
 use Rattle.rv_trace.specs.Trace.{Setting, has_serial}
 use Rattle.rv_trace.specs.LawfulTrace.{Name, name_of, names_of, stays, leaves, comes, fetched, front, InStage, MovesInto}
-use Rattle.rv_pipe.specs.PlainMachine.{Slots, decided, gone, going, kept, advanced, leaving, first_slot, cell_of, cells_of, fill, fill_first}
+use Rattle.rv_pipe.specs.PlainMachine.{Slots, decided, gone, going, kept, advanced, leaving, first_slot, cell_of, cells_of, fill, fill_first, freed, unheld, cleared}
 use Rattle.rv_pipe.specs.Placed.{one_more}
 use Rattle.rv_pipe.proofs.Tokens.{Decided, NoStops, Free, decided_tail, no_stops_tail, free_ahead}
 use Rattle.rv_pipe.proofs.Holds.{out_of, out_last}
 
--- no serial is flushed in the row
-abbrev pub FlushesNone : Row → Type 0
-FlushesNone row = (s : ℕ) → has_serial row.flushed s ≡ false
+-- no token of these is flushed in the row
+abbrev pub KeepsAll : Row → Slots → Type 0
+KeepsAll row [] = Unit {0}
+KeepsAll row (None ∷ older) = KeepsAll row older
+KeepsAll row (Some t ∷ older) = (has_serial row.flushed t.cell.serial ≡ false) × KeepsAll row older
+
+-- the token is not flushed
+abbrev pub Keeps : Row → Option Token → Type 0
+Keeps row None = Unit {0}
+Keeps row (Some t) = has_serial row.flushed t.cell.serial ≡ false
+
+keeps_parts : (row : Row) (s : Option Token) (older : Slots) → KeepsAll row (s ∷ older) → Keeps row s × KeepsAll row older
+keeps_parts row None older h = (tt, h)
+keeps_parts row (Some t) older h = h
+
+pub keeps_all : (row : Row) (slots : Slots) → ((n : ℕ) (t : Token) → slice_get slots n ≡ Some (Some t) → has_serial row.flushed t.cell.serial ≡ false) → KeepsAll row slots
+keeps_all row [] f = tt
+keeps_all row (None ∷ older) f = keeps_all row older (λ n t e. f (suc n) t e)
+keeps_all row (Some t ∷ older) f = (f 0 t refl, keeps_all row older (λ n u e. f (suc n) u e))
 
 abbrev pub token_name : Option Token → Option Name
 token_name s = name_of (cell_of s)
 
-in_stage : (row : Row) (come s : Option Token) → FlushesNone row → Free come s → InStage (stays row (cell_of s)) (token_name come) (token_name (kept come s))
+in_stage : (row : Row) (come s : Option Token) → Keeps row s → Free come s → InStage (stays row (cell_of s)) (token_name come) (token_name (kept come s))
 in_stage row come None u f = refl
-in_stage row come (Some t) u f = rw (u t.cell.serial) (by_case (is_some t.cell.hold) f) where
+in_stage row come (Some t) u f = rw u (by_case (is_some t.cell.hold) f) where
   by_case : (b : Bool) → (b ≡ true → come ≡ None) → InStage (if b && true then name_of (Some t.cell) else None) (token_name come) (token_name (if b then Some t else come))
   by_case true f = let e = f refl in rw e
   by_case false f = refl
 
-leaves_going : (k : Setting) (x : List ℕ) (stage : ℕ) (row : Row) (s : Option Token) → FlushesNone row → leaves row (cell_of s) ≡ token_name (going k.shape x stage s)
+leaves_going : (k : Setting) (x : List ℕ) (stage : ℕ) (row : Row) (s : Option Token) → Keeps row s → leaves row (cell_of s) ≡ token_name (going k.shape x stage s)
 leaves_going k x stage row None u = refl
-leaves_going k x stage row (Some t) u = rw (u t.cell.serial) (by_case (is_some t.cell.hold)) where
+leaves_going k x stage row (Some t) u = rw u (by_case (is_some t.cell.hold)) where
   by_case : (b : Bool) → (if b || false then None else name_of (Some t.cell)) ≡ token_name (if b then None else Some (gone k.shape x stage t))
   by_case true = refl
   by_case false = refl
 
-pub moves_on : (k : Setting) (x : List ℕ) (row : Row) (stage : ℕ) (come : Option Token) (seen : Slots) → FlushesNone row → Decided k stage seen → NoStops k stage seen → Free come (first_slot seen) → MovesInto row (token_name come) (cells_of seen) (names_of (cells_of (advanced k.shape x stage come seen)))
+pub moves_on : (k : Setting) (x : List ℕ) (row : Row) (stage : ℕ) (come : Option Token) (seen : Slots) → KeepsAll row seen → Decided k stage seen → NoStops k stage seen → Free come (first_slot seen) → MovesInto row (token_name come) (cells_of seen) (names_of (cells_of (advanced k.shape x stage come seen)))
 moves_on k x row stage come [] u d n f = tt
-moves_on k x row stage come (s ∷ older) u d n f = (
-  in_stage row come s u f,
-  rw (leaves_going k x stage row s u)
-      (moves_on k x row (suc stage) (going k.shape x stage s) older u (decided_tail k stage s older d) (no_stops_tail k stage s older n) (free_ahead k x stage s older d n)),
-)
+moves_on k x row stage come (s ∷ older) u d n f =
+    let parts = keeps_parts row s older u in (
+      in_stage row come s parts.0 f,
+      rw (leaves_going k x stage row s parts.0)
+          (moves_on k x row (suc stage) (going k.shape x stage s) older parts.1 (decided_tail k stage s older d) (no_stops_tail k stage s older n) (free_ahead k x stage s older d n)),
+    )
+
+-- the cells of the first stages are flushed in the row
+abbrev pub FlushesFirst : Row → ℕ → Slots → Type 0
+FlushesFirst row n slots = (i : ℕ) (t : Token) → i < n → slice_get slots i ≡ Some (Some t) → has_serial row.flushed t.cell.serial ≡ true
+
+flushed_stays : (row : Row) (s : Option Token) → ((t : Token) → s ≡ Some t → has_serial row.flushed t.cell.serial ≡ true) → (stays row (cell_of (freed s)) ≡ None) × (leaves row (cell_of (freed s)) ≡ None)
+flushed_stays row None f = (refl, refl)
+flushed_stays row (Some t) f = let e = f t refl in (refl, rw e refl)
+
+-- flushed cells go nowhere
+pub clears : (k : Setting) (x : List ℕ) (row : Row) (stage n : ℕ) (slots : Slots) → n ≤ length slots → FlushesFirst row n slots → KeepsAll row (cleared n slots) → Decided k stage (cleared n slots) → NoStops k stage (cleared n slots) → Free None (first_slot (cleared n slots)) → MovesInto row None (cells_of (unheld n slots)) (names_of (cells_of (advanced k.shape x stage None (cleared n slots))))
+clears k x row stage zero slots le f u d n free = moves_on k x row stage None slots u d n free
+clears k x row stage (suc m) [] le f u d n free = absurd (omega arith)
+clears k x row stage (suc m) (s ∷ older) le f u d n free =
+    let first = flushed_stays row s (λ t e. f 0 t (omega arith) (ap (λ o. Some o) e)) in (
+      rw first.0 refl,
+      rw first.1 (clears k x row (suc stage) m older (omega (arith, le)) (λ i t lt e. f (suc i) t (omega (arith, lt)) e) u d n (λ h. refl)),
+    )
 
 fetched_name : (serial at : ℕ) (o : Option ℕ) → token_name (fill None serial at o) ≡ fetched serial at o
 fetched_name serial at None = refl

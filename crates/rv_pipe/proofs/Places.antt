@@ -1,6 +1,6 @@
 -- Places: the count of lower serials that are not flushed. They tell the order of tokens.
 use Rattle.std.proofs.Common.{◌≡◌, ℕ, zero, suc, ◌+◌, ◌<◌, ◌≤◌, List, [], ◌∷◌, drop, length, Option, Some, None, Bool, true, false, refl, sym, ap, ◌∙◌, subst, arith, inl, inr}
-use Rattle.std.specs.Prelude.{if◌then◌else◌, is_some, slice_get}
+use Rattle.std.specs.Prelude.{if◌then◌else◌, ◌||◌, is_some, slice_get}
 use Rattle.std.proofs.lemmas.Bool.{cases_lt}
 use Rattle.rv_trace.specs.declared.row.Row.{Row}
 use Rattle.rv_core.specs.declared.Shape.{Shape}
@@ -55,13 +55,40 @@ unfolding is_flushed
 flushed_step row rows s h = rw h
 
 -- a row that flushes no lower serial leaves the place as it was
-pub place_same : (row : Row) (rows : List Row) (s : ℕ) → ((j : ℕ) → has_serial row.flushed j ≡ false) → place (row ∷ rows) s ≡ place rows s
+pub place_same : (row : Row) (rows : List Row) (s : ℕ) → ((j : ℕ) → j < s → has_serial row.flushed j ≡ false) → place (row ∷ rows) s ≡ place rows s
 unfolding place
 place_same row rows zero h = refl
-place_same row rows (suc s) h = rw (flushed_step row rows s (h s), place_same row rows s h)
+place_same row rows (suc s) h = rw (flushed_step row rows s (h s (omega arith)), place_same row rows s (λ j lt. h j (omega arith)))
 
-pub flushed_same : (row : Row) (rows : List Row) (s : ℕ) → ((j : ℕ) → has_serial row.flushed j ≡ false) → is_flushed (row ∷ rows) s ≡ is_flushed rows s
-flushed_same row rows s h = flushed_step row rows s (h s)
+pub flushed_same : (row : Row) (rows : List Row) (s : ℕ) → has_serial row.flushed s ≡ false → is_flushed (row ∷ rows) s ≡ is_flushed rows s
+flushed_same row rows s h = flushed_step row rows s h
+
+-- a serial that is flushed in the row, or was before, is flushed
+pub flushed_now : (row : Row) (rows : List Row) (s : ℕ) → has_serial row.flushed s ≡ true → is_flushed (row ∷ rows) s ≡ true
+unfolding is_flushed
+flushed_now row rows s h = rw h
+
+pub flushed_before : (row : Row) (rows : List Row) (s : ℕ) → is_flushed rows s ≡ true → is_flushed (row ∷ rows) s ≡ true
+unfolding is_flushed
+flushed_before row rows s h = by_case (has_serial row.flushed s) where
+  by_case : (b : Bool) → (b || is_flushed rows s) ≡ true
+  by_case true = refl
+  by_case false = h
+
+pub unflushed_before : (row : Row) (rows : List Row) (s : ℕ) → is_flushed (row ∷ rows) s ≡ false → is_flushed rows s ≡ false
+unflushed_before row rows s h = by_case (is_flushed rows s) refl where
+  by_case : (b : Bool) → is_flushed rows s ≡ b → is_flushed rows s ≡ false
+  by_case true e = cc (flushed_before row rows s e, h)
+  by_case false e = e
+
+-- where all serials between two are flushed, they have one place
+pub place_over : (rows : List Row) (a gap : ℕ) → ((j : ℕ) → a ≤ j → j < a + gap → is_flushed rows j ≡ true) → place rows (a + gap) ≡ place rows a
+unfolding place
+place_over rows a zero f = let z : a + 0 ≡ a = omega arith in ap (λ n. place rows n) z
+place_over rows a (suc gap) f =
+    let z : a + suc gap ≡ suc (a + gap) = omega arith in
+    let h : is_flushed rows (a + gap) ≡ true = f (a + gap) (omega arith) (omega arith) in
+    ap (λ n. place rows n) z ∙ rw h (place_over rows a gap (λ j le lt. f j le (omega (arith, lt))))
 
 -- Tokens
 
@@ -129,10 +156,30 @@ serials_drop rows r (suc n) (Some t ∷ seen) h = serials_drop rows r n seen h.1
 
 -- What a row does to them
 
-pub serials_more : (row : Row) (rows : List Row) (r : ℕ) (slots : Slots) → ((j : ℕ) → has_serial row.flushed j ≡ false) → Serials rows r slots → Serials (row ∷ rows) r slots
+-- of two tokens the one of the later stage has the lower serial
+pub token_order : (rows : List Row) (r n m : ℕ) (seen : Slots) (u t : Token) → Serials rows r seen → n < m → slice_get seen n ≡ Some (Some u) → slice_get seen m ≡ Some (Some t) → t.cell.serial < u.cell.serial
+token_order rows r n m [] u t h lt a b = cc
+token_order rows r zero zero (s ∷ older) u t h lt a b = absurd (omega (arith, lt))
+token_order rows r zero (suc m) (None ∷ older) u t h lt a b = cc
+token_order rows r zero (suc m) (Some v ∷ older) u t h lt a b =
+    let same = ap (λ (w : Token). w.cell.serial) (same_token v u a) in
+    let lower = older_lower rows r m v t older h b in
+    omega (arith, same, lower)
+token_order rows r (suc n) zero (s ∷ older) u t h lt a b = absurd (omega (arith, lt))
+token_order rows r (suc n) (suc m) (None ∷ older) u t h lt a b = token_order rows r n m older u t h (omega (arith, lt)) a b
+token_order rows r (suc n) (suc m) (Some v ∷ older) u t h lt a b = token_order rows r n m older u t h.1 (omega (arith, lt)) a b
+
+-- the row flushes no serial up to that of each token
+abbrev pub Unflushed : Row → Slots → Type 0
+Unflushed row slots = (n : ℕ) (t : Token) → slice_get slots n ≡ Some (Some t) → (j : ℕ) → j ≤ t.cell.serial → has_serial row.flushed j ≡ false
+
+pub serials_more : (row : Row) (rows : List Row) (r : ℕ) (slots : Slots) → Unflushed row slots → Serials rows r slots → Serials (row ∷ rows) r slots
 serials_more row rows r [] f h = tt
-serials_more row rows r (None ∷ older) f h = serials_more row rows r older f h
-serials_more row rows r (Some t ∷ older) f h = ((place_same row rows t.cell.serial f ∙ h.0.0, flushed_same row rows t.cell.serial f ∙ h.0.1), serials_more row rows r older f h.1)
+serials_more row rows r (None ∷ older) f h = serials_more row rows r older (λ n t e. f (suc n) t e) h
+serials_more row rows r (Some t ∷ older) f h = (
+  (place_same row rows t.cell.serial (λ j lt. f 0 t refl j (omega arith)) ∙ h.0.0, flushed_same row rows t.cell.serial (f 0 t refl t.cell.serial (omega arith)) ∙ h.0.1),
+  serials_more row rows r older (λ n u e. f (suc n) u e) h.1,
+)
 
 counted : (k : Shape) (stage : ℕ) (slots : Slots) → count (decided k stage slots) ≡ count slots
 counted k stage [] = refl

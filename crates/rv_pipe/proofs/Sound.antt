@@ -12,7 +12,9 @@ use Rattle.rv_trace.specs.LawfulTrace.{MovesInto, names_of, fetch_address, next_
 use Rattle.rv_trace.specs.Headline.{Headline, progress_bound}
 use Rattle.rv_pipe.specs.PlainMachine.{Machine, Slots, first_slot, cell_of, machine_of, first_kept, cells_of, IsRowOf, machine_after, arch_after}
 use Rattle.rv_pipe.specs.Placed.{count, tail, Serials, expected, to_go, rank, first_of_two, Placed, IsShape, Inv, IsSound}
-use Rattle.rv_pipe.proofs.Rows.{lawful, agrees, goes_next, architecture_now, state_now}
+use Rattle.rv_pipe.proofs.Rows.{lawful, agrees}
+use Rattle.rv_pipe.proofs.NextRow.{goes_next}
+use Rattle.rv_pipe.proofs.Telling.{architecture_now, state_now}
 
 pub the_shape : (shape : Shape) (image : List ℕ) → IsShape (setting image shape)
 the_shape shape image =
@@ -152,7 +154,7 @@ module _ (shape : Shape) (image : List ℕ) (kept kept' : Kept) (rows : List Row
   }
 
 -- there is a serial for one more fetch
-pub few_serials : (shape : Shape) (image : List ℕ) (kept : Kept) (rows : List Row) (spare : ℕ) → IsSound shape image kept rows spare → (newest rows).stop ≡ None → 0 < spare → kept.next + 1 < 2 ^ 32
+pub few_serials : (shape : Shape) (image : List ℕ) (kept : Kept) (rows : List Row) (spare : ℕ) → IsSound shape image kept rows spare → (newest rows).stop ≡ None → 0 < spare → kept.front.next + 1 < 2 ^ 32
 few_serials shape image kept rows spare sound going some =
     let a = (sound.going going).few in
     let b = sound.room in

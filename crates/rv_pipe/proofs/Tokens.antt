@@ -1,5 +1,5 @@
 -- After a row the tokens stand in their places again.
-use Rattle.std.proofs.Common.{◌≡◌, ◌≢◌, ℕ, zero, suc, ◌+◌, ◌%◌, ◌^◌, ◌<◌, ◌≤◌, List, [], ◌∷◌, length, Option, Some, None, Bool, true, false, refl, sym, ap, ◌∙◌, subst, arith, add-zero, add-suc, inl, inr}
+use Rattle.std.proofs.Common.{◌≡◌, ◌≢◌, ℕ, zero, suc, ◌+◌, ◌%◌, ◌^◌, ◌<◌, ◌≤◌, List, [], ◌∷◌, drop, length, Option, Some, None, Bool, true, false, refl, sym, ap, ◌∙◌, subst, arith, add-zero, add-suc, inl, inr}
 use Rattle.std.specs.Prelude.{◌&&◌, if◌then◌else◌, ◌==◌, is_some, is_none, slice_index, nat_lt, min, max}
 use Rattle.std.proofs.lemmas.Bool.{cases_lt}
 use Rattle.std.proofs.lemmas.Bool.Decides.{nat_tests}
@@ -13,7 +13,7 @@ use Rattle.rv_core.specs.declared.Shape.{Shape}
 use Rattle.rv_trace.specs.declared.row.Row.{Row}
 use Rattle.rv_trace.specs.Trace.{Setting, place, is_flushed}
 use Rattle.rv_trace.specs.LawfulTrace.{destination_of, name_of, names_of}
-use Rattle.rv_pipe.specs.PlainMachine.{Slots, or_else, writer, operand, waits_for, operand_hold, stop_of, own_hold, stops_now, is_blocked, shown, decided, value_of, gone, going, kept, advanced, leaving, first_slot, cells_of}
+use Rattle.rv_pipe.specs.PlainMachine.{Slots, or_else, writer, operand, waits_for, operand_hold, stop_of, own_hold, stops_now, is_blocked, shown, decided, value_of, next_of, gone, going, kept, advanced, leaving, first_slot, cells_of}
 use Rattle.rv_pipe.specs.Placed.{one_more, count, Serials, expected_after, expected, IsPlaced, IsPlacedSlot, Placed, IsShape}
 use Rattle.rv_pipe.proofs.Runs.{run_other, run_zero, goes_on}
 
@@ -83,7 +83,7 @@ pub decided_placed : (k : Setting) (r stage : ℕ) (slots : Slots) → Placed k 
 decided_placed k r stage [] h = tt
 decided_placed k r stage (None ∷ older) h = (tt, decided_placed k r (suc stage) older h.1)
 decided_placed k r stage (Some t ∷ older) h = (
-  rw (decided_count k (suc stage) older, decided_expected k r (suc stage) older) (record { at = h.0.at; word = h.0.word; decoded = h.0.decoded; value = h.0.value; goes = h.0.goes }),
+  rw (decided_count k (suc stage) older, decided_expected k r (suc stage) older) (record { at = h.0.at; word = h.0.word; decoded = h.0.decoded; value = h.0.value; next = h.0.next; goes = h.0.goes }),
   decided_placed k r (suc stage) older h.1,
 )
 
@@ -188,6 +188,7 @@ going_one k shape r stage t older h hs own n =
       word = h.word;
       decoded = h.decoded;
       value = value_case (stage == k.shape.rd) refl;
+      next = next_case (stage == k.shape.rd) refl;
       goes = passes (stage == k.shape.ex) refl;
     } where
       late : stage ≡ k.shape.rd → k.shape.ex ≤ suc stage
@@ -196,6 +197,10 @@ going_one k shape r stage t older h hs own n =
       passes : (b : Bool) → (stage == k.shape.ex) ≡ b → k.shape.ex < suc stage → stop_of t.instruction ≡ None
       passes true e lt = not_due k stage t.instruction older own n (test_eq stage k.shape.ex e)
       passes false e lt = h.goes (test_past k.shape.ex stage e lt)
+
+      next_case : (b : Bool) → (stage == k.shape.rd) ≡ b → k.shape.rd < suc stage → stop_of t.instruction ≡ None → t.cell.at ≡ (run k.image (r + count older)).pc → (if b then next_of t.cell.at else t.next) ≡ (run k.image (suc (r + count older))).pc
+      next_case true e lt s a = sym (goes_on k.image (r + count older) t.cell.at t.cell.word (sym a) h.word (sym (ap stop_of h.decoded) ∙ s)).pc
+      next_case false e lt s a = h.next (test_past k.shape.rd stage e lt) s a
 
       value_case : (b : Bool) → (stage == k.shape.rd) ≡ b → k.shape.rd < suc stage → (if b then value_of t.instruction (run k.image r).x else t.value) ≡ value_of t.instruction (run k.image (r + count older)).x
       value_case true e lt =
@@ -305,16 +310,13 @@ abbrev pub Guessed : Setting → ℕ → ℕ → Slots → Type 0
 Guessed k r stage [] = Unit {0}
 Guessed k r stage (s ∷ older) = Guesses k (r + count older) stage s × Guessed k r (suc stage) older
 
--- no built instruction jumps, so each guess is right
-pub guessed : (k : Setting) (shape : IsShape k) (r stage : ℕ) (seen : Slots) → Placed k r stage seen → Decided k stage seen → NoStops k stage seen → Guessed k r stage seen
-guessed k shape r stage [] h d n = tt
-guessed k shape r stage (None ∷ older) h d n = (tt, guessed k shape r (suc stage) older h.1 d n)
-guessed k shape r stage (Some t ∷ older) h d n = (
-  λ e at.
-      let own = own_none k stage t.instruction older t.cell.hold d.0 e n.0 in
-      let due = not_due k stage t.instruction older own n.0 at in
-      (goes_on k.image (r + count older) t.cell.at t.cell.word (sym (h.0.at ∙ expected_run k r (suc stage) older (omega (arith, at)))) h.0.word (sym (ap stop_of h.0.decoded) ∙ due)).pc,
-  guessed k shape r (suc stage) older h.1 d.1 n.1,
+-- each guess is right where that of EX is
+pub guessed : (k : Setting) (r stage : ℕ) (seen : Slots) → ((n : ℕ) (t : Token) (older : Slots) → stage + n ≡ k.shape.ex → drop n seen ≡ Some t ∷ older → is_some t.cell.hold ≡ false → (run k.image (suc (r + count older))).pc ≡ (t.cell.at + 4) % 2 ^ 32) → Guessed k r stage seen
+guessed k r stage [] f = tt
+guessed k r stage (None ∷ older) f = (tt, guessed k r (suc stage) older (λ n t o e d h. f (suc n) t o (omega (arith, e)) d h))
+guessed k r stage (Some t ∷ older) f = (
+  λ e at. f 0 t older (omega (arith, at)) refl e,
+  guessed k r (suc stage) older (λ n u o q d h. f (suc n) u o (omega (arith, q)) d h),
 )
 
 pub expected_advanced : (k : Setting) (x : List ℕ) (r stage : ℕ) (come : Option Token) (seen : Slots) → k.shape.ex < stage + length seen → Decided k stage seen → NoStops k stage seen → Free come (first_slot seen) → Guessed k r stage seen → expected k (r + one_more (leaving k.shape x stage come seen) 0) stage (advanced k.shape x stage come seen) ≡ expected_after k (r + count seen) stage come (expected k r stage seen)

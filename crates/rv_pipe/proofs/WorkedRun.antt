@@ -22,7 +22,8 @@ use Rattle.rv_trace.specs.Headline.{Headline}
 use Rattle.rv_pipe.specs.PlainMachine.{Machine, first_kept, IsRowOf, machine_after}
 use Rattle.rv_pipe.specs.Placed.{IsShape, Inv}
 use Rattle.rv_pipe.specs.Worked.{cell, writes, worked_image, three, worked, worked_rows, row_0, row_1, row_2, row_3, row_4, row_5, untrue_hold, later_hold, skipped_word, wrong_value, wrong_stop, IsRefused}
-use Rattle.rv_pipe.proofs.Rows.{lawful, agrees, goes_next}
+use Rattle.rv_pipe.proofs.Rows.{lawful, agrees}
+use Rattle.rv_pipe.proofs.NextRow.{goes_next}
 use Rattle.rv_pipe.proofs.Sound.{the_shape, sound_first}
 
 shape : Shape

@@ -36,6 +36,7 @@ pub record IsPlaced (k : Setting) (p address stage : ℕ) (t : Token) : Type 0 w
   pub word : word_at k.image t.cell.at ≡ Some t.cell.word
   pub decoded : t.instruction ≡ instruction_of t.cell.word
   pub value : k.shape.rd < stage → t.value ≡ value_of t.instruction (run k.image p).x
+  pub next : k.shape.rd < stage → stop_of t.instruction ≡ None → t.cell.at ≡ (run k.image p).pc → t.next ≡ (run k.image (suc p)).pc
   pub goes : k.shape.ex < stage → stop_of t.instruction ≡ None
 
 abbrev pub IsPlacedSlot : Setting → ℕ → ℕ → ℕ → Option Token → Type 0

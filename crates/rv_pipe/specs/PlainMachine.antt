@@ -1,5 +1,5 @@
 -- The machine over lists: what it keeps between rows, the row that it makes, and what it keeps then. A slot's older ones are those of the later stages.
-use Rattle.std.specs.Prelude.{◌≡◌, ℕ, suc, ◌+◌, ◌%◌, ◌^◌, List, [], ◌∷◌, map, Option, Some, None, Bool, true, false, ◌&&◌, ◌||◌, if◌then◌else◌, ◌==◌, is_some, is_none, replicate, take, drop, min, max}
+use Rattle.std.specs.Prelude.{◌≡◌, ℕ, suc, ◌+◌, ◌%◌, ◌^◌, List, [], ◌∷◌, map, Option, Some, None, Bool, true, false, ◌&&◌, ◌||◌, if◌then◌else◌, ◌==◌, is_some, is_none, replicate, take, drop, length, min, max, ◌-◌, ◌++◌}
 use Rattle.rv_core.specs.declared.Shape.{Shape}
 use Rattle.rv_trace.specs.declared.row.Cell.{Cell}
 use Rattle.rv_trace.specs.declared.row.Row.{Row}
@@ -12,11 +12,12 @@ use Rattle.rv_seq.specs.declared.instruction.Instruction.TheVariants.{AddImmedia
 use Rattle.rv_seq.specs.declared.commit.Stop.{Stop}
 use Rattle.rv_seq.specs.declared.commit.Stop.TheVariants.{Ebreak, Illegal, Fetch}
 use Rattle.rv_pipe.specs.declared.stages.Token.{Token}
+use Rattle.rv_pipe.specs.declared.stages.Front.{Front}
 use Rattle.rv_pipe.specs.declared.stages.Kept.{Kept}
 use Rattle.rv_seq.specs.Instructions.{instruction_of}
 use Rattle.rv_seq.specs.SequentialRun.{word_at, result_of, commit_of, applied, first}
 use Rattle.rv_trace.specs.Trace.{Setting, stages_of}
-use Rattle.rv_trace.specs.LawfulTrace.{destination_of}
+use Rattle.rv_trace.specs.LawfulTrace.{destination_of, unless}
 
 abbrev pub Slots : Type 0
 Slots = List (Option Token)
@@ -28,8 +29,11 @@ pub record Machine : Type 0 where
   pub arch : Arch
 
 -- what the code keeps, as lists
+abbrev pub machine_with : Front → Arch → Slots → Machine
+machine_with front arch slots = record { slots = slots; fetch = front.fetch; next = front.next; arch = arch }
+
 abbrev pub machine_of : Shape → Kept → Machine
-machine_of shape kept = record { slots = take shape.stages kept.slots; fetch = kept.fetch; next = kept.next; arch = kept.arch }
+machine_of shape kept = machine_with kept.front kept.arch (take shape.stages kept.slots)
 
 -- the first of two
 abbrev pub or_else : {A : Type 0} → Option A → Option A → Option A
@@ -101,7 +105,7 @@ shown k stage i older =
 abbrev pub with_hold : Shape → ℕ → Option Token → Slots → Option Token
 with_hold k stage None older = None
 with_hold k stage (Some t) older =
-    Some (record { cell = record { serial = t.cell.serial; at = t.cell.at; word = t.cell.word; hold = shown k stage t.instruction older }; instruction = t.instruction; value = t.value })
+    Some (record { cell = record { serial = t.cell.serial; at = t.cell.at; word = t.cell.word; hold = shown k stage t.instruction older }; instruction = t.instruction; value = t.value; next = t.next })
 
 -- the holds, decided from the oldest down
 abbrev pub decided : Shape → ℕ → Slots → Slots
@@ -111,7 +115,7 @@ decided k stage (s ∷ older) = with_hold k stage s (decided k (suc stage) older
 -- Fetch
 
 abbrev pub new_token : ℕ → ℕ → ℕ → Token
-new_token serial at word = record { cell = record { serial = serial; at = at; word = word; hold = None }; instruction = instruction_of word; value = 0 }
+new_token serial at word = record { cell = record { serial = serial; at = at; word = word; hold = None }; instruction = instruction_of word; value = 0; next = 0 }
 
 -- a free slot takes the fetched word
 abbrev pub fill : Option Token → ℕ → ℕ → Option ℕ → Option Token
@@ -134,9 +138,19 @@ abbrev pub value_of : Option Instruction → List ℕ → ℕ
 value_of None x = 0
 value_of (Some i) x = result_of i x
 
--- a token that goes on; it reads its operands as it leaves RD
+-- the address after that of an instruction: no built one writes the pc
+abbrev pub next_of : ℕ → ℕ
+next_of at = (at + 4) % 2 ^ 32
+
+-- a token that goes on; it reads its operands as it leaves RD, and computes its value and the address of its successor
 abbrev pub gone : Shape → List ℕ → ℕ → Token → Token
-gone k x stage t = record { cell = t.cell; instruction = t.instruction; value = if stage == k.rd then value_of t.instruction x else t.value }
+gone k x stage t =
+    record {
+      cell = t.cell;
+      instruction = t.instruction;
+      value = if stage == k.rd then value_of t.instruction x else t.value;
+      next = if stage == k.rd then next_of t.cell.at else t.next;
+    }
 
 abbrev pub going : Shape → List ℕ → ℕ → Option Token → Option Token
 going k x stage None = None
@@ -169,6 +183,59 @@ abbrev pub retired_of : Option Token → Option (ℕ × Commit)
 retired_of None = None
 retired_of (Some t) = with_serial t.cell.serial (commit_for t.cell.at t.cell.word t.value t.instruction)
 
+-- Flush and redirect
+
+-- the address that the token of EX, the first of these, names as it goes on
+abbrev pub settled : Shape → List ℕ → Slots → Option ℕ
+settled k x [] = None
+settled k x (None ∷ older) = None
+settled k x (Some t ∷ older) = if is_some t.cell.hold || stops_now k k.ex t.instruction older then None else Some (gone k x k.ex t).next
+
+-- the address of the oldest of these younger tokens, or, with none there, the one that is to be fetched
+abbrev pub nearest : ℕ → Slots → ℕ
+nearest fetch [] = fetch
+nearest fetch (None ∷ older) = nearest fetch older
+nearest fetch (Some t ∷ older) = nearest t.cell.at older
+
+-- a named address where another one stands next
+abbrev pub mismatch : ℕ → Option ℕ → Option ℕ
+mismatch next None = None
+mismatch next (Some address) = if address == next then None else Some address
+
+-- the address to which the token of EX redirects the fetch
+abbrev pub redirect_of : Shape → List ℕ → ℕ → Slots → Option ℕ
+redirect_of k x fetch seen = mismatch (nearest fetch (take k.ex seen)) (settled k x (drop k.ex seen))
+
+-- how many stages are flushed, from stage 0 on
+abbrev pub struck : Shape → Option ℕ → ℕ
+struck k None = 0
+struck k (Some address) = k.ex
+
+-- flushed tokens show no hold
+abbrev pub freed : Option Token → Option Token
+freed None = None
+freed (Some t) = Some (record { cell = record { serial = t.cell.serial; at = t.cell.at; word = t.cell.word; hold = None }; instruction = t.instruction; value = t.value; next = t.next })
+
+abbrev pub unheld : ℕ → Slots → Slots
+unheld n slots = map freed (take n slots) ++ drop n slots
+
+-- and are gone
+abbrev pub cleared : ℕ → Slots → Slots
+cleared n slots = replicate n None ++ drop n slots
+
+abbrev pub serial_in : Option Token → Option ℕ
+serial_in None = None
+serial_in (Some t) = Some t.cell.serial
+
+-- the serials of these, the oldest first, before what is listed already
+abbrev pub listed : Slots → List (Option ℕ) → List (Option ℕ)
+listed [] rest = rest
+listed (s ∷ older) rest = listed older (serial_in s ∷ rest)
+
+-- the serials of the flushed tokens as a row has them
+abbrev pub flushed_of : Slots → List (Option ℕ)
+flushed_of slots = listed slots (replicate (5 - length slots) None)
+
 -- Stops and the row
 
 -- the stop that a token of these makes
@@ -200,14 +267,28 @@ cell_of (Some t) = Some t.cell
 abbrev pub cells_of : Slots → List (Option Cell)
 cells_of = map cell_of
 
--- the slots as the row shows them
+-- the slots after the fetch, with their holds
+abbrev pub held_by : Setting → Machine → Slots
+held_by k m = decided k.shape 0 (fill_first m.slots m.next m.fetch (word_at k.image m.fetch))
+
+abbrev pub redirect_by : Setting → Machine → Option ℕ
+redirect_by k m = redirect_of k.shape m.arch.x m.fetch (held_by k m)
+
+abbrev pub struck_by : Setting → Machine → ℕ
+struck_by k m = struck k.shape (redirect_by k m)
+
+-- the slots without the flushed tokens
 abbrev pub seen_by : Setting → Machine → Slots
-seen_by k m = decided k.shape 0 (fill_first m.slots m.next m.fetch (word_at k.image m.fetch))
+seen_by k m = cleared (struck_by k m) (held_by k m)
+
+-- the fetch address that is named, or the plain one
+abbrev pub fetch_by : Setting → Machine → ℕ
+fetch_by k m = unless (redirect_by k m) (fetch_after m.fetch (seen_by k m))
 
 abbrev pub stop_after : Setting → Machine → Option Stop
 stop_after k m =
     or_else (slot_stop k.shape 0 (seen_by k m))
-    (if remains (seen_by k m) || is_some (word_at k.image (fetch_after m.fetch (seen_by k m))) then None else Some Fetch)
+    (if remains (seen_by k m) || is_some (word_at k.image (fetch_by k m)) then None else Some Fetch)
 
 abbrev pub arch_after : Arch → Option (ℕ × Commit) → Arch
 arch_after s None = s
@@ -215,12 +296,12 @@ arch_after s (Some (serial, c)) = applied c s
 
 -- the row that the machine makes
 pub record IsRowOf (k : Setting) (m : Machine) (row : Row) : Type 0 where
-  pub cells : stages_of k row ≡ cells_of (seen_by k m)
+  pub cells : stages_of k row ≡ cells_of (unheld (struck_by k m) (held_by k m))
   pub behind : drop k.shape.stages row.cells ≡ drop k.shape.stages (replicate 5 None)
   pub retired : row.retired ≡ retired_of (leaving k.shape m.arch.x 0 None (seen_by k m))
   pub written : row.written ≡ None
-  pub flushed : row.flushed ≡ replicate 5 None
-  pub redirect : row.redirect ≡ None
+  pub flushed : row.flushed ≡ flushed_of (take (struck_by k m) (held_by k m))
+  pub redirect : row.redirect ≡ redirect_by k m
   pub stop : row.stop ≡ stop_after k m
 
 -- what it keeps then
@@ -228,11 +309,11 @@ abbrev pub machine_after : Setting → Machine → Machine
 machine_after k m =
     record {
       slots = advanced k.shape m.arch.x 0 None (seen_by k m);
-      fetch = fetch_after m.fetch (seen_by k m);
+      fetch = fetch_by k m;
       next = next_after m.next (first_slot m.slots) (word_at k.image m.fetch);
       arch = arch_after m.arch (retired_of (leaving k.shape m.arch.x 0 None (seen_by k m)));
     }
 
 -- what it keeps before the first row
 abbrev pub first_kept : Kept
-first_kept = record { slots = replicate 5 None; fetch = 0; next = 0; arch = first }
+first_kept = record { slots = replicate 5 None; front = record { fetch = 0; next = 0 }; arch = first }

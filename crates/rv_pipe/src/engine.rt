@@ -2,10 +2,12 @@ ghost use Rattle.std.specs.Prelude.{◌≡◌, ◌+◌, ◌<◌, ◌≤◌, ◌^
 ghost use Rattle.rv_seq.specs.declared.commit.Stop.TheVariants.{Fetch};
 ghost use Rattle.rv_seq.specs.SequentialRun.{word_at as specified_word_at};
 ghost use Rattle.rv_trace.specs.Trace.{setting};
-ghost use Rattle.rv_pipe.specs.PlainMachine.{machine_of, or_else, kept as specified_kept, going, advanced, leaving, fill_first as specified_fill_first, next_after, retired_of, slot_stop, remains, fetch_after, first_slot, cell_of, cells_of, arch_after, IsRowOf, machine_after};
+ghost use Rattle.rv_trace.specs.LawfulTrace.{unless};
+ghost use Rattle.rv_pipe.specs.PlainMachine.{machine_of, machine_with, or_else, kept as specified_kept, going, advanced, leaving, fill_first as specified_fill_first, next_after, retired_of, slot_stop, remains, fetch_after, first_slot, next_of as specified_next_of, arch_after, IsRowOf, machine_after};
 
 use crate::decide::{decide, does_stop, stop_of};
-use crate::stages::{Kept, Token};
+use crate::flush::flush;
+use crate::stages::{Front, Kept, Token};
 use rv_core::Shape;
 use rv_seq::{Arch, Commit, Stop, apply, commit_of, instruction_of, result_of, word_at};
 use rv_trace::{Cell, Row};
@@ -19,8 +21,15 @@ fn token_kept(come: Option<Token>, slot: Option<Token>) -> Option<Token>
     }
 }
 
+/// The address after that of an instruction.
+fn next_of(at: u32) -> u32
+    ensures { result ≡ specified_next_of at }
+{
+    at.wrapping_add(4)
+}
+
 /// The token that goes on from a stage; it reads its operands as it leaves RD.
-fn token_going(shape: Shape, x: &[u32; 32], stage: usize, slot: Option<Token>) -> Option<Token>
+pub fn token_going(shape: Shape, x: &[u32; 32], stage: usize, slot: Option<Token>) -> Option<Token>
     ensures { result ≡ going shape x.now stage slot }
 {
     let token = slot?;
@@ -34,7 +43,12 @@ fn token_going(shape: Shape, x: &[u32; 32], stage: usize, slot: Option<Token>) -
         None => 0,
         Some(instruction) => result_of(instruction, x),
     };
-    Some(Token { value, ..token })
+    let next = next_of(token.cell.at);
+    Some(Token {
+        value,
+        next,
+        ..token
+    })
 }
 
 /// Moves the tokens, and gives the one that goes out of the last stage.
@@ -67,6 +81,7 @@ fn fill_first(slots: &mut [Option<Token>], serial: u32, at: u32, word: Option<u3
                 },
                 instruction: instruction_of(word),
                 value: 0,
+                next: 0,
             });
         }
     }
@@ -101,27 +116,19 @@ fn fetch_following(fetch: u32, slots: &[Option<Token>]) -> u32
     ensures { result ≡ fetch_after fetch slots.now }
 {
     match slots {
-        [Some(token), ..] if token.cell.hold.is_none() => token.cell.at.wrapping_add(4),
+        [Some(token), ..] if token.cell.hold.is_none() => next_of(token.cell.at),
         _ => fetch,
     }
 }
 
-fn cell_in(slot: Option<Token>) -> Option<Cell>
-    ensures { result ≡ cell_of slot }
+/// The next fetch address: the one that is named, or the plain one.
+fn next_fetch(redirect: Option<u32>, fetch: u32, slots: &[Option<Token>]) -> u32
+    ensures { result ≡ unless redirect (fetch_after fetch slots.now) }
 {
-    slot.map(|token| token.cell)
-}
-
-fn cells_in(slots: &[Option<Token>]) -> [Option<Cell>; 5]
-    requires { length slots.now ≤ 5 }
-    ensures cells { take (length slots.now) result ≡ cells_of slots.now }
-    ensures behind { drop (length slots.now) result ≡ drop (length slots.now) (replicate 5 None) }
-{
-    let mut cells = [None; 5];
-    for stage in 0..slots.len() {
-        cells[stage] = cell_in(slots[stage]);
+    match redirect {
+        None => fetch_following(fetch, slots),
+        Some(address) => address,
     }
-    cells
 }
 
 /// What the token that goes out retires.
@@ -132,6 +139,7 @@ fn retired_in(slot: Option<Token>) -> Option<(u32, Commit)>
         cell,
         instruction,
         value,
+        ..
     } = slot?;
     let instruction = instruction?;
     Some((
@@ -185,36 +193,57 @@ fn state_after(arch: Arch, retired: Option<(u32, Commit)>) -> Arch
     }
 }
 
-/// One row, and what is kept after it.
-pub fn make_row(image: &[u32], shape: Shape, kept: &mut Kept) -> Row
-    requires { kept.old.next + 1 < 2 ^ 32 }
-    ensures row { IsRowOf (setting image.now shape) (machine_of shape kept.old) result }
-    ensures after { machine_of shape kept.new ≡ machine_after (setting image.now shape) (machine_of shape kept.old) }
+/// One row of the slots of the stages, and what is kept after it.
+fn row_of(
+    image: &[u32],
+    shape: Shape,
+    front: &mut Front,
+    arch: &mut Arch,
+    slots: &mut [Option<Token>],
+) -> Row
+    requires stages { length slots.old ≡ shape.stages }
+    requires serial { front.old.next + 1 < 2 ^ 32 }
+    ensures row { IsRowOf (setting image.now shape) (machine_with front.old arch.old slots.old) result }
+    ensures after { machine_with front.new arch.new slots.new ≡ machine_after (setting image.now shape) (machine_with front.old arch.old slots.old) }
 {
-    let stages = usize::from(shape.stages);
-    let word = word_at(image, kept.fetch);
-    let next = next_serial_of(kept.next, kept.slots[0], word);
-    let mut slots = kept.slots;
-    fill_first(&mut slots[..stages], kept.next, kept.fetch, word);
-    decide(shape, &mut slots[..stages]);
-    let cells = cells_in(&slots[..stages]);
-    let stopped = stop_in(shape, &slots[..stages]);
-    let fetch = fetch_following(kept.fetch, &slots[..stages]);
-    let stop = stop_of_row(image, stopped, &slots[..stages], fetch);
-    let retired = retired_in(advance(shape, &kept.arch.x, &mut slots[..stages]));
-    let arch = state_after(kept.arch, retired);
-    *kept = Kept {
-        slots,
-        fetch,
-        next,
-        arch,
-    };
+    let word = word_at(image, front.fetch);
+    let next = next_serial_of(front.next, slots[0], word);
+    fill_first(slots, front.next, front.fetch, word);
+    decide(shape, slots);
+    let shown = flush(shape, &arch.x, front.fetch, slots);
+    let cells = shown.cells;
+    let flushed = shown.flushed;
+    let stopped = stop_in(shape, slots);
+    let fetch = next_fetch(shown.redirect, front.fetch, slots);
+    let stop = stop_of_row(image, stopped, slots, fetch);
+    let retired = retired_in(advance(shape, &arch.x, slots));
+    *arch = state_after(*arch, retired);
+    *front = Front { fetch, next };
     Row {
         cells,
         retired,
         written: None,
-        flushed: [None; 5],
-        redirect: None,
+        flushed,
+        redirect: shown.redirect,
         stop,
     }
+}
+
+/// One row, and what is kept after it.
+pub fn make_row(image: &[u32], shape: Shape, kept: &mut Kept) -> Row
+    requires { kept.old.front.next + 1 < 2 ^ 32 }
+    ensures row { IsRowOf (setting image.now shape) (machine_of shape kept.old) result }
+    ensures after { machine_of shape kept.new ≡ machine_after (setting image.now shape) (machine_of shape kept.old) }
+{
+    let stages = usize::from(shape.stages);
+    let mut slots = kept.slots;
+    let row = row_of(
+        image,
+        shape,
+        &mut kept.front,
+        &mut kept.arch,
+        &mut slots[..stages],
+    );
+    kept.slots = slots;
+    row
 }

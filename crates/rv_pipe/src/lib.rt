@@ -3,6 +3,7 @@
 
 mod decide;
 mod engine;
+mod flush;
 mod laws;
 mod machine;
 mod stages;

@@ -5,7 +5,7 @@ ghost use Rattle.rv_trace.specs.Headline.{Headline};
 ghost use Rattle.rv_pipe.specs.PlainMachine.{first_kept as specified_first_kept};
 
 use crate::engine::make_row;
-use crate::stages::Kept;
+use crate::stages::{Front, Kept};
 use ix_bits::Memory;
 use rv_core::{Core, Shape, shape_of};
 use rv_isa::Image;
@@ -41,8 +41,7 @@ fn first_kept() -> Kept
 {
     Kept {
         slots: [None; 5],
-        fetch: 0,
-        next: 0,
+        front: Front { fetch: 0, next: 0 },
         arch: Arch { pc: 0, x: [0; 32] },
     }
 }

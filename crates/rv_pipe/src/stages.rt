@@ -1,12 +1,21 @@
 use rv_seq::{Arch, Instruction};
 use rv_trace::Cell;
 
-/// A cell with its instruction, if the word is one, and what it has computed, once it has read its operands.
+/// A cell with its instruction, if the word is one, and, once it has read its operands, what it has computed: its value
+/// and the address of its successor.
 #[derive(Clone, Copy, Debug, PartialEq, Eq)]
 pub struct Token {
     pub cell: Cell,
     pub instruction: Option<Instruction>,
     pub value: u32,
+    pub next: u32,
+}
+
+/// What the fetch keeps between rows: its next address, and the next serial.
+#[derive(Clone, Copy, Debug, PartialEq, Eq)]
+pub struct Front {
+    pub fetch: u32,
+    pub next: u32,
 }
 
 /// What a machine keeps between rows.
@@ -14,9 +23,6 @@ pub struct Token {
 pub struct Kept {
     /// The tokens as they stand after the moves of the last row, stage 0 first.
     pub slots: [Option<Token>; 5],
-    /// The next fetch address.
-    pub fetch: u32,
-    /// The next serial.
-    pub next: u32,
+    pub front: Front,
     pub arch: Arch,
 }

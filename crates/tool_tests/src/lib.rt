@@ -4,6 +4,8 @@
 #[cfg(test)]
 mod certifying;
 #[cfg(test)]
+mod checking;
+#[cfg(test)]
 mod images;
 #[cfg(test)]
 mod running;

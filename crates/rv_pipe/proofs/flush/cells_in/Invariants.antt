@@ -1,7 +1,7 @@
 use Rattle.std.proofs.Common.{◌≡◌, ◌++◌, drop, take, length, None}
 use Rattle.std.specs.Prelude.{replicate}
 use Rattle.rv_pipe.specs.PlainMachine.{cells_of}
-use Rattle.rv_pipe.proofs.engine.cells_in.Given as goal
+use Rattle.rv_pipe.proofs.flush.cells_in.Given as goal
 
 abbrev pub invariant-loop-stage : goal.invariant-loop-stage
 invariant-loop-stage l = record {

@@ -1,0 +1,2 @@
+pub mod OneExtension
+pub mod Texts

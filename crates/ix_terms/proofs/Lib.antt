@@ -1,0 +1,9 @@
+pub mod Storing
+pub mod Makes
+pub mod Placing
+pub mod Loading
+pub mod Merged
+pub mod Entries
+pub mod Ending
+pub mod RunLoads
+pub mod Starting

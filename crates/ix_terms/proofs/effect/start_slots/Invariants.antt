@@ -1,0 +1,6 @@
+use Rattle.ix_terms.specs.Stores.{stock_of}
+use Rattle.ix_terms.proofs.Starting.{IsStarting}
+use Rattle.ix_terms.proofs.effect.start_slots.Given as goal
+
+abbrev pub invariant-loop-ty : goal.invariant-loop-ty
+invariant-loop-ty l = IsStarting (stock_of l.fn.store) (stock_of l.store) l.types l.out.items l.ty-index

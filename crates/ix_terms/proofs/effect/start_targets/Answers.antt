@@ -1,0 +1,8 @@
+use Rattle.ix_terms.specs.Stores.{stock_of}
+use Rattle.ix_terms.proofs.Starting.{unwritten_step}
+use Rattle.ix_terms.proofs.effect.start_targets.Goals as goal
+
+pub loop-ty-preserved : goal.loop-ty-preserved
+loop-ty-preserved c =
+    unwritten_step (stock_of c.args.store.now) (stock_of c.loop-ty.store) (stock_of c.unwritten.new.store) c.args.types.now c.loop-ty.out.items _ c.loop-ty.ty-index c.in_ok-target.target c.ty-item.result c.loop-ty-test.true c.ty-item.is c.loop-ty.invariant
+    c.in_ok-target.ensures c.in_ok-push.ensures.items

@@ -1,0 +1,7 @@
+use Rattle.std.proofs.Common.{◌∙◌, ap, sym}
+use Rattle.ix_terms.specs.Stores.{Held}
+use Rattle.ix_terms.proofs.Storing.{tables_kept}
+use Rattle.ix_terms.proofs.store.Store.into_tables.Goals as goal
+
+pub returns : goal.returns
+returns c = ap (λ (h : Held). h.tables) c.self.view_is ∙ sym (tables_kept c.args.self)
