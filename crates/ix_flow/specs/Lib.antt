@@ -1,0 +1,5 @@
+pub mod Orders
+pub mod Searches
+pub mod Flows
+pub mod Operands
+pub mod Rooted

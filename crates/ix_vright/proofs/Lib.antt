@@ -1,0 +1,6 @@
+mod Hexes
+mod Decimals
+mod Literals
+mod Named
+mod Sides
+mod One

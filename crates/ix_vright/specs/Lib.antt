@@ -1,0 +1,5 @@
+pub mod Numbers
+pub mod Signs
+pub mod Forms
+pub mod Shapes
+pub mod Laws
