@@ -1,0 +1,3 @@
+pub mod FirstReads
+pub mod Clearing
+pub mod EffectParts

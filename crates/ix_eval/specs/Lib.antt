@@ -1,0 +1,3 @@
+pub mod Readings
+pub mod Evaluated
+pub mod Scratches
