@@ -82,19 +82,10 @@ fn a_text_of_spaces(rt: HostRuntime) -> Result<(), Fail> {
     Ok(())
 }
 
-// The first bytes of a text, all where it has fewer.
-fn front(text: &[u8], end: usize) -> &[u8] {
-    if end <= text.len() {
-        &text[..end]
-    } else {
-        text
-    }
-}
-
 #[test]
 fn each_front_of_a_text(rt: HostRuntime) -> Result<(), Fail> {
     for end in 0..ADDITION.len() {
-        let (status, _) = answer(rt.alloc(), front(ADDITION, end))?;
+        let (status, _) = answer(rt.alloc(), &ADDITION[..end])?;
         assert_eq!(rt; status, Status::Extension);
     }
     Ok(())
