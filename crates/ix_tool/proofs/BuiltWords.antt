@@ -3,7 +3,7 @@ use Rattle.std.proofs.Common.{◌≡◌, ◌≢◌, ℕ, zero, suc, ◌+◌, ◌
 use Rattle.std.specs.Prelude.{slice_get}
 use Rattle.std.proofs.Math.Seq.{take-append_seam}
 use Rattle.std.proofs.lemmas.Option.{slice_get-get_or, slice_get_within}
-use Rattle.rv_seq.specs.Instructions.{instruction_of}
+use Rattle.rv_built.specs.Instructions.{instruction_of}
 use Rattle.rv_asm.specs.ImageText.{lines_of, with_word, words_in, IsImageText, IsLineOfWord}
 use Rattle.rv_asm.proofs.ImageLemmas.{words_in-append}
 use Rattle.ix_tool.specs.BuiltImages.{AllBuilt, IsUnbuiltLine, IsFirstUnbuilt}

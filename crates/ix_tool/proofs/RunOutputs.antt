@@ -4,7 +4,7 @@ use Rattle.rv_core.specs.declared.Shape.{Shape}
 use Rattle.rv_core.specs.declared.cores.CoreKind.TheVariants.{Three}
 use Rattle.rv_core.specs.Kinds.{IsShapeOf}
 use Rattle.rv_trace.specs.declared.row.Row.{Row}
-use Rattle.rv_seq.specs.declared.commit.Arch.{Arch}
+use Rattle.rv_built.specs.declared.arch.Arch.{Arch}
 use Rattle.rv_trace.specs.Trace.{newest, architecture}
 use Rattle.rv_trace.specs.Headline.{Headline}
 use Rattle.rv_trace.specs.TraceText.{trace_text, state_text}

@@ -1,6 +1,6 @@
 -- Images of which each word is a built instruction (this project's choice, as long as not all are built).
 use Rattle.std.specs.Prelude.{◌≡◌, ◌≢◌, ℕ, ◌+◌, List, [], ◌∷◌, ◌++◌, length, take, Some, None, slice_get}
-use Rattle.rv_seq.specs.Instructions.{instruction_of}
+use Rattle.rv_built.specs.Instructions.{instruction_of}
 use Rattle.rv_asm.specs.declared.image_text.Line.TheVariants.{Word}
 use Rattle.rv_asm.specs.ImageText.{lines_of, line_of, words_in}
 

@@ -8,10 +8,10 @@ ghost use Rattle.ix_tool.specs.CommandOutput.{IsRunOutput, Sends, Writes};
 
 use crate::status::Status;
 use ix_io::{Out, Sink, WriteErr};
+use rv_built::Arch;
 use rv_core::{Core, Shape, Three, shape_of};
 use rv_isa::Image;
 use rv_pipe::Machine;
-use rv_seq::Arch;
 use rv_trace::{Trace, put_row, put_state};
 use std::alloc::Global;
 

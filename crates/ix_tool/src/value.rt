@@ -20,8 +20,8 @@ use ix_io::{ReadErr, Shelf, read_all};
 use ix_listing::refusal;
 use ix_tree::Extension;
 use rv_asm::{TextErr, line_of_word, read_image};
+use rv_built::instruction_of;
 use rv_isa::Image;
-use rv_seq::instruction_of;
 use std::alloc::Global;
 
 /// What a word of a command stands for.

@@ -2,8 +2,8 @@
 use Rattle.std.proofs.Common.{◌≡◌, ℕ, zero, suc, ◌<◌, ◌≤◌, List, [], ◌∷◌, length, Option, Some, None, Bool, true, false, refl, ap, ◌∙◌, subst, arith, ◌⊎◌, inl, inr}
 use Rattle.std.specs.Prelude.{◌&&◌, if◌then◌else◌, ◌==◌, is_some, min, max}
 use Rattle.rv_trace.specs.declared.row.Hold.{Hold}
-use Rattle.rv_seq.specs.declared.instruction.Instruction.{Instruction}
-use Rattle.rv_seq.specs.declared.instruction.Instruction.TheVariants.{AddImmediate, Add, Break}
+use Rattle.rv_built.specs.declared.instruction.Instruction.{Instruction}
+use Rattle.rv_built.specs.declared.instruction.Instruction.TheVariants.{AddImmediate, Add, Break}
 use Rattle.rv_pipe.specs.declared.stages.Token.{Token}
 use Rattle.rv_trace.specs.Trace.{Setting}
 use Rattle.rv_pipe.specs.PlainMachine.{Slots, or_else, writer, waits_for, operand_hold, stop_of, staying, stops_now, is_blocked, shown, decided, fill_first, gone, going, advanced, leaving, remains, fetch_after}

@@ -2,7 +2,7 @@
 use Rattle.std.proofs.Common.{◌≡◌, ℕ, suc, ◌+◌, ◌%◌, ◌^◌, ◌<◌, ◌≤◌, List, [], ◌∷◌, length, Option, Some, None, Bool, true, false, refl, sym, ◌∙◌, arith}
 use Rattle.std.specs.Prelude.{◌||◌, if◌then◌else◌, is_some, nat_lt}
 use Rattle.std.proofs.lemmas.Bool.Decides.{nat_tests}
-use Rattle.rv_seq.specs.SequentialRun.{word_at}
+use Rattle.rv_built.specs.SequentialRun.{word_at}
 use Rattle.rv_trace.specs.declared.row.Row.{Row}
 use Rattle.rv_pipe.specs.declared.stages.Token.{Token}
 use Rattle.rv_trace.specs.Trace.{Setting}

@@ -6,7 +6,7 @@ use Rattle.std.proofs.lemmas.Bool.Decides.{nat_tests}
 use Rattle.rv_trace.specs.declared.row.Cell.{Cell}
 use Rattle.rv_trace.specs.declared.row.Row.{Row}
 use Rattle.rv_pipe.specs.declared.stages.Token.{Token}
-use Rattle.rv_seq.specs.SequentialRun.{word_at}
+use Rattle.rv_built.specs.SequentialRun.{word_at}
 use Rattle.rv_trace.specs.Trace.{Setting, place, stages_of, Stands, has_serial, is_flushed, is_retired, retirements}
 use Rattle.rv_trace.specs.LawfulTrace.{AscendFrom, IsWordOf}
 use Rattle.rv_pipe.specs.PlainMachine.{Machine, Slots, fill_first, next_after, gone, first_slot, cells_of, stops_now, settled, nearest, mismatch, struck, cleared, held_by, redirect_by, struck_by, seen_by, IsRowOf}

@@ -7,12 +7,12 @@ use Rattle.rv_trace.specs.declared.row.Cell.{Cell}
 use Rattle.rv_trace.specs.declared.row.Hold.{Hold}
 use Rattle.rv_trace.specs.declared.row.Hold.TheVariants.{Operand, Board, Custom, Late, Drain, Wait, StoreAhead, Tail, UnitFull, Port, Behind}
 use Rattle.rv_trace.specs.declared.row.Row.{Row}
-use Rattle.rv_seq.specs.declared.instruction.Instruction.{Instruction}
-use Rattle.rv_seq.specs.declared.instruction.Instruction.TheVariants.{AddImmediate, Add, Break}
+use Rattle.rv_built.specs.declared.instruction.Instruction.{Instruction}
+use Rattle.rv_built.specs.declared.instruction.Instruction.TheVariants.{AddImmediate, Add, Break}
 use Rattle.rv_seq.specs.declared.commit.Stop.{Stop}
 use Rattle.rv_pipe.specs.declared.stages.Token.{Token}
-use Rattle.rv_seq.specs.Instructions.{instruction_of}
-use Rattle.rv_seq.specs.SequentialRun.{run, step, answer_to}
+use Rattle.rv_built.specs.Instructions.{instruction_of}
+use Rattle.rv_built.specs.SequentialRun.{run, step, answer_to}
 use Rattle.rv_trace.specs.Trace.{Setting, Course, stages_of, Stands, has_serial, is_flushed, is_retired, place, retirements}
 use Rattle.rv_trace.specs.LawfulTrace.{destination_of, reads_of, IsWordOf, IsOlder, IsDueToStop, WaitsForOperand, WaitsToDrain, OwnHold, StopsRun, WaitsBehind, TrueHold, ComesFirst, ShowsHold}
 use Rattle.rv_pipe.specs.PlainMachine.{Slots, or_else, writer, operand, waits_for, operand_hold, stop_of, drain, staying, own_hold, stops_now, is_blocked, shown, cells_of}

@@ -3,10 +3,10 @@ use Rattle.std.proofs.Common.{◌≡◌, ℕ, suc, ◌+◌, ◌%◌, ◌^◌, �
 use Rattle.std.specs.Prelude.{◌||◌, if◌then◌else◌, ◌==◌, is_some, nat_lt}
 use Rattle.std.proofs.lemmas.Bool.Decides.{nat_tests}
 use Rattle.rv_trace.specs.declared.row.Row.{Row}
-use Rattle.rv_seq.specs.declared.commit.Arch.{Arch}
+use Rattle.rv_built.specs.declared.arch.Arch.{Arch}
 use Rattle.rv_seq.specs.declared.commit.Stop.TheVariants.{Fetch}
 use Rattle.rv_pipe.specs.declared.stages.Token.{Token}
-use Rattle.rv_seq.specs.SequentialRun.{word_at, run}
+use Rattle.rv_built.specs.SequentialRun.{word_at, run}
 use Rattle.rv_trace.specs.Trace.{Setting, place, stages_of, retirements, rows_without}
 use Rattle.rv_trace.specs.LawfulTrace.{names_of, front, unless, serial_after, next_serial, MovesInto}
 use Rattle.rv_pipe.specs.PlainMachine.{Machine, Slots, or_else, stops_now, fill_first, next_after, gone, going, advanced, leaving, retired_of, slot_stop, remains, fetch_after, first_slot, cells_of, seen_by, arch_after, kept, settled, nearest, mismatch, IsRowOf, machine_after, struck, unheld, cleared, held_by, redirect_by, struck_by, fetch_by}

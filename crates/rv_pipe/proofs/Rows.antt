@@ -6,11 +6,11 @@ use Rattle.rv_trace.specs.declared.row.Cell.{Cell}
 use Rattle.rv_trace.specs.declared.row.Hold.{Hold}
 use Rattle.rv_trace.specs.declared.row.Row.{Row}
 use Rattle.rv_seq.specs.declared.commit.Commit.{Commit}
-use Rattle.rv_seq.specs.declared.instruction.Instruction.{Instruction}
+use Rattle.rv_built.specs.declared.instruction.Instruction.{Instruction}
 use Rattle.rv_seq.specs.declared.commit.Stop.{Stop}
 use Rattle.rv_seq.specs.declared.commit.Stop.TheVariants.{Fetch}
 use Rattle.rv_pipe.specs.declared.stages.Token.{Token}
-use Rattle.rv_seq.specs.SequentialRun.{word_at, run, step, Done, Stopped}
+use Rattle.rv_built.specs.SequentialRun.{word_at, run, step, Done, Stopped}
 use Rattle.rv_trace.specs.Trace.{Setting, Course, place, stages_of, Stands, has_serial, retirements, newest}
 use Rattle.rv_trace.specs.LawfulTrace.{AreEmpty, IsInForm, name_of, names_of, leaves, unless, fetch_address, Moves, Retires, StopsRun, IsEmptyAfter, StopsRightly, LawfulRow}
 use Rattle.rv_trace.specs.Headline.{AgreesWithRun}

@@ -1,13 +1,13 @@
 -- Facts on the sequential run.
 use Rattle.std.proofs.Common.{◌≡◌, ◌≢◌, ℕ, zero, suc, ◌+◌, ◌%◌, ◌^◌, List, Option, Some, None, Bool, true, false, refl, sym, ap, ◌∙◌, arith, get_or-set_other}
 use Rattle.std.specs.Prelude.{if◌then◌else◌, ◌==◌, slice_index}
-use Rattle.rv_seq.specs.declared.commit.Arch.{Arch}
-use Rattle.rv_seq.specs.declared.instruction.Instruction.{Instruction}
-use Rattle.rv_seq.specs.declared.instruction.Instruction.TheVariants.{AddImmediate, Add, Break}
+use Rattle.rv_built.specs.declared.arch.Arch.{Arch}
+use Rattle.rv_built.specs.declared.instruction.Instruction.{Instruction}
+use Rattle.rv_built.specs.declared.instruction.Instruction.TheVariants.{AddImmediate, Add, Break}
 use Rattle.rv_seq.specs.declared.commit.Slot.TheVariants.{Absent, Now}
 use Rattle.rv_seq.specs.declared.commit.Stop.{Stop}
-use Rattle.rv_seq.specs.Instructions.{instruction_of}
-use Rattle.rv_seq.specs.SequentialRun.{word_at, register_write, with_write, commit_of, after, answer_to, answer_at, step, run, Done, Stopped}
+use Rattle.rv_built.specs.Instructions.{instruction_of}
+use Rattle.rv_built.specs.SequentialRun.{word_at, register_write, with_write, commit_of, after, answer_to, answer_at, step, run, Done, Stopped}
 use Rattle.rv_trace.specs.LawfulTrace.{destination_of}
 use Rattle.rv_pipe.specs.PlainMachine.{stop_of, value_of}
 

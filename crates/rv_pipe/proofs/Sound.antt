@@ -6,7 +6,7 @@ use Rattle.std.proofs.lemmas.Bool.Decides.{nat_tests}
 use Rattle.rv_core.specs.declared.Shape.{Shape}
 use Rattle.rv_trace.specs.declared.row.Row.{Row}
 use Rattle.rv_pipe.specs.declared.stages.Kept.{Kept}
-use Rattle.rv_seq.specs.SequentialRun.{run}
+use Rattle.rv_built.specs.SequentialRun.{run}
 use Rattle.rv_trace.specs.Trace.{Setting, setting, newest, blank, place, is_flushed, is_retired, retirements, architecture, rows_without}
 use Rattle.rv_trace.specs.LawfulTrace.{MovesInto, names_of, fetch_address, next_serial, serial_after}
 use Rattle.rv_trace.specs.Headline.{Headline, progress_bound}

@@ -4,7 +4,7 @@ use Rattle.std.specs.Prelude.{◌&&◌, if◌then◌else◌, ◌==◌, is_some, 
 use Rattle.std.proofs.lemmas.Bool.Decides.{nat_tests}
 use Rattle.rv_trace.specs.declared.row.Cell.{Cell}
 use Rattle.rv_seq.specs.declared.commit.Stop.{Stop}
-use Rattle.rv_seq.specs.declared.instruction.Instruction.{Instruction}
+use Rattle.rv_built.specs.declared.instruction.Instruction.{Instruction}
 use Rattle.rv_pipe.specs.declared.stages.Token.{Token}
 use Rattle.rv_trace.specs.Trace.{Setting}
 use Rattle.rv_pipe.specs.PlainMachine.{Slots, stop_of, own_hold, stops_now, slot_stop, remains, cells_of}

@@ -3,10 +3,10 @@ use Rattle.std.proofs.Common.{◌≡◌, ◌≢◌, ℕ, suc, ◌+◌, ◌<◌, 
 use Rattle.std.specs.Prelude.{◌||◌, if◌then◌else◌, ◌==◌, is_some, slice_get}
 use Rattle.rv_trace.specs.declared.row.Cell.{Cell}
 use Rattle.rv_trace.specs.declared.row.Row.{Row}
-use Rattle.rv_seq.specs.declared.commit.Arch.{Arch}
+use Rattle.rv_built.specs.declared.arch.Arch.{Arch}
 use Rattle.rv_seq.specs.declared.commit.Stop.{Stop}
 use Rattle.rv_pipe.specs.declared.stages.Token.{Token}
-use Rattle.rv_seq.specs.SequentialRun.{run}
+use Rattle.rv_built.specs.SequentialRun.{run}
 use Rattle.rv_trace.specs.Trace.{Setting, Course, place, stages_of, Stands, has_serial, retirements}
 use Rattle.rv_trace.specs.LawfulTrace.{name_of, leaves, front, unless, address_after, fetch_address, plain_fetch, StopsRun, Settles, successor, IsNextYounger, HasNoYounger, IsMismatch, Successors}
 use Rattle.rv_pipe.specs.PlainMachine.{Machine, Slots, stops_now, gone, fetch_after, cells_of, seen_by, IsRowOf, settled, nearest, mismatch, struck, unheld, cleared, held_by, redirect_by, struck_by, fetch_by}

@@ -4,10 +4,10 @@ use Rattle.std.specs.Prelude.{◌||◌, if◌then◌else◌, ◌==◌, is_some, 
 use Rattle.std.proofs.lemmas.Bool.Decides.{nat_tests}
 use Rattle.rv_trace.specs.declared.row.Cell.{Cell}
 use Rattle.rv_trace.specs.declared.row.Row.{Row}
-use Rattle.rv_seq.specs.declared.commit.Arch.{Arch}
+use Rattle.rv_built.specs.declared.arch.Arch.{Arch}
 use Rattle.rv_seq.specs.declared.commit.Commit.{Commit}
 use Rattle.rv_pipe.specs.declared.stages.Token.{Token}
-use Rattle.rv_seq.specs.SequentialRun.{run, step, after, applied, commit_of, Done}
+use Rattle.rv_built.specs.SequentialRun.{run, step, after, applied, commit_of, Done}
 use Rattle.rv_trace.specs.Trace.{Setting, place, is_flushed, is_retired, retirements, architecture, with_retired}
 use Rattle.rv_trace.specs.LawfulTrace.{IsWordOf}
 use Rattle.rv_pipe.specs.PlainMachine.{Machine, stop_of, value_of, gone, going, advanced, leaving, commit_for, with_serial, retired_of, seen_by, arch_after, IsRowOf, struck_by}

@@ -14,8 +14,8 @@ use Rattle.rv_trace.specs.declared.row.Hold.TheVariants.{Drain, Behind}
 use Rattle.rv_seq.specs.declared.commit.Stop.TheVariants.{Ebreak, Fetch}
 use Rattle.rv_seq.specs.declared.commit.Slot.{Slot}
 use Rattle.rv_seq.specs.declared.commit.Slot.TheVariants.{Absent, Now, Later}
-use Rattle.rv_seq.specs.Instructions.{instruction_of}
-use Rattle.rv_seq.specs.SequentialRun.{Answer, Done, Stopped, step, run}
+use Rattle.rv_built.specs.Instructions.{instruction_of}
+use Rattle.rv_built.specs.SequentialRun.{Answer, Done, Stopped, step, run}
 use Rattle.rv_trace.specs.Trace.{Stands, newest, rows_without, retirements, is_flushed, place}
 use Rattle.rv_trace.specs.LawfulTrace.{Name, WaitsBehind, StopsRun, fetch_address, next_serial}
 use Rattle.rv_trace.specs.Headline.{Headline}

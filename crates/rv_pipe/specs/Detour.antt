@@ -6,7 +6,7 @@ use Rattle.rv_seq.specs.declared.commit.Slot.TheVariants.{Absent, Now}
 use Rattle.rv_seq.specs.declared.commit.Commit.{Commit}
 use Rattle.rv_seq.specs.declared.commit.Stop.{Stop}
 use Rattle.rv_seq.specs.declared.commit.Stop.TheVariants.{Ebreak}
-use Rattle.rv_seq.specs.SequentialRun.{Answer, Done, Stopped}
+use Rattle.rv_built.specs.SequentialRun.{Answer, Done, Stopped}
 use Rattle.rv_trace.specs.Trace.{Setting}
 use Rattle.rv_trace.specs.LawfulTrace.{Lawful}
 use Rattle.rv_pipe.specs.Worked.{three, cell}

@@ -5,17 +5,17 @@ use Rattle.rv_trace.specs.declared.row.Cell.{Cell}
 use Rattle.rv_trace.specs.declared.row.Row.{Row}
 use Rattle.rv_trace.specs.declared.row.Hold.{Hold}
 use Rattle.rv_trace.specs.declared.row.Hold.TheVariants.{Operand, Drain, Behind}
-use Rattle.rv_seq.specs.declared.commit.Arch.{Arch}
+use Rattle.rv_built.specs.declared.arch.Arch.{Arch}
 use Rattle.rv_seq.specs.declared.commit.Commit.{Commit}
-use Rattle.rv_seq.specs.declared.instruction.Instruction.{Instruction}
-use Rattle.rv_seq.specs.declared.instruction.Instruction.TheVariants.{AddImmediate, Add, Break}
+use Rattle.rv_built.specs.declared.instruction.Instruction.{Instruction}
+use Rattle.rv_built.specs.declared.instruction.Instruction.TheVariants.{AddImmediate, Add, Break}
 use Rattle.rv_seq.specs.declared.commit.Stop.{Stop}
 use Rattle.rv_seq.specs.declared.commit.Stop.TheVariants.{Ebreak, Illegal, Fetch}
 use Rattle.rv_pipe.specs.declared.stages.Token.{Token}
 use Rattle.rv_pipe.specs.declared.stages.Front.{Front}
 use Rattle.rv_pipe.specs.declared.stages.Kept.{Kept}
-use Rattle.rv_seq.specs.Instructions.{instruction_of}
-use Rattle.rv_seq.specs.SequentialRun.{word_at, result_of, commit_of, applied, first}
+use Rattle.rv_built.specs.Instructions.{instruction_of}
+use Rattle.rv_built.specs.SequentialRun.{word_at, result_of, commit_of, applied, first}
 use Rattle.rv_trace.specs.Trace.{Setting, stages_of}
 use Rattle.rv_trace.specs.LawfulTrace.{destination_of, unless}
 

@@ -3,8 +3,9 @@ ghost use Rattle.rv_trace.specs.LawfulTrace.{destination_of};
 ghost use Rattle.rv_pipe.specs.PlainMachine.{writer, waits_for, operand_hold, stop_of as specified_stop_of, staying, own_hold, stops_now, is_blocked as specified_is_blocked, shown, with_hold, decided};
 
 use crate::stages::Token;
+use rv_built::{Instruction, destination};
 use rv_core::Shape;
-use rv_seq::{Instruction, Stop, destination};
+use rv_seq::Stop;
 use rv_trace::{Cell, Hold};
 
 /// The oldest token that has this x register as destination.

@@ -1,6 +1,6 @@
 ghost use Rattle.std.specs.Prelude.{◌≡◌, ◌+◌, ◌<◌, ◌≤◌, ◌^◌, length, take, drop, replicate, is_some, Some, ◌||◌, if◌then◌else◌, None};
 ghost use Rattle.rv_seq.specs.declared.commit.Stop.TheVariants.{Fetch};
-ghost use Rattle.rv_seq.specs.SequentialRun.{word_at as specified_word_at};
+ghost use Rattle.rv_built.specs.SequentialRun.{word_at as specified_word_at};
 ghost use Rattle.rv_trace.specs.Trace.{setting};
 ghost use Rattle.rv_trace.specs.LawfulTrace.{unless};
 ghost use Rattle.rv_pipe.specs.PlainMachine.{machine_of, machine_with, or_else, kept as specified_kept, going, advanced, leaving, fill_first as specified_fill_first, next_after, retired_of, slot_stop, remains, fetch_after, first_slot, next_of as specified_next_of, arch_after, IsRowOf, machine_after};
@@ -8,8 +8,9 @@ ghost use Rattle.rv_pipe.specs.PlainMachine.{machine_of, machine_with, or_else, 
 use crate::decide::{decide, does_stop, stop_of};
 use crate::flush::flush;
 use crate::stages::{Front, Kept, Token};
+use rv_built::{Arch, apply, commit_of, instruction_of, result_of, word_at};
 use rv_core::Shape;
-use rv_seq::{Arch, Commit, Stop, apply, commit_of, instruction_of, result_of, word_at};
+use rv_seq::{Commit, Stop};
 use rv_trace::{Cell, Row};
 
 fn token_kept(come: Option<Token>, slot: Option<Token>) -> Option<Token>

@@ -7,9 +7,9 @@ ghost use Rattle.rv_pipe.specs.PlainMachine.{first_kept as specified_first_kept}
 use crate::engine::make_row;
 use crate::stages::{Front, Kept};
 use ix_bits::Memory;
+use rv_built::Arch;
 use rv_core::{Core, Shape, shape_of};
 use rv_isa::Image;
-use rv_seq::Arch;
 use rv_trace::{Row, Trace};
 use std::alloc::Global;
 use std::marker::{Model, PhantomData};

@@ -1,4 +1,4 @@
-use rv_seq::{Arch, Instruction};
+use rv_built::{Arch, Instruction};
 use rv_trace::Cell;
 
 /// A cell with its instruction, if the word is one, and, once it has read its operands, what it has computed: its value

@@ -4,7 +4,7 @@ use Rattle.rv_core.specs.declared.Shape.{Shape}
 use Rattle.rv_trace.specs.declared.row.Row.{Row}
 use Rattle.rv_seq.specs.declared.commit.Commit.{Commit}
 use Rattle.rv_seq.specs.declared.commit.Stop.{Stop}
-use Rattle.rv_seq.specs.SequentialRun.{step, run, Done, Stopped}
+use Rattle.rv_built.specs.SequentialRun.{step, run, Done, Stopped}
 use Rattle.rv_trace.specs.Trace.{Setting, setting, place, retirements, architecture, rows_without}
 use Rattle.rv_trace.specs.LawfulTrace.{Lawful}
 

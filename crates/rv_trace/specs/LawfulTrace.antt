@@ -7,11 +7,11 @@ use Rattle.rv_trace.specs.declared.row.Target.TheVariants.{X, Custom as custom_t
 use Rattle.rv_trace.specs.declared.row.Hold.{Hold}
 use Rattle.rv_trace.specs.declared.row.Hold.TheVariants.{Operand, Board, Custom, Late, Drain, Wait, StoreAhead, Tail, UnitFull, Port, Behind}
 use Rattle.rv_seq.specs.declared.commit.Commit.{Commit}
-use Rattle.rv_seq.specs.declared.instruction.Instruction.{Instruction}
+use Rattle.rv_built.specs.declared.instruction.Instruction.{Instruction}
 use Rattle.rv_seq.specs.declared.commit.Stop.{Stop}
 use Rattle.rv_seq.specs.declared.commit.Stop.TheVariants.{Fetch}
-use Rattle.rv_seq.specs.Instructions.{instruction_of}
-use Rattle.rv_seq.specs.SequentialRun.{word_at, destination, does_read, Stopped}
+use Rattle.rv_built.specs.Instructions.{instruction_of}
+use Rattle.rv_built.specs.SequentialRun.{word_at, destination, does_read, Stopped}
 use Rattle.rv_trace.specs.Trace.{Setting, stages_of, Stands, has_serial, is_flushed, is_retired, place, newest}
 
 -- Moves and fetch

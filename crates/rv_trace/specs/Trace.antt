@@ -4,8 +4,8 @@ use Rattle.rv_core.specs.declared.Shape.{Shape}
 use Rattle.rv_trace.specs.declared.row.Cell.{Cell}
 use Rattle.rv_trace.specs.declared.row.Row.{Row}
 use Rattle.rv_seq.specs.declared.commit.Commit.{Commit}
-use Rattle.rv_seq.specs.declared.commit.Arch.{Arch}
-use Rattle.rv_seq.specs.SequentialRun.{Answer, step, run, applied, first}
+use Rattle.rv_built.specs.declared.arch.Arch.{Arch}
+use Rattle.rv_built.specs.SequentialRun.{Answer, step, run, applied, first}
 
 -- a run as a trace is judged against it: what the step at each place does, and the pc there
 pub record Course : Type 0 where

@@ -10,7 +10,7 @@ use Rattle.rv_trace.specs.declared.row.Target.TheVariants.{X, Custom as custom_t
 use Rattle.rv_trace.specs.declared.row.Hold.{Hold}
 use Rattle.rv_trace.specs.declared.row.Hold.TheVariants.{Operand, Board, Custom, Late, Drain, Wait, StoreAhead, Tail, UnitFull, Port, Behind}
 use Rattle.rv_seq.specs.declared.commit.Access.{Access}
-use Rattle.rv_seq.specs.declared.commit.Arch.{Arch}
+use Rattle.rv_built.specs.declared.arch.Arch.{Arch}
 use Rattle.rv_seq.specs.declared.commit.Commit.{Commit}
 use Rattle.rv_seq.specs.declared.commit.Slot.{Slot}
 use Rattle.rv_seq.specs.declared.commit.Slot.TheVariants.{Absent, Now, Later}

@@ -7,8 +7,9 @@ ghost use Rattle.rv_trace.specs.TraceText.{hex_word_text, stop_text, hold_text, 
 use crate::row::{Cell, Hold, Row, Target};
 use ix_bits::Bits;
 use ix_io::Out;
+use rv_built::Arch;
 use rv_core::Shape;
-use rv_seq::{Access, Arch, Commit, Slot, Stop};
+use rv_seq::{Access, Commit, Slot, Stop};
 
 /// Appends at most 10 digits.
 fn put_number(out: &mut Out, number: u32)

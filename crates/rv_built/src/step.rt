@@ -1,11 +1,12 @@
 ghost use Rattle.std.specs.Prelude.{◌≡◌, slice_index, slice_set};
-ghost use Rattle.rv_seq.specs.Instructions.{built as specified_built, instruction_of as specified_instruction_of};
-ghost use Rattle.rv_seq.specs.SequentialRun.{word_at as specified_word_at, result_of as specified_result_of, destination as specified_destination, commit_of as specified_commit_of, applied};
+ghost use Rattle.rv_built.specs.Instructions.{built as specified_built, instruction_of as specified_instruction_of};
+ghost use Rattle.rv_built.specs.SequentialRun.{word_at as specified_word_at, result_of as specified_result_of, destination as specified_destination, commit_of as specified_commit_of, applied};
 
-use crate::commit::{Arch, Commit, Slot};
+use crate::arch::Arch;
 use crate::instruction::Instruction;
 use rv_isa::rows::{ADD, ADDI, EBREAK};
 use rv_isa::{Base, decode};
+use rv_seq::{Commit, Slot};
 
 /// The word at an address of the image, where the address is divisible by 4 and inside it.
 pub fn word_at(image: &[u32], at: u32) -> Option<u32>

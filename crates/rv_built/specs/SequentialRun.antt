@@ -1,15 +1,15 @@
 -- The sequential run: one instruction at a time, with no cycles in it (RV32I, the built rows).
 use Rattle.std.specs.Prelude.{ℕ, zero, suc, ◌+◌, ◌/◌, ◌%◌, ◌^◌, List, replicate, Option, Some, None, Bool, false, ◌&&◌, ◌||◌, not, slice_get, slice_index, slice_set, if◌then◌else◌, ◌==◌}
 use Rattle.std.specs.Int.{w32, cast_unsigned}
-use Rattle.rv_seq.specs.declared.instruction.Instruction.{Instruction}
-use Rattle.rv_seq.specs.declared.instruction.Instruction.TheVariants.{AddImmediate, Add, Break}
+use Rattle.rv_built.specs.declared.instruction.Instruction.{Instruction}
+use Rattle.rv_built.specs.declared.instruction.Instruction.TheVariants.{AddImmediate, Add, Break}
 use Rattle.rv_seq.specs.declared.commit.Slot.{Slot}
 use Rattle.rv_seq.specs.declared.commit.Slot.TheVariants.{Absent, Now, Later}
 use Rattle.rv_seq.specs.declared.commit.Stop.{Stop}
 use Rattle.rv_seq.specs.declared.commit.Stop.TheVariants.{Ebreak, Illegal, Fetch}
 use Rattle.rv_seq.specs.declared.commit.Commit.{Commit}
-use Rattle.rv_seq.specs.declared.commit.Arch.{Arch}
-use Rattle.rv_seq.specs.Instructions.{instruction_of}
+use Rattle.rv_built.specs.declared.arch.Arch.{Arch}
+use Rattle.rv_built.specs.Instructions.{instruction_of}
 
 -- the word at an address of the image, where the address is divisible by 4 and inside it
 abbrev pub word_at : List ℕ → ℕ → Option ℕ
