@@ -1,6 +1,6 @@
 -- Wider windows leave each legal schedule legal.
 use Rattle.std.proofs.Common.{◌≡◌, ◌∙◌, sym, refl, ℕ, zero, suc, ◌≤◌, ◌<◌, ◌+◌, ◌-◌, Bool, true, false, List, [], ◌∷◌, length, map, get_or, arith, lit<}
-use Rattle.std.specs.Prelude.{All, Contains}
+use Rattle.std.specs.Prelude.{All}
 use Rattle.std.specs.List.{zip}
 use Rattle.std.proofs.lemmas.List.{length-map}
 use Rattle.std.proofs.lemmas.List.Elements.{All-weaker, All-cons, All-nil}
@@ -13,7 +13,7 @@ use Rattle.ix_sheet.specs.declared.sheet.Sheet.{Sheet}
 use Rattle.ix_sheet.specs.declared.problem.Node.{Node}
 use Rattle.ix_sheet.specs.declared.problem.Problem.{Problem}
 use Rattle.ix_sheet.specs.Sheets.{IsValidSheet, window_at}
-use Rattle.ix_sheet.specs.Schedules.{node_at, HasFreeEdge, Runs, IsFreePath, first_of, delay_along, KeepsPeriod, IsAfter, IsLegal, HasSchedule}
+use Rattle.ix_sheet.specs.Schedules.{node_at, HasFreeEdge, Runs, IsFreePath, delay_along, KeepsPeriod, IsAfter, IsLegal, HasSchedule}
 use Rattle.ix_sheet.specs.Behaviours.{window_of, last_if_tight, node_of, problem_of}
 use Rattle.ix_sheet.proofs.Sums.{sum_by-same_each}
 
@@ -69,14 +69,14 @@ after_wider p q t e w h =
 pub legal_wider : (p q : Problem) (t : ℕ → ℕ) → IsWider p q → IsLegal p t → IsLegal q t
 legal_wider p q t w legal = record {
   windows = λ k h.
-    (let count = w.count_is in
-    let inside : k < length p.ops = omega arith in
-    let early : (node_at q k).early ≤ (node_at p k).early = (w.nodes k).early in
-    let late : (node_at p k).late ≤ (node_at q k).late = (w.nodes k).late in
-    let old = legal.windows k inside in
-    let first : (node_at p k).early ≤ t k = old.0 in
-    let last : t k ≤ (node_at p k).late = old.1 in
-    (omega arith, omega arith));
+      (let count = w.count_is in
+      let inside : k < length p.ops = omega arith in
+      let early : (node_at q k).early ≤ (node_at p k).early = (w.nodes k).early in
+      let late : (node_at p k).late ≤ (node_at q k).late = (w.nodes k).late in
+      let old = legal.windows k inside in
+      let first : (node_at p k).early ≤ t k = old.0 in
+      let last : t k ≤ (node_at p k).late = old.1 in
+      (omega arith, omega arith));
   edges = rw w.edges_are (All-weaker (IsAfter p t) (IsAfter q t) (λ e h. after_wider p q t e w h) p.edges legal.edges);
   period = period_wider p q t w legal.period;
 }

@@ -2,6 +2,7 @@ ghost use Rattle.std.specs.Prelude.{◌≡◌, Bool, true, false, IfOk, IfErr, C
 ghost use Rattle.ix_graph.specs.Graphs.{IsValidGraph};
 ghost use Rattle.ix_sheet.specs.Sheets.{IsValidSheet};
 ghost use Rattle.ix_sheet.specs.Behaviours.{problem_of as specified_problem_of, IsSpawning, IsModeOf};
+ghost use Rattle.ix_sheet.specs.Schedules.{HasSchedule};
 ghost use Rattle.ix_modes.specs.Modes.{IsScheduled, IsScheduledIn, FitsWidest, HasNoneIn, IsRefusal};
 
 use ix_bits::{List, Memory};
@@ -34,7 +35,12 @@ pub enum ModeErr {
 }
 
 impl From<Memory> for ModeErr {
-    fn from(_memory: Memory) -> ModeErr {
+    ghost use Rattle.std.specs.Prelude.{◌≡◌};
+    ghost use Rattle.ix_modes.specs.declared.scheduled.ModeErr.TheVariants.{Memory as memory};
+
+    ghost from_gives = { λ _ e. e ≡ memory };
+
+    fn from(_want: Memory) -> ModeErr {
         ModeErr::Memory
     }
 }
@@ -52,6 +58,7 @@ fn in_mode(alloc: Global, graph: &Graph, sheet: &Sheet, mode: Mode) -> Result<Sc
     requires graph { IsValidGraph graph.now }
     requires sheet { IsValidSheet sheet.now }
     ensures scheduled { IfOk result (IsScheduledIn graph.now sheet.now mode) }
+    ensures exists { IfOk result (λ _. HasSchedule (specified_problem_of graph.now sheet.now mode)) }
     ensures refused { IfErr result (HasNoneIn graph.now sheet.now mode) }
 {
     problem_law();
