@@ -76,7 +76,7 @@ sum_type s ty Op.Land x y l w e = cc
 sum_type s ty Op.Lor x y l w e = cc
 sum_type s ty Op.Concat x y l w e = cc
 
-range_type : (h l : TypedExprTree) (w : ℕ) → width_loaded (erased h) (erased l) ≡ Some w → store_type h ≡ type_near false w
+pub range_type : (h l : TypedExprTree) (w : ℕ) → width_loaded (erased h) (erased l) ≡ Some w → store_type h ≡ type_near false w
 range_type (t_binary s ty op x y) l w e = sum_type s ty op x y l w e
 range_type (t_literal r u v b) l w e = cc
 range_type (t_name r u n) l w e = cc

@@ -1,6 +1,6 @@
 -- The behaviours of an extension that breaks no rule.
 use Rattle.std.proofs.Common.{◌≡◌, sym, ap, subst, refl, ℕ, zero, suc, ◌^◌, ◌<◌, ◌≤◌, arith, List, [], ◌∷◌, ◌++◌, length, map, Option, Some, None, Bool, true, false, cond, ◌||◌, nat_eq}
-use Rattle.std.specs.Prelude.{slice_get, option_map, nat_lt}
+use Rattle.std.specs.Prelude.{All, slice_get, option_map, nat_lt}
 use Rattle.std.proofs.lemmas.Bool.{eqb-true, ltb-false}
 use Rattle.std.proofs.lemmas.List.{length-map}
 use Rattle.ix_bits.specs.declared.number.Ty.{Ty}
@@ -20,7 +20,7 @@ use Rattle.ix_typed.specs.Laws.{TextLaw}
 use Rattle.ix_typed.specs.Statements.{IsStmt}
 use Rattle.ix_typed.specs.Texts.{IsInstr, AreInstrs, IsBlock, AreBlocks, IsKind, AreSections, IsText}
 use Rattle.ix_extension.specs.Encodings.{bits_of, has_field_twice, pieces_of as pieces_in}
-use Rattle.ix_extension.specs.Extensions.{instrs_in, blocks_in, all_instrs, all_blocks, BehaviourTree, InstructionTree, ExtensionTree, instruction_of, block_of, extension_of}
+use Rattle.ix_extension.specs.Extensions.{instrs_in, blocks_in, all_states, all_instrs, all_blocks, BehaviourTree, InstructionTree, ExtensionTree, instruction_of, block_of, extension_of}
 use Rattle.ix_extension.specs.Faults.{Fault, encoding_width, field_twice, too_many, or_fault, fault_where, is_too_large, width_fault, twice_fault, extension_fault, first_fault}
 use Rattle.ix_extension.specs.WellFormed.{IsOf}
 use Rattle.ix_mean.specs.Core.{u32}
@@ -40,8 +40,12 @@ use Rattle.ix_behaviour.proofs.FieldTypes.{ArePlaced}
 use Rattle.ix_behaviour.proofs.Seeing.{Stands}
 use Rattle.ix_behaviour.proofs.Stores.{one_type}
 use Rattle.ix_behaviour.proofs.Scopes.{begins_same}
+use Rattle.ix_behaviour.specs.Accesses.{AccessesAreTyped, AccessesLaw, StoredTypeLaw}
+use Rattle.ix_behaviour.specs.Tables.{HaveWidthOf, TablesAreRead, TablesLaw, WidthsLaw}
+use Rattle.ix_behaviour.proofs.AccessTypes.{stmt_typed, stored_is}
+use Rattle.ix_behaviour.proofs.TablesRead.{stmt_reads}
 use Rattle.ix_behaviour.proofs.Statements.{behaviour_sound}
-use Rattle.ix_behaviour.proofs.Globals.{Global, global_is}
+use Rattle.ix_behaviour.proofs.Globals.{Global, global_is, tables_wide}
 use Rattle.ix_behaviour.proofs.Encodings.{FieldIs, field_roles, pieces_placed, field_is}
 use Rattle.ix_behaviour.proofs.Accesses.{all_done, none_at_first}
 
@@ -174,6 +178,8 @@ record IsLawful (ns : Names) (body : List TypedStmtTree) : Type 0 where
   resolved : AreResolved ns body outside
   typed : IsTypedStatement (record { slots = (steps ns body outside).scope.slots; targets = stored_type (steps ns body outside).body ∷ u32 ∷ u32 ∷ map type_of_register ns.registers }) (steps ns body outside).body
   stands : accesses_in (steps ns body outside).body ≤ 1
+  accesses : AccessesAreTyped (steps ns body outside).body
+  tables : TablesAreRead ns.tables (steps ns body outside).body
   same : (i : Inputs) (ts : List Ty) → i.word < 2 ^ 32
       → (run i (steps ns body outside).body (started (record { slots = (steps ns body outside).scope.slots; targets = ts }))).targets
       ≡ (does_all ns i body (record { locals = []; targets = map no_write ts })).targets
@@ -189,6 +195,8 @@ lawful ns few placed g names after x b sees h =
       resolved = (s.names, tt);
       typed = (s.typed (one_type whole one).0, tt);
       stands = one;
+      accesses = (stmt_typed ns g (global_state names) after outside x h, tt);
+      tables = (stmt_reads ns slots (stored_type whole) few placed g (global_state names) after outside x b (sees slots) (begins_same slots) h, tt);
       same = λ i ts w.
           let start = started (record { slots = slots; targets = ts }) in
           let long : length slots ≤ length start.slots = (let e = length-map slots nothing in omega (arith, e)) in
@@ -272,3 +280,15 @@ one_access_law law t x w h b =
 
 pub few_law : TextLaw → FewLaw
 few_law law t x h = let P : ExtensionTree → Type 0 = λ z. IsFew z in subst P (sym h.parts) (few_are t (text_of law t x h) h.sound)
+
+pub accesses_law : TextLaw → AccessesLaw
+accesses_law law t x w h b = (lawful_of law t x w h b).accesses
+
+pub stored_type_law : TextLaw → StoredTypeLaw
+stored_type_law law t x w h b = stored_is (statement_at x w) (lawful_of law t x w h b).accesses
+
+pub tables_law : TextLaw → TablesLaw
+tables_law law t x w h b = (lawful_of law t x w h b).tables
+
+pub widths_law : WidthsLaw
+widths_law t x h = let P : ExtensionTree → Type 0 = λ z. All (λ table. HaveWidthOf table.ty table.entries) z.tables in subst P (sym h.parts) (tables_wide (all_states t.sections))

@@ -1,9 +1,11 @@
 -- The registers and tables of a typed text: what a name stands for in typing is the register or table of its extension.
 use Rattle.std.proofs.Common.{◌≡◌, ◌∙◌, sym, ap, subst, refl, ℕ, suc, ◌+◌, ◌^◌, ◌<◌, arith, pos, List, [], ◌∷◌, ◌++◌, length, map, Option, Some, None, Bool, true, false, cond}
+use Rattle.std.specs.Prelude.{All}
 use Rattle.std.proofs.lemmas.Bool.{eqb-true, false≢true}
 use Rattle.std.proofs.lemmas.List.{append-nil, map-append, length-map}
 use Rattle.std.proofs.lemmas.List.Elements.{All-nil, All-cons}
 use Rattle.ix_bits.specs.declared.number.Ty.{Ty}
+use Rattle.ix_bits.specs.declared.number.Bits.{Bits}
 use Rattle.ix_tree.specs.Lexing.{same_bytes}
 use Rattle.ix_tree.specs.LoopHeads.{Valued, head_value}
 use Rattle.ix_tree.specs.declared.extension.Register.{Register}
@@ -22,6 +24,7 @@ use Rattle.ix_extension.specs.Extensions.{states_in, all_states, pattern, consta
 use Rattle.ix_mean.specs.View.{raw_of}
 use Rattle.ix_mean.specs.Typing.{AreEntriesOf}
 use Rattle.ix_mean.specs.ByName.{Numbered, register_in, Entries, table_in}
+use Rattle.ix_behaviour.specs.Tables.{HaveWidthOf, IsTableRead}
 use Rattle.ix_behaviour.proofs.Scopes.{same_equal, role_behind}
 
 -- ---- the states of all sections
@@ -170,10 +173,24 @@ role_is (x ∷ xs) names n e = by (same_bytes x.name n) refl (λ f. role_is xs (
 abbrev patterns_of : Ty → List TypedExprTree → List ℕ
 patterns_of ty es = map raw_of (map (entry ty) es)
 
+-- the table with these patterns, where the first has the number t
+record IsNumbered (ts : List Table) (t : ℕ) (q : Entries) (ty : Ty) : Type 0 where
+  place : ℕ
+  is : q.number ≡ t + place
+  read : IsTableRead ts place q.patterns ty
+
+constant_width : (ty : Ty) (o : Option Valued) → (constant_in ty o).width ≡ ty.width
+constant_width ty None = refl
+constant_width ty (Some v) = refl
+
+entries_wide : (ty : Ty) (es : List TypedExprTree) → HaveWidthOf ty (map (entry ty) es)
+entries_wide ty [] = All-nil (λ (e : Bits). e.width ≡ ty.width)
+entries_wide ty (e ∷ es) = All-cons (λ (e : Bits). e.width ≡ ty.width) (entry ty e) (map (entry ty) es) (constant_width ty (head_value (erased e) [])) (entries_wide ty es)
+
 -- what has the name among these registers and tables
 abbrev FoundKind : List Register → List Table → ℕ → ℕ → List ℕ → Ty → TypedStateKindTree → Type 0
 FoundKind rs ts r t n ty (tk_register e) = (table_in t ts n ≡ None) × ((q : Numbered) × (register_in r rs n ≡ Some q) × (q.ty ≡ ty))
-FoundKind rs ts r t n ty (tk_table len es) = (register_in r rs n ≡ None) × ((q : Entries) × (table_in t ts n ≡ Some q) × (q.patterns ≡ patterns_of ty es))
+FoundKind rs ts r t n ty (tk_table len es) = (register_in r rs n ≡ None) × ((q : Entries) × (table_in t ts n ≡ Some q) × (q.patterns ≡ patterns_of ty es) × IsNumbered ts t q ty)
 
 abbrev Found : List Register → List Table → ℕ → ℕ → List ℕ → Option First → Type 0
 Found rs ts r t n None = (register_in r rs n ≡ None) × (table_in t ts n ≡ None)
@@ -192,7 +209,9 @@ found_with x (tk_table len es) rs ts n o true f none h r t =
     let P : Option First → Type 0 = λ z. Found rs ts r t n z in
     let old = subst P (none f) (h r t) in
     let q : Entries = record { number = t; patterns = patterns_of (nearest x.ty.kind) es } in
-    (old.0, (q, ap (λ (z : Bool). cond z (Some q) (table_in (suc t) ts n)) f, refl))
+    let table : Table = record { name = x.name; ty = nearest x.ty.kind; entries = map (entry (nearest x.ty.kind)) es } in
+    let read : IsTableRead (table ∷ ts) 0 q.patterns (nearest x.ty.kind) = record { table = table; there = refl; patterns = refl; widths = entries_wide (nearest x.ty.kind) es } in
+    (old.0, (q, ap (λ (z : Bool). cond z (Some q) (table_in (suc t) ts n)) f, refl, record { place = 0; is = omega arith; read = read }))
 found_with x (tk_register e) rs ts n o false f none h r t =
     let q : Numbered = record { number = r; ty = nearest x.ty.kind } in
     passed (suc r) o (ap (λ (z : Bool). cond z (Some q) (register_in (suc r) rs n)) f) (h (suc r) t)
@@ -207,16 +226,21 @@ found_with x (tk_register e) rs ts n o false f none h r t =
         passed_kind j ty (tk_table len es) g w = (g ∙ w.0, w.1)
 found_with x (tk_table len es) rs ts n o false f none h r t =
     let q : Entries = record { number = t; patterns = patterns_of (nearest x.ty.kind) es } in
-    passed (suc t) o (ap (λ (z : Bool). cond z (Some q) (table_in (suc t) ts n)) f) (h r (suc t))
+    passed (suc t) o refl (ap (λ (z : Bool). cond z (Some q) (table_in (suc t) ts n)) f) (h r (suc t))
   where
-    passed : (j : ℕ) (o : Option First) → table_in t (with_table x (tk_table len es) ts) n ≡ table_in j ts n → Found rs ts r j n o → Found rs (with_table x (tk_table len es) ts) r t n o
-    passed j None g w = (w.0, g ∙ w.1)
-    passed j (Some f) g w = passed_kind j f.ty f.kind g w
+    passed : (j : ℕ) (o : Option First) → j ≡ suc t → table_in t (with_table x (tk_table len es) ts) n ≡ table_in j ts n → Found rs ts r j n o → Found rs (with_table x (tk_table len es) ts) r t n o
+    passed j None e g w = (w.0, g ∙ w.1)
+    passed j (Some f) e g w = passed_kind j f.ty f.kind e g w
       where
-        passed_kind : (j : ℕ) (ty : Ty) (k : TypedStateKindTree) → table_in t (with_table x (tk_table len es) ts) n ≡ table_in j ts n → FoundKind rs ts r j n ty k
+        passed_kind : (j : ℕ) (ty : Ty) (k : TypedStateKindTree) → j ≡ suc t → table_in t (with_table x (tk_table len es) ts) n ≡ table_in j ts n → FoundKind rs ts r j n ty k
             → FoundKind rs (with_table x (tk_table len es) ts) r t n ty k
-        passed_kind j ty (tk_register i) g w = (g ∙ w.0, w.1)
-        passed_kind j ty (tk_table l i) g w = (w.0, (w.1.0, g ∙ w.1.1, w.1.2))
+        passed_kind j ty (tk_register i) e g w = (g ∙ w.0, w.1)
+        passed_kind j ty (tk_table l i) e g w =
+            let d = w.1.3 in
+            let at = d.is in
+            let read : IsTableRead (with_table x (tk_table len es) ts) (suc d.place) w.1.0.patterns ty =
+            record { table = d.read.table; there = d.read.there; patterns = d.read.patterns; widths = d.read.widths } in
+            (w.0, (w.1.0, g ∙ w.1.1, w.1.2, record { place = suc d.place; is = omega (arith, at, e); read = read }))
 
 found : (xs : List TypedStateTree) (n : List ℕ) → Distinct xs → (r t : ℕ) → Found (registers_of xs) (tables_of xs) r t n (first_state xs n)
 found [] n d r t = (refl, refl)
@@ -263,7 +287,9 @@ Global rs ts n None = (register_in 0 rs n ≡ None) × (table_in 0 ts n ≡ None
 Global rs ts n (Some (R.Local ty)) = ⊥
 Global rs ts n (Some (R.Field f)) = ⊥
 Global rs ts n (Some (R.Register k ty)) = (table_in 0 ts n ≡ None) × ((r : Numbered) × (register_in 0 rs n ≡ Some r) × (r.ty ≡ ty))
-Global rs ts n (Some (R.Table k shape)) = (register_in 0 rs n ≡ None) × ((t : Entries) × (table_in 0 ts n ≡ Some t) × (length t.patterns ≡ shape.length) × AreEntriesOf shape.ty t.patterns)
+Global rs ts n (Some (R.Table k shape)) =
+    (register_in 0 rs n ≡ None)
+    × ((t : Entries) × (table_in 0 ts n ≡ Some t) × (length t.patterns ≡ shape.length) × AreEntriesOf shape.ty t.patterns × IsTableRead ts t.number t.patterns shape.ty)
 
 kind_global : (rs : List Register) (ts : List Table) (n : List ℕ) (j : ℕ) (ty : Ty) (k : TypedStateKindTree) → FoundKind rs ts 0 0 n ty k → HasLength k
     → Global rs ts n (Some (role_by j ty (erased_state_kind k)))
@@ -271,11 +297,26 @@ kind_global rs ts n j ty (tk_register e) h l = h
 kind_global rs ts n j ty (tk_table len es) h l =
     let same = h.1.2 in
     let A : List ℕ → Type 0 = λ z. AreEntriesOf ty z in
-    (h.0, (h.1.0, h.1.1, ap length same ∙ count_kept ty es ∙ l, subst A (sym same) (entries_below ty es)))
+    let d = h.1.3 in
+    let at = d.is in
+    let place : d.place ≡ h.1.0.number = omega (arith, at) in
+    let R : ℕ → Type 0 = λ z. IsTableRead ts z h.1.0.patterns ty in
+    (h.0, (h.1.0, h.1.1, ap length same ∙ count_kept ty es ∙ l, subst A (sym same) (entries_below ty es), subst R place d.read))
 
 first_global : (rs : List Register) (ts : List Table) (n : List ℕ) (o : Option First) (r : Option Role) → Found rs ts 0 0 n o → FirstHasLength o → RoleIs o r → Global rs ts n r
 first_global rs ts n None r h l e = let P : Option Role → Type 0 = λ z. Global rs ts n z in subst P (sym e) h
 first_global rs ts n (Some f) r h l e = let P : Option Role → Type 0 = λ z. Global rs ts n z in subst P (sym e.1) (kind_global rs ts n e.0 f.ty f.kind h l)
+
+-- the entries of each table have the width of its type
+pub tables_wide : (xs : List TypedStateTree) → All (λ table. HaveWidthOf table.ty table.entries) (tables_of xs)
+tables_wide [] = All-nil (λ (table : Table). HaveWidthOf table.ty table.entries)
+tables_wide (x ∷ xs) = by x.kind (tables_wide xs)
+  where
+    by : (k : TypedStateKindTree) → All (λ table. HaveWidthOf table.ty table.entries) (tables_of xs) → All (λ table. HaveWidthOf table.ty table.entries) (with_table x k (tables_of xs))
+    by (tk_register e) h = h
+    by (tk_table len es) h =
+        let table : Table = record { name = x.name; ty = nearest x.ty.kind; entries = map (entry (nearest x.ty.kind)) es } in
+        All-cons (λ (table : Table). HaveWidthOf table.ty table.entries) table (tables_of xs) (entries_wide (nearest x.ty.kind) es) h
 
 -- in a typed text
 pub global_is : (st : State) (xs : List TypedSectionTree) (f : Front) → AreSections st xs f → f.states ≡ false → st.names ≡ globals [] (map erased_section xs)

@@ -6,7 +6,9 @@ mod Expressions
 mod Stores
 mod Scopes
 mod Assigned
+mod AccessTypes
 mod Statements
+mod TablesRead
 mod Globals
 mod Encodings
 mod Accesses

@@ -14,6 +14,7 @@ use Rattle.ix_mean.specs.Typing.{AreEntriesOf}
 use Rattle.ix_mean.specs.ByName.{Names, Numbered, register_in, Entries, table_in}
 use Rattle.ix_mean.specs.Resolving.{Slot, slot_in, IsFieldOf}
 use Rattle.ix_behaviour.specs.Behaviours.{type_of_register}
+use Rattle.ix_behaviour.specs.Tables.{IsTableRead}
 
 -- ---- numbers
 pub positive_is : (z : ℤ) → int_le (pos 0) z ≡ true → z ≡ pos (unsigned_abs z)
@@ -66,7 +67,7 @@ Stands ns slots o n (Some (R.Local ty)) =
 Stands ns slots o n (Some (R.Register k ty)) = (o ≡ None) × (table_in 0 ns.tables n ≡ None) × ((r : Numbered) × (register_in 0 ns.registers n ≡ Some r) × (r.ty ≡ ty))
 Stands ns slots o n (Some (R.Table k shape)) =
     (o ≡ None) × (register_in 0 ns.registers n ≡ None)
-    × ((t : Entries) × (table_in 0 ns.tables n ≡ Some t) × (length t.patterns ≡ shape.length) × AreEntriesOf shape.ty t.patterns)
+    × ((t : Entries) × (table_in 0 ns.tables n ≡ Some t) × (length t.patterns ≡ shape.length) × AreEntriesOf shape.ty t.patterns × IsTableRead ns.tables t.number t.patterns shape.ty)
 Stands ns slots o n (Some (R.Field f)) = (o ≡ None) × (register_in 0 ns.registers n ≡ None) × (table_in 0 ns.tables n ≡ None) × IsFieldOf ns.pieces n f.ty
 
 -- each name stands for what it is resolved to

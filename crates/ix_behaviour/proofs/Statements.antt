@@ -45,14 +45,14 @@ module _ (ns : Names) (slots : List Ty) (m : Ty) (few : length ns.registers ≤ 
   frame = frame_with ns slots m
 
   -- ---- declarations
-  record InitialSound (st mid : State) (sc : Scope) (ty : Ty) (o : Option TypedExprTree) : Type 0 where
+  pub record InitialSound (st mid : State) (sc : Scope) (ty : Ty) (o : Option TypedExprTree) : Type 0 where
     names : IsInitial ns sc o
     typed : IsTypedExpression frame (initial ns sc ty o)
     goes : Embeds (type_of_expression (initial ns sc ty o)) ty
     once : bit st.accessed + loads_in (initial ns sc ty o) ≤ bit mid.accessed
-    kept : mid.names ≡ st.names
+    pub kept : mid.names ≡ st.names
 
-  initial_sound : (g : Setting) (st mid : State) (sc : Scope) (ty : Ty) (o : Option TypedExprTree) → is_constant_body g.body ≡ false → Sees ns slots st.names sc.locals → IsInitialOf g ty st o mid
+  pub initial_sound : (g : Setting) (st mid : State) (sc : Scope) (ty : Ty) (o : Option TypedExprTree) → is_constant_body g.body ≡ false → Sees ns slots st.names sc.locals → IsInitialOf g ty st o mid
       → InitialSound st mid sc ty o
   initial_sound g st mid sc ty None b sees h = record {
     names = tt;
@@ -109,12 +109,12 @@ module _ (ns : Names) (slots : List Ty) (m : Ty) (few : length ns.registers ≤ 
       }
 
   -- ---- statements
-  record StmtSound (st after : State) (sc : Scope) (x : TypedStmtTree) : Type 0 where
+  pub record StmtSound (st after : State) (sc : Scope) (x : TypedStmtTree) : Type 0 where
     names : IsResolvedStatement ns x sc
     typed : Stores m (step ns x sc).body → IsTypedStatement frame (step ns x sc).body
     once : bit st.accessed + accesses_in (step ns x sc).body ≤ bit after.accessed
-    grows : Grows st.names after.names
-    sees : Sees ns slots after.names (step ns x sc).scope.locals
+    pub grows : Grows st.names after.names
+    pub sees : Sees ns slots after.names (step ns x sc).scope.locals
 
   record RowSound (st after : State) (sc : Scope) (all : TypedRow) : Type 0 where
     names : IsResolvedRow ns all sc
@@ -134,7 +134,7 @@ module _ (ns : Names) (slots : List Ty) (m : Ty) (few : length ns.registers ≤ 
       decls_sound g st after sc (type_of_text text) ds b sees w (subst A (sym (text_is text ty v)) h)
 
   mutual
-    stmt_sound : (g : Setting) (st after : State) (sc : Scope) (x : TypedStmtTree) → is_constant_body g.body ≡ false → Sees ns slots st.names sc.locals → Begins (step ns x sc).scope.slots slots
+    pub stmt_sound : (g : Setting) (st after : State) (sc : Scope) (x : TypedStmtTree) → is_constant_body g.body ≡ false → Sees ns slots st.names sc.locals → Begins (step ns x sc).scope.slots slots
         → IsStmt g st x after → StmtSound st after sc x
     stmt_sound g st after sc (ts_block s all) b sees w h =
         let r = row_sound g st h.0 sc all b sees w h.1 in

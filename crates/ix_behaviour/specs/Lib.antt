@@ -1,2 +1,4 @@
 pub mod Behaviours
 pub mod Laws
+pub mod Accesses
+pub mod Tables

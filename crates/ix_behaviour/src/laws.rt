@@ -1,4 +1,6 @@
 ghost use Rattle.ix_behaviour.specs.Laws.{ResolvedLaw, TypedBehaviourLaw, BehaviourEffectLaw, OneAccessLaw, FewLaw, ConstantsLaw};
+ghost use Rattle.ix_behaviour.specs.Accesses.{AccessesLaw, StoredTypeLaw};
+ghost use Rattle.ix_behaviour.specs.Tables.{TablesLaw, WidthsLaw};
 
 use ix_typed::form_laws;
 
@@ -9,6 +11,17 @@ pub fn behaviour_laws()
     ensures effect { BehaviourEffectLaw }
     ensures one_access { OneAccessLaw }
     ensures few { FewLaw }
+{
+    form_laws();
+}
+
+/// Laws of the types of what the behaviours of well-formed extensions read from memory and store: unsigned, of 8, 16 or
+/// 32 bits; and of the tables that they read. It does nothing: its contract is what it is for.
+pub fn access_laws()
+    ensures accesses { AccessesLaw }
+    ensures stored { StoredTypeLaw }
+    ensures tables { TablesLaw }
+    ensures widths { WidthsLaw }
 {
     form_laws();
 }

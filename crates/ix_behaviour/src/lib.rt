@@ -4,5 +4,5 @@
 mod laws;
 mod which;
 
-pub use laws::{behaviour_laws, constants_law};
+pub use laws::{access_laws, behaviour_laws, constants_law};
 pub use which::Which;
