@@ -1,1 +1,2 @@
 pub mod Bridging
+mod Told

@@ -2,20 +2,13 @@
 use Rattle.std.specs.Prelude.{◌≡◌, ◌<◌, ◌≤◌, List, length, map, Result, Ok, Err}
 use Rattle.ix_bits.specs.declared.number.Bits.{Bits}
 use Rattle.ix_graph.specs.declared.graph.Graph.{Graph}
-use Rattle.ix_mean.specs.Terms.{Term, one_term, loads}
-use Rattle.ix_mean.specs.Order.{operations, roots}
-use Rattle.ix_mean.specs.Effects.{start, effect_terms}
 use Rattle.ix_extension.specs.Extensions.{ExtensionTree}
 use Rattle.ix_behaviour.specs.declared.which.Which.{Which}
-use Rattle.ix_behaviour.specs.Behaviours.{statement_at, frame_at}
 use Rattle.ix_resolve.specs.Flags.{flags_at}
 use Rattle.ix_flow.specs.Flows.{AreOpsOf, flag_of}
+use Rattle.ix_graph_laws.specs.Operations.{operations_at}
 use Rattle.ix_flow.specs.declared.error.FlowErr.{FlowErr}
 use Rattle.ix_flow.specs.declared.error.FlowErr.TheVariants.{TooManyOps, Memory}
-
--- the operations of a behaviour, in their order
-abbrev pub operations_at : ExtensionTree → Which → List Term
-operations_at x w = operations (roots (loads one_term (statement_at x w) (start (frame_at x w))) (effect_terms (frame_at x w) (statement_at x w)).targets)
 
 -- the graph has these operations, the flags of the spawned targets, and the extension's tables
 pub record IsGraphAt (x : ExtensionTree) (w : Which) (tables : List (List Bits)) (g : Graph) : Type 0 where

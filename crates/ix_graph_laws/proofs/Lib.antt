@@ -1,0 +1,9 @@
+mod Made
+mod Fronts
+mod Inner
+mod Valid
+mod Values
+mod Running
+mod Addresses
+mod Doing
+mod Graphs

@@ -1,0 +1,6 @@
+//! Laws of the operation graphs of behaviours.
+#![tactic(auto)]
+
+mod laws;
+
+pub use laws::graph_laws;
