@@ -1,0 +1,5 @@
+mod Listed
+mod Bridging
+mod Modules
+pub mod Finishing
+pub mod Denoting

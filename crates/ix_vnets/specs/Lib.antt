@@ -1,0 +1,4 @@
+pub mod Nets
+pub mod Finished
+pub mod Drives
+pub mod Tables
