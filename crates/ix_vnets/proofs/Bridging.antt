@@ -1,7 +1,7 @@
 -- Cells and banks by the map of widths are those of the module.
-use Rattle.std.proofs.Common.{◌≡◌, ◌≢◌, ◌⊎◌, inl, inr, ℕ, zero, suc, ◌+◌, ◌<◌, ◌≤◌, List, [], ◌∷◌, ◌++◌, length, map, Option, Some, refl, ap, sym, ◌∙◌, subst, arith}
+use Rattle.std.proofs.Common.{◌≡◌, ◌≢◌, inl, inr, ℕ, ◌≤◌, List, [], ◌∷◌, ◌++◌, Option, Some, ap, sym, ◌∙◌, subst, arith}
 use Rattle.std.specs.Prelude.{Contains, All, AllPairs}
-use Rattle.std.specs.List.{AllZip, AllByRecursion}
+use Rattle.std.specs.List.{AllByRecursion}
 use Rattle.std.proofs.lemmas.Option.{same_Some}
 use Rattle.std.proofs.lemmas.List.Elements.{All-contains, Contains-append_left, Contains-append_right}
 use Rattle.ix_net.specs.declared.netlist.Port.{Port}
@@ -22,11 +22,12 @@ use Rattle.ix_verilog.specs.Subset.{assigned, declared, Names, IsShortName, MayD
 use Rattle.ix_verilog.proofs.Pairs.{pairs_head, pairs_tail, contains_mapped, head_case, mapped_back}
 use Rattle.ix_vonce.specs.Names.{AllOnce, said_in}
 use Rattle.ix_vright.specs.Forms.{IsFormOf, IsWithin}
+use Rattle.ix_vright.specs.Laws.{OneForm}
 use Rattle.ix_vwidth.specs.Widths.{Has}
 use Rattle.ix_vwidth.specs.Tables.{Map, found, AreApart, Holds}
 use Rattle.ix_vnets.specs.Finished.{IsFinished}
 use Rattle.ix_vnets.specs.Nets.{IsCellOf, IsBankOf}
-use Rattle.ix_vnets.specs.Tables.{IsCellBy, IsBankBy, HasCell, HasBank}
+use Rattle.ix_vnets.specs.Tables.{IsCellBy, IsBankBy, HasCell}
 
 -- ports of one name are one
 pub port_once : (ps : List Port) → AllPairs (λ x y. x ≢ y) (names ps) → (p q : Port) → Contains ps p → Contains ps q → p.name ≡ q.name → p ≡ q
@@ -101,6 +102,21 @@ one_of ps qs apart sub n w c h =
     let same : r.0 ≡ record { name = n; width = w } = port_once ps apart r.0 (record { name = n; width = w }) (sub r.0 r.1) h r.2 in
     subst (Contains qs) same r.1
 
+-- no cell goes with a right side that does not fit
+pub no_cell : OneForm → (m : Map) (a : Assign) (right : List Word) (w : ℕ) (f : Form) → found m a.target ≡ Some w → right ≡ a.right → IsFormOf right f → (Fits (found m) w f → ⊥) → HasCell m a → ⊥
+no_cell one_side m a right w f e r i never h =
+    let form : f ≡ h.0.form = one_side a.right f h.0.form (subst (λ z. IsFormOf z f) r i) h.1.form in
+    let wide : w ≡ h.0.width = same_Some w h.0.width (sym e ∙ h.1.wide) in
+    never (subst (λ z. Fits (found m) z f) (sym wide) (subst (Fits (found m) h.0.width) (sym form) h.1.fits))
+
+-- the right side of a cell that fits
+pub form_is : (s : Source) → IsFinished s → (a : Assign) (c : Cell) → IsCellOf s a c → IsFormOf a.right c.form
+form_is s fin a c h = record {
+  is = h.right;
+  named = named_all (declared s) fin.declares (operands c.form) (operands_have (Has (declared s)) c.width c.form h.fits);
+  within = within (declared s) fin.declares c.width c.form h.fits;
+}
+
 module _ (s : Source) (m : Map) (fin : IsFinished s) (once : AllOnce (said_in s)) (holds : AreApart (declared s) → Holds (declared s) m) where
   table : Holds (declared s) m
   table = holds (apart_of s once)
@@ -121,11 +137,7 @@ module _ (s : Source) (m : Map) (fin : IsFinished s) (once : AllOnce (said_in s)
   cell_from a c h = record {
     target = h.target;
     wide = subst (λ n. found m n ≡ Some c.width) h.target ((table c.target c.width).1 (assigned_in s (cell_port c) h.declared_so));
-    form = record {
-      is = h.right;
-      named = named_all (declared s) fin.declares (operands c.form) (operands_have (Has (declared s)) c.width c.form h.fits);
-      within = within (declared s) fin.declares c.width c.form h.fits;
-    };
+    form = form_is s fin a c h;
     fits = fits_from (Has (declared s)) (found m) (λ n w. (table n w).1) c.width c.form h.fits;
   }
 

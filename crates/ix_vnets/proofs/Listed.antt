@@ -1,6 +1,6 @@
 -- Lists whose elements go together, and the first that has not a property.
-use Rattle.std.proofs.Common.{◌≡◌, ◌⊎◌, inl, inr, ℕ, zero, suc, ◌+◌, ◌<◌, ◌≤◌, List, [], ◌∷◌, ◌++◌, length, take, drop, get_or, map, refl, ap, sym, ◌∙◌, subst, arith, append_assoc}
-use Rattle.std.specs.Prelude.{Contains, All}
+use Rattle.std.proofs.Common.{◌≡◌, ℕ, zero, suc, ◌+◌, ◌<◌, ◌≤◌, List, [], ◌∷◌, ◌++◌, length, take, drop, get_or, map, refl, ap, sym, ◌∙◌, subst, arith, append_assoc}
+use Rattle.std.specs.Prelude.{Contains}
 use Rattle.std.specs.List.{AllZip, AllByRecursion}
 use Rattle.std.proofs.lemmas.List.{map-append, length-map, length-append}
 use Rattle.ix_vnets.specs.Drives.{IsFirstNot}
@@ -76,17 +76,17 @@ first_mapped g P Q xs ys k to from f =
       breaks = λ q. f.breaks (from f.item here q);
     }
   where
-    ahead : {Z : Type 0} (as bs : List Z) (z : Z) → Contains as z → Contains (as ++ bs) z
-    ahead as bs z c = in_front as bs c.0 z c.1 c.2
+    ahead : {Z : Type 0} (us bs : List Z) (z : Z) → Contains us z → Contains (us ++ bs) z
+    ahead us bs z c = in_front us bs c.0 z c.1 c.2
       where
-        in_front : {W : Type 0} (us vs : List W) (i : ℕ) (w : W) → i < length us → get_or us i w ≡ w → Contains (us ++ vs) w
+        in_front : {W : Type 0} (ts vs : List W) (i : ℕ) (w : W) → i < length ts → get_or ts i w ≡ w → Contains (ts ++ vs) w
         in_front [] vs i w l e = absurd (omega (arith, l))
-        in_front (u ∷ us) vs zero w l e = (0, omega arith, e)
-        in_front (u ∷ us) vs (suc i) w l e = (let r = in_front us vs i w (omega (arith, l)) e in (suc r.0, omega (arith, r.1), r.2))
+        in_front (u ∷ ts) vs zero w l e = (0, omega arith, e)
+        in_front (u ∷ ts) vs (suc i) w l e = (let r = in_front ts vs i w (omega (arith, l)) e in (suc r.0, omega (arith, r.1), r.2))
 
-    behind : {Z : Type 0} (as : List Z) (z : Z) (bs : List Z) → Contains (as ++ z ∷ bs) z
+    behind : {Z : Type 0} (us : List Z) (z : Z) (bs : List Z) → Contains (us ++ z ∷ bs) z
     behind [] z bs = (0, omega arith, refl)
-    behind (a ∷ as) z bs = (let r = behind as z bs in (suc r.0, omega (arith, r.1), r.2))
+    behind (a ∷ us) z bs = (let r = behind us z bs in (suc r.0, omega (arith, r.1), r.2))
 
 -- behind others that all have it
 pub first_behind : {X : Type 0} (P : X → Type 0) (xs ys : List X) (k n : ℕ) → AllByRecursion P xs → n ≡ length xs + k → IsFirstNot P ys k → IsFirstNot P (xs ++ ys) n
@@ -102,3 +102,15 @@ first_behind P xs ys k n h e f = record {
 
 pub first_within : {X : Type 0} (P : X → Type 0) (xs : List X) (k : ℕ) → IsFirstNot P xs k → k < length xs
 first_within P xs k f = omega (arith, f.number, ap length f.are, length-append f.front (f.item ∷ f.rest))
+
+-- before others
+pub first_before : {X : Type 0} (P : X → Type 0) (xs ys : List X) (k : ℕ) → IsFirstNot P xs k → IsFirstNot P (xs ++ ys) k
+first_before P xs ys k f = record {
+  front = f.front;
+  item = f.item;
+  rest = f.rest ++ ys;
+  are = ap (λ z. z ++ ys) f.are ∙ append_assoc f.front (f.item ∷ f.rest) ys;
+  number = f.number;
+  before = f.before;
+  breaks = f.breaks;
+}

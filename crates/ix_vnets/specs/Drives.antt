@@ -1,5 +1,5 @@
 -- The lines of modules whose widths have to agree, `assign` and `if`, in the order of the text.
-use Rattle.std.specs.Prelude.{◌≡◌, ℕ, ◌+◌, List, [], ◌∷◌, ◌++◌, map, length}
+use Rattle.std.specs.Prelude.{◌≡◌, ℕ, List, ◌∷◌, ◌++◌, map, length}
 use Rattle.std.specs.List.{AllByRecursion, flat_map}
 use Rattle.ix_net.specs.declared.netlist.Cell.{Cell}
 use Rattle.ix_net.specs.declared.netlist.Bank.{Bank}

@@ -2,8 +2,10 @@
 #![tactic(auto)]
 
 mod error;
+mod laws;
 mod lines;
 mod nets;
 
 pub use error::NetErr;
+pub use laws::nets_laws;
 pub use nets::nets_in;

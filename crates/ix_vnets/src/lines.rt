@@ -6,7 +6,7 @@ ghost use Rattle.ix_vnets.specs.Drives.{IsFirstNot};
 use ix_bits::{List, Memory, Name};
 use ix_net::{Bank, Cell};
 use ix_verilog::{Assign, Update};
-use ix_vright::form_of;
+use ix_vright::{form_of, right_laws};
 use ix_vwidth::{fits, has, width_of};
 use std::alloc::Global;
 use std::collections::BTreeMap;
@@ -32,6 +32,8 @@ fn cell_of(
         return Ok(None);
     };
     if !fits(widths, width, &form) {
+        drop(form);
+        right_laws();
         return Ok(None);
     }
     let target = copy(alloc, &assign.target)?;

@@ -61,7 +61,12 @@ fn joined(
     banks: List<Bank>,
 ) -> Result<Net, Memory>
     ensures { IfOk result (λ net. net ≡ record {
-        name = source.now.name; inputs = source.now.inputs; cells = cells; banks = banks; outputs = source.now.outputs }) }
+      name = source.now.name;
+      inputs = source.now.inputs;
+      cells = cells;
+      banks = banks;
+      outputs = source.now.outputs;
+    }) }
 {
     let name = Name::from_text(alloc, source.name.as_str())?;
     let inputs = copies(alloc, source.inputs.as_slice())?;
