@@ -1,0 +1,8 @@
+//! The first assignment of netlists that depends on itself without a register between (IEEE 1364-2005, 6.1).
+#![tactic(auto)]
+
+mod first;
+mod graph;
+mod search;
+
+pub use first::{first_loop, first_loop_in};

@@ -1,0 +1,6 @@
+mod Listed
+mod Bridging
+mod Modules
+mod Once
+pub mod Finishing
+pub mod Denoting

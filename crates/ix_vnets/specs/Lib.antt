@@ -1,0 +1,5 @@
+pub mod Nets
+pub mod Finished
+pub mod Drives
+pub mod Tables
+pub mod Laws
