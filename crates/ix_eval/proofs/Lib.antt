@@ -1,3 +1,5 @@
 pub mod FirstReads
 pub mod Clearing
 pub mod EffectParts
+pub mod Same
+pub mod Tables

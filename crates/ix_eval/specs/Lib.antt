@@ -1,3 +1,5 @@
+pub mod Sizes
+pub mod Tables
 pub mod Readings
 pub mod Evaluated
 pub mod Scratches

@@ -2,22 +2,17 @@ ghost use Rattle.std.specs.Prelude.{◌≡◌, ◌/◌, option_map};
 ghost use Rattle.ix_bits.specs.Operators.{pattern_of};
 ghost use Rattle.ix_mean.specs.Core.{u32 as word_type};
 ghost use Rattle.ix_mean.specs.View.{seen};
-ghost use Rattle.ix_mean.specs.Given.{raw_seen, write_seen};
+ghost use Rattle.ix_mean.specs.Given.{write_seen};
 ghost use Rattle.ix_eval.specs.Readings.{reading_seen};
-ghost use Rattle.ix_eval.specs.Evaluated.{access_of, pattern_written, store_of, read_of};
+ghost use Rattle.ix_eval.specs.Sizes.{sized};
+ghost use Rattle.ix_eval.specs.Evaluated.{access_of, bits_written, pattern_written, store_of, read_of};
 
+use crate::access::Access;
 use crate::reading::Reading;
 use ix_bits::{Bits, Ty, Value, cast};
 use ix_mean::Written;
 
-/// Bytes of memory from an address on: 1, 2 or 4.
-#[derive(Clone, Copy, Debug, PartialEq, Eq)]
-pub struct Access {
-    pub at: u32,
-    pub bytes: u8,
-}
-
-/// What a behaviour writes, and what it reads of memory.
+/// What an instruction or an always-block writes, and what it reads of memory.
 #[derive(Clone, Copy)]
 pub struct Effect {
     pub rd: Option<u32>,
@@ -38,14 +33,22 @@ fn word(value: Value) -> u32
     cast(value.ty, word, value.bits).raw as u32
 }
 
+/// So many bytes from an address on: 1, 2, or else 4.
+pub fn sized_access(bytes: u8, at: u32) -> Access
+    ensures { result ≡ sized bytes at }
+{
+    match bytes {
+        1 => Access { at, bytes: 1 },
+        2 => Access { at, bytes: 2 },
+        _ => Access { at, bytes: 4 },
+    }
+}
+
 // The bytes of a type from an address on.
 fn bytes_from(ty: Ty, at: Value) -> Access
     ensures { result ≡ access_of ty (seen at) }
 {
-    Access {
-        at: word(at),
-        bytes: ty.width / 8,
-    }
+    sized_access(ty.width / 8, word(at))
 }
 
 /// What is written to a target, as a word.
@@ -60,7 +63,7 @@ pub(crate) fn written_word(target: Option<Written>) -> Option<u32>
 
 /// What is written to a target, as a pattern of its type.
 pub(crate) fn written_bits(ty: Ty, target: Option<Written>) -> Option<Bits>
-    ensures { option_map raw_seen result ≡ option_map (pattern_written ty) (option_map write_seen target) }
+    ensures { result ≡ option_map (bits_written ty) (option_map write_seen target) }
 {
     match target {
         None => None,

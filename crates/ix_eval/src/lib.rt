@@ -1,13 +1,15 @@
 //! The effects of behaviours, computed.
 #![tactic(auto)]
 
+mod access;
 mod effect;
 mod prepared;
 mod reading;
 mod running;
 mod scratch;
 
-pub use effect::{Access, Effect};
+pub use access::Access;
+pub use effect::{Effect, sized_access};
 pub use ix_mean::State as Inputs;
 pub use running::eval;
 pub use scratch::Scratch;

@@ -1,0 +1,4 @@
+pub mod Decoding
+pub mod Memory
+pub mod BaseEffects
+pub mod WordEffects
