@@ -13,7 +13,7 @@ use Rattle.rv_asm_line.specs.declared.label.Target.{Target}
 use Rattle.rv_asm_line.specs.declared.label.Target.TheVariants.{Bad, Unknown, By}
 
 -- where names stand
-abbrev pub Places : Type 1
+abbrev pub Places : Type 0
 Places = List ℕ → Option Place
 
 -- a line with an instruction, whether it has a form or not, counts as a word
@@ -38,6 +38,14 @@ place_from number at name (line ∷ lines) =
 -- where a name stands first in a text
 abbrev pub place_of : List (List ℕ) → List ℕ → Option Place
 place_of lines name = place_from 0 0 name lines
+
+-- the first of two
+abbrev pub kept : Option Place → Option Place → Option Place
+kept None later = later
+kept (Some place) later = Some place
+
+abbrev pub marked : Bool → Place → Option Place
+marked b place = if b then Some place else None
 
 -- ---- targets
 -- the way from a word to another one in bytes

@@ -93,7 +93,7 @@ fn base_of(format: Format, row: u8, rd: u8, rs1: u8, rs2: u8, n: Number) -> Base
 
 /// The word of the instruction of a row with these registers and this number, or Reach.
 #[tactic(auto, unfolding(crate::specs::Forms::base_verdict))]
-pub(crate) fn base(row: u8, rd: u8, rs1: u8, rs2: u8, n: Number) -> Verdict
+pub(crate) fn row_word(row: u8, rd: u8, rs1: u8, rs2: u8, n: Number) -> Verdict
     requires row { row < 40 }
     requires rd { rd < 32 }
     requires rs1 { rs1 < 32 }
@@ -110,7 +110,7 @@ pub(crate) fn base(row: u8, rd: u8, rs1: u8, rs2: u8, n: Number) -> Verdict
 
 /// A word from -2^31 to 2^32 - 1, taken modulo 2^32, or Reach.
 #[tactic(auto, unfolding(crate::specs::Forms::word_verdict))]
-pub(crate) fn word(n: Number) -> Verdict
+pub(crate) fn plain_word(n: Number) -> Verdict
     ensures { result ≡ word_verdict n }
 {
     if n.is_negative {

@@ -1,5 +1,6 @@
-ghost use Rattle.std.specs.Prelude.{◌≡◌, ℕ, ◌<◌, ◌^◌, List, length, map, IfOk};
-ghost use Rattle.rv_asm_line.specs.Labels.{words_of, place_of, offset as specified_offset, target_of, is_doubled, found};
+ghost use Rattle.std.specs.Prelude.{◌≡◌, ℕ, ◌<◌, ◌≤◌, ◌^◌, List, length, map, IfOk, OnOk};
+ghost use Rattle.rv_asm_text.specs.Lines.{label_of};
+ghost use Rattle.rv_asm_line.specs.Labels.{words_of, kept, marked, is_labelled, place_of, offset as specified_offset, target_of, is_doubled, found};
 
 use ix_bits::Memory;
 use rv_asm_text::{Number, instruction, is_name, label, read_number};
@@ -26,9 +27,36 @@ pub enum Target {
 
 /// How many words a line counts as.
 pub fn word_count(line: &[u8]) -> u32
-    ensures { result ≡ words_of line.now }
+    ensures value { result ≡ words_of line.now }
+    ensures most { result ≤ 1 }
 {
     if instruction(line).is_empty() { 0 } else { 1 }
+}
+
+fn lookup(labels: &BTreeMap<&[u8], Place>, name: &[u8]) -> Option<Place>
+    ensures { result ≡ found labels.now name.now }
+{
+    labels.get(name).copied()
+}
+
+// Notes where the label of a line stands, where it stands on no line before.
+fn note<'a>(
+    labels: &mut BTreeMap<&'a [u8], Place>,
+    line: &'a [u8],
+    place: Place,
+) -> Result<(), Memory>
+    ensures { OnOk result ((name : List ℕ) → found labels.new name ≡ kept (found labels.old name) (marked (is_labelled name (label_of line.now)) place)) }
+{
+    let Some(name) = label(line) else {
+        return Ok(());
+    };
+    match lookup(labels, name) {
+        Some(_) => Ok(()),
+        None => {
+            labels.insert(name, place)?;
+            Ok(())
+        }
+    }
 }
 
 /// Where each label of these lines stands first.
@@ -39,17 +67,11 @@ pub fn labels<'a>(alloc: Global, lines: &[&'a [u8]]) -> Result<BTreeMap<&'a [u8]
     let mut labels = BTreeMap::new(alloc);
     let mut word = 0u32;
     for (i, line) in lines.iter().enumerate() {
-        if let Some(name) = label(line) {
-            if !labels.contains_key(name) {
-                labels.insert(
-                    name,
-                    Place {
-                        line: i as u32,
-                        word,
-                    },
-                )?;
-            }
-        }
+        let place = Place {
+            line: i as u32,
+            word,
+        };
+        note(&mut labels, line, place)?;
         word += word_count(line);
     }
     Ok(labels)
@@ -72,19 +94,13 @@ fn offset(at: u32, to: u32) -> Number
     }
 }
 
-fn place(labels: &BTreeMap<&[u8], Place>, name: &[u8]) -> Option<Place>
-    ensures { result ≡ found labels.now name.now }
-{
-    labels.get(name).copied()
-}
-
 /// What the target of a jump is, for the word at a place: a name is a label, and anything else an offset.
 #[tactic(auto, unfolding(crate::specs::Labels::target_of))]
-pub(crate) fn target(labels: &BTreeMap<&[u8], Place>, at: u32, text: &[u8]) -> Target
+pub(crate) fn target_at(labels: &BTreeMap<&[u8], Place>, at: u32, text: &[u8]) -> Target
     ensures { result ≡ target_of (found labels.now) at text.now }
 {
     if is_name(text) {
-        match place(labels, text) {
+        match lookup(labels, text) {
             None => Target::Unknown,
             Some(place) => Target::By(offset(at, place.word)),
         }
@@ -103,7 +119,7 @@ pub(crate) fn has_doubled_label(labels: &BTreeMap<&[u8], Place>, number: u32, li
 {
     match label(line) {
         None => false,
-        Some(name) => match place(labels, name) {
+        Some(name) => match lookup(labels, name) {
             None => false,
             Some(place) => place.line != number,
         },

@@ -5,9 +5,9 @@ ghost use Rattle.rv_asm_line.specs.Labels.{found, is_doubled, target_of};
 ghost use Rattle.rv_asm_line.specs.Verdicts.{nth, registers_verdict, number_verdict, access_verdict, load_verdict, store_verdict, branch_verdict, upper_verdict, jump_verdict, jump_register_verdict, bare_verdict, move_verdict, goto_verdict, plain_verdict, all_of_memory, form_verdict, instruction_verdict, with_label as specified_with_label, line_verdict};
 ghost use Rattle.rv_asm_line.specs.Forms.{zero_number};
 
-use crate::base::{base, word};
+use crate::base::{plain_word, row_word};
 use crate::form::{Form, form_of, row_of};
-use crate::label::{Place, Target, has_doubled_label, target};
+use crate::label::{Place, Target, has_doubled_label, target_at};
 use ix_bits::Memory;
 use ix_tree::Instruction;
 use rv_asm_field::{Verdict, named, own};
@@ -54,7 +54,7 @@ fn registers_form(row: u8, texts: &[&[u8]]) -> Verdict
     let Some(rs2) = register(operand(texts, 2)) else {
         return Verdict::Line;
     };
-    base(row, rd, rs1, rs2, ZERO)
+    row_word(row, rd, rs1, rs2, ZERO)
 }
 
 fn number_form(row: u8, texts: &[&[u8]]) -> Verdict
@@ -73,7 +73,7 @@ fn number_form(row: u8, texts: &[&[u8]]) -> Verdict
     let Some(n) = read_number(operand(texts, 2)) else {
         return Verdict::Line;
     };
-    base(row, rd, rs1, 0, n)
+    row_word(row, rd, rs1, 0, n)
 }
 
 fn load_form(row: u8, texts: &[&[u8]]) -> Verdict
@@ -95,7 +95,7 @@ fn load_form(row: u8, texts: &[&[u8]]) -> Verdict
     let Some(n) = read_number(outside) else {
         return Verdict::Line;
     };
-    base(row, rd, rs1, 0, n)
+    row_word(row, rd, rs1, 0, n)
 }
 
 fn store_form(row: u8, texts: &[&[u8]]) -> Verdict
@@ -117,7 +117,7 @@ fn store_form(row: u8, texts: &[&[u8]]) -> Verdict
     let Some(n) = read_number(outside) else {
         return Verdict::Line;
     };
-    base(row, 0, rs1, rs2, n)
+    row_word(row, 0, rs1, rs2, n)
 }
 
 fn branch_form(labels: &BTreeMap<&[u8], Place>, at: u32, row: u8, texts: &[&[u8]]) -> Verdict
@@ -133,10 +133,10 @@ fn branch_form(labels: &BTreeMap<&[u8], Place>, at: u32, row: u8, texts: &[&[u8]
     let Some(rs2) = register(operand(texts, 1)) else {
         return Verdict::Line;
     };
-    match target(labels, at, operand(texts, 2)) {
+    match target_at(labels, at, operand(texts, 2)) {
         Target::Bad => Verdict::Line,
         Target::Unknown => Verdict::Label,
-        Target::By(n) => base(row, 0, rs1, rs2, n),
+        Target::By(n) => row_word(row, 0, rs1, rs2, n),
     }
 }
 
@@ -153,7 +153,7 @@ fn upper_form(row: u8, texts: &[&[u8]]) -> Verdict
     let Some(n) = read_number(operand(texts, 1)) else {
         return Verdict::Line;
     };
-    base(row, rd, 0, 0, n)
+    row_word(row, rd, 0, 0, n)
 }
 
 fn jump_form(labels: &BTreeMap<&[u8], Place>, at: u32, row: u8, texts: &[&[u8]]) -> Verdict
@@ -166,10 +166,10 @@ fn jump_form(labels: &BTreeMap<&[u8], Place>, at: u32, row: u8, texts: &[&[u8]])
     let Some(rd) = register(operand(texts, 0)) else {
         return Verdict::Line;
     };
-    match target(labels, at, operand(texts, 1)) {
+    match target_at(labels, at, operand(texts, 1)) {
         Target::Bad => Verdict::Line,
         Target::Unknown => Verdict::Label,
-        Target::By(n) => base(row, rd, 0, 0, n),
+        Target::By(n) => row_word(row, rd, 0, 0, n),
     }
 }
 
@@ -192,7 +192,7 @@ fn bare_form(row: u8, rs1: u8, n: Number, texts: &[&[u8]]) -> Verdict
     if !has_count(texts, 0) {
         return Verdict::Line;
     }
-    base(row, 0, rs1, 0, n)
+    row_word(row, 0, rs1, 0, n)
 }
 
 fn move_form(row: u8, texts: &[&[u8]]) -> Verdict
@@ -208,7 +208,7 @@ fn move_form(row: u8, texts: &[&[u8]]) -> Verdict
     let Some(rs1) = register(operand(texts, 1)) else {
         return Verdict::Line;
     };
-    base(row, rd, rs1, 0, ZERO)
+    row_word(row, rd, rs1, 0, ZERO)
 }
 
 fn goto_form(labels: &BTreeMap<&[u8], Place>, at: u32, row: u8, texts: &[&[u8]]) -> Verdict
@@ -218,10 +218,10 @@ fn goto_form(labels: &BTreeMap<&[u8], Place>, at: u32, row: u8, texts: &[&[u8]])
     if !has_count(texts, 1) {
         return Verdict::Line;
     }
-    match target(labels, at, operand(texts, 0)) {
+    match target_at(labels, at, operand(texts, 0)) {
         Target::Bad => Verdict::Line,
         Target::Unknown => Verdict::Label,
-        Target::By(n) => base(row, 0, 0, 0, n),
+        Target::By(n) => row_word(row, 0, 0, 0, n),
     }
 }
 
@@ -234,7 +234,7 @@ fn plain_form(texts: &[&[u8]]) -> Verdict
     let Some(n) = read_number(operand(texts, 0)) else {
         return Verdict::Line;
     };
-    word(n)
+    plain_word(n)
 }
 
 /// A fence of all reads and writes.
