@@ -1,5 +1,5 @@
 -- The words of an assembly source, or the first line that fails (this project's choice).
-use Rattle.std.specs.Prelude.{◌≡◌, ℕ, ◌+◌, List, [], ◌∷◌, Option, Bool, if◌then◌else◌, nat_lt, Result, Ok, Err, ◌⊎◌}
+use Rattle.std.specs.Prelude.{◌≡◌, ℕ, ◌+◌, List, [], ◌∷◌, ◌++◌, Option, Bool, if◌then◌else◌, nat_lt, Result, Ok, Err, ◌⊎◌}
 use Rattle.rv_isa.specs.Images.{most_words}
 use Rattle.ix_extension.specs.Extensions.{ExtensionTree, InstructionTree}
 use Rattle.rv_asm_text.specs.Lines.{lines_of}
@@ -17,6 +17,11 @@ Assembly = Result (List ℕ) AsmErr
 abbrev pub with_word : ℕ → Assembly → Assembly
 with_word word (Ok words) = Ok (word ∷ words)
 with_word word (Err e) = Err e
+
+-- words in front of others
+abbrev pub prepended : List ℕ → Assembly → Assembly
+prepended front (Ok words) = Ok (front ++ words)
+prepended front (Err e) = Err e
 
 -- what a line adds to the rest; `number` is its number from 0, and `at` counts the words before it
 abbrev pub after : Verdict → ℕ → ℕ → (ℕ → Assembly) → Assembly

@@ -1,8 +1,7 @@
-ghost use Rattle.std.specs.Prelude.{◌≡◌, ℕ, ◌<◌, ◌≤◌, ◌^◌, List, length, map, Ok, IfOk, IfErr, IsOkUnless};
+ghost use Rattle.std.specs.Prelude.{◌≡◌, ℕ, ◌<◌, ◌≤◌, ◌^◌, List, length, map, Ok, IfOk, IfErr, OnOk, IsOkUnless};
 ghost use Rattle.ix_extension.specs.Extensions.{view_instruction, view_extension};
-ghost use Rattle.rv_isa.specs.Images.{most_words};
 ghost use Rattle.rv_asm_line.specs.Labels.{place_of, found};
-ghost use Rattle.rv_asm.specs.Sources.{assembled_from, Assembles, IsErrOf, IsRefusedAs};
+ghost use Rattle.rv_asm.specs.Sources.{Assembly, prepended, after, assembled_from, Assembles, IsErrOf, IsRefusedAs};
 
 use ix_tree::{Extension, Instruction};
 use rv_asm_field::Verdict;
@@ -27,6 +26,30 @@ pub enum AsmErr {
     Memory,
 }
 
+// Puts the word of the line of a number from 0 behind the words before it, or tells why the line fails.
+fn take_line(image: &mut Image, number: u32, verdict: Verdict) -> Result<(), AsmErr>
+    requires { number < 2 ^ 31 }
+    ensures taken { OnOk result ((rest : ℕ → Assembly) → prepended image.old (after verdict number (length image.old) rest) ≡ prepended image.new (rest (length image.new))) }
+    ensures refused { IfErr result (λ e. (rest : ℕ → Assembly) → IsErrOf (after verdict number (length image.old) rest) e) }
+{
+    let at = number + 1;
+    match verdict {
+        Verdict::Empty => Ok(()),
+        Verdict::Word(word) => {
+            if image.len() as usize == Image::MOST {
+                return Err(AsmErr::Size { at });
+            }
+            match image.push(word) {
+                Ok(()) => Ok(()),
+                Err(_) => Err(AsmErr::Memory),
+            }
+        }
+        Verdict::Line => Err(AsmErr::Line { at }),
+        Verdict::Label => Err(AsmErr::Label { at }),
+        Verdict::Reach => Err(AsmErr::Reach { at }),
+    }
+}
+
 // The words of lines whose labels are known.
 fn assemble_lines(
     alloc: Global,
@@ -40,21 +63,14 @@ fn assemble_lines(
 {
     let mut image = Image::new(alloc);
     for (i, line) in lines.iter().enumerate() {
-        let at = (i + 1) as u32;
-        match line_verdict_of(alloc, instructions, labels, i as u32, image.len(), line) {
-            Err(_) => return Err(AsmErr::Memory),
-            Ok(Verdict::Empty) => {}
-            Ok(Verdict::Word(word)) => {
-                if image.len() as usize == Image::MOST {
-                    return Err(AsmErr::Size { at });
-                }
-                if image.push(word).is_err() {
-                    return Err(AsmErr::Memory);
-                }
-            }
-            Ok(Verdict::Line) => return Err(AsmErr::Line { at }),
-            Ok(Verdict::Label) => return Err(AsmErr::Label { at }),
-            Ok(Verdict::Reach) => return Err(AsmErr::Reach { at }),
+        let number = i as u32;
+        let Ok(verdict) = line_verdict_of(alloc, instructions, labels, number, image.len(), line)
+        else {
+            return Err(AsmErr::Memory);
+        };
+        match take_line(&mut image, number, verdict) {
+            Ok(()) => {}
+            Err(error) => return Err(error),
         }
     }
     Ok(image)
@@ -76,10 +92,13 @@ pub fn assemble(alloc: Global, extension: &Extension, bytes: &[u8]) -> Result<Im
     let Ok(labels) = labels(alloc, lines.as_slice()) else {
         return Err(AsmErr::Memory);
     };
-    assemble_lines(
+    match assemble_lines(
         alloc,
         extension.instructions.as_slice(),
         &labels,
         lines.as_slice(),
-    )
+    ) {
+        Ok(image) => Ok(image),
+        Err(error) => Err(error),
+    }
 }
