@@ -1,3 +1,5 @@
+pub mod Assembling
+pub mod Placing
 pub mod ImageLemmas
 pub mod Printed
 pub mod Results

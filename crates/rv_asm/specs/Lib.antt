@@ -1,1 +1,2 @@
 pub mod ImageText
+pub mod Sources
