@@ -17,5 +17,5 @@ fits_tight g sheet native h InPipeline w = absurd w
 fits_tight g sheet native h Tight w = h
 
 pub none_tight : (g : Graph) (sheet : Sheet) → (IsSpawning g → ⊥) → (e : ModeErr) → HasNoneIn g sheet Tight e → IsRefusal g sheet false e
-none_tight g sheet native (NoSchedule p cycle) h = record { widest = Tight; widest_is = (refl, native); problem_is = h.problem_is; none = h.none; cycle_is = h.cycle_is }
+none_tight g sheet native (NoSchedule p cycle) h = record { widest = Tight; widest_is = (refl, native); problem_is = h.problem_is; edges_are = h.edges_are; none = h.none; cycle_is = h.cycle_is }
 none_tight g sheet native Memory h = tt

@@ -5,9 +5,10 @@ use Rattle.ix_graph.specs.declared.graph.Mode.{Mode}
 use Rattle.ix_sheet.specs.declared.sheet.Sheet.{Sheet}
 use Rattle.ix_sheet.specs.declared.problem.Problem.{Problem}
 use Rattle.ix_sheet.specs.declared.problem.Bound.{Bound}
-use Rattle.ix_sheet.specs.Behaviours.{problem_of, IsModeOf, IsWidestModeOf}
+use Rattle.ix_sheet.specs.Behaviours.{problem_of, AreEdges, IsModeOf, IsWidestModeOf}
 use Rattle.ix_sheet.specs.Schedules.{HasSchedule, IsSchedule, IsChosen, cost}
 use Rattle.ix_sheet.specs.Bounds.{IsDualFlow, HasValue, IsContradiction}
+use Rattle.ix_solve.specs.Answers.{AreWords}
 use Rattle.ix_modes.specs.declared.scheduled.Scheduled.{Scheduled}
 use Rattle.ix_modes.specs.declared.scheduled.ModeErr.{ModeErr}
 use Rattle.ix_modes.specs.declared.scheduled.ModeErr.TheVariants.{NoSchedule, Memory}
@@ -16,11 +17,13 @@ use Rattle.ix_modes.specs.declared.scheduled.ModeErr.TheVariants.{NoSchedule, Me
 pub record IsScheduled (g : Graph) (sheet : Sheet) (block : Bool) (s : Scheduled) : Type 0 where
   pub mode_is : IsModeOf g sheet block s.mode
   pub problem_is : s.problem ≡ problem_of g sheet s.mode
+  pub edges_are : AreEdges g.ops s.problem.edges
   pub schedule : IsSchedule s.problem s.times
   pub chosen : IsChosen s.problem (slice_index s.times)
   pub cost_is : s.cost ≡ cost s.problem (slice_index s.times)
   pub flow_is : IsDualFlow s.problem s.flow
   pub value : HasValue s.problem s.flow s.cost
+  pub amounts : AreWords s.flow
 
 -- in its widest windows the behaviour has a legal schedule
 abbrev pub FitsWidest : Graph → Sheet → Bool → Type 0
@@ -31,6 +34,7 @@ pub record IsUnschedulable (g : Graph) (sheet : Sheet) (block : Bool) (p : Probl
   pub widest : Mode
   pub widest_is : IsWidestModeOf g block widest
   pub problem_is : p ≡ problem_of g sheet widest
+  pub edges_are : AreEdges g.ops p.edges
   pub none : HasSchedule p → ⊥
   pub cycle_is : IsContradiction p cycle
 
@@ -42,15 +46,18 @@ IsRefusal g sheet block Memory = Unit {0}
 pub record IsScheduledIn (g : Graph) (sheet : Sheet) (mode : Mode) (s : Scheduled) : Type 0 where
   pub mode_is : s.mode ≡ mode
   pub problem_is : s.problem ≡ problem_of g sheet mode
+  pub edges_are : AreEdges g.ops s.problem.edges
   pub schedule : IsSchedule s.problem s.times
   pub chosen : IsChosen s.problem (slice_index s.times)
   pub cost_is : s.cost ≡ cost s.problem (slice_index s.times)
   pub flow_is : IsDualFlow s.problem s.flow
   pub value : HasValue s.problem s.flow s.cost
+  pub amounts : AreWords s.flow
 
 -- there is none in a mode, which the cycle shows
 pub record IsWithout (g : Graph) (sheet : Sheet) (mode : Mode) (p : Problem) (cycle : List Bound) : Type 0 where
   pub problem_is : p ≡ problem_of g sheet mode
+  pub edges_are : AreEdges g.ops p.edges
   pub none : HasSchedule p → ⊥
   pub cycle_is : IsContradiction p cycle
 

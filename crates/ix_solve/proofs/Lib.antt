@@ -6,3 +6,4 @@ mod Found
 mod Balanced
 mod States
 mod Meeting
+mod Amounts

@@ -1,5 +1,5 @@
 -- The answers of the solver (Longnail, the scheduling problem; the certificates are this project's choice).
-use Rattle.std.specs.Prelude.{ℕ, ◌≡◌, ◌+◌, ◌≤◌, ◌<◌, ◌==◌, if◌then◌else◌, List, [], ◌∷◌, length, map, slice_index}
+use Rattle.std.specs.Prelude.{ℕ, ◌≡◌, ◌+◌, ◌^◌, ◌≤◌, ◌<◌, ◌==◌, if◌then◌else◌, List, [], ◌∷◌, length, map, slice_index, All}
 use Rattle.ix_sheet.specs.declared.problem.Bound.{Bound}
 use Rattle.ix_sheet.specs.declared.problem.Arc.{Arc}
 use Rattle.ix_sheet.specs.declared.problem.Bound.TheVariants.{Early, Late, Dep, Chain}
@@ -16,6 +16,10 @@ use Rattle.ix_solve.specs.State.{AreLeastOver}
 abbrev pub IsRefusal : Problem → SolveErr → Type 0
 IsRefusal p (Cycle cycle) = IsContradiction p cycle × (HasSchedule p → ⊥)
 IsRefusal p Memory = Unit {0}
+
+-- the amounts are numbers of 64 bits
+abbrev pub AreWords : Flow → Type 0
+AreWords flow = All (λ c. c.1 < 2 ^ 64) flow
 
 -- the bounds that carry an amount, with their amounts
 abbrev pub used : List Bound → List ℕ → Flow

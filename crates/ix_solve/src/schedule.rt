@@ -4,7 +4,7 @@ ghost use Rattle.ix_sheet.specs.Bounds.{IsDualFlow, HasValue, IsContradiction};
 ghost use Rattle.ix_problem.specs.Constraints.{AreConstraints, MeetWhereLegal};
 ghost use Rattle.ix_residual.specs.Residuals.{AreAugmentations, bound_at, replayed};
 ghost use Rattle.ix_residual.specs.Balances.{AreLongest, fresh, sum_of_needs};
-ghost use Rattle.ix_solve.specs.Answers.{IsRefusal, AreOptimal, IsSolved, used};
+ghost use Rattle.ix_solve.specs.Answers.{IsRefusal, AreOptimal, IsSolved, used, AreWords};
 
 use crate::cost::cost_of;
 use crate::meet::{Met, meet};
@@ -95,7 +95,8 @@ fn cycle_of(alloc: Global, bounds: &[Bound], places: &[usize]) -> Result<List<Bo
 // the bounds that carry an amount
 fn flow_of(alloc: Global, bounds: &[Bound], amounts: &[u64]) -> Result<List<(Bound, u64)>, Memory>
     requires { length amounts.now ≡ length bounds.now }
-    ensures { IfOk result (λ flow. flow ≡ used bounds.now amounts.now) }
+    ensures flow { IfOk result (λ flow. flow ≡ used bounds.now amounts.now) }
+    ensures small { IfOk result AreWords }
 {
     let mut flow = List::new(alloc);
     'places: for place in 0..bounds.len() {
@@ -121,6 +122,7 @@ fn answer(
     requires optimal { AreOptimal p.now bounds.now times.items amounts.now }
     ensures solved { IfOk result (IsSolved p.now) }
     ensures flow { IfOk result (λ solved. solved.flow ≡ used bounds.now amounts.now) }
+    ensures small { IfOk result (λ solved. AreWords solved.flow) }
 {
     times.truncate(p.ops.len());
     let cost = cost_of(p, times.as_slice());
@@ -140,6 +142,7 @@ pub fn solve_traced(alloc: Global, p: &Problem) -> Result<Traced, SolveErr>
     ensures times { IfOk result (λ traced. IsSchedule p.now traced.solved.times × IsChosen p.now (slice_index traced.solved.times)) }
     ensures cost { IfOk result (λ traced. traced.solved.cost ≡ cost p.now (slice_index traced.solved.times)) }
     ensures flow { IfOk result (λ traced. IsDualFlow p.now traced.solved.flow × HasValue p.now traced.solved.flow traced.solved.cost) }
+    ensures small { IfOk result (λ traced. AreWords traced.solved.flow) }
     ensures refused { IfErr result (IsRefusal p.now) }
     ensures exactly { IfOk result (λ _. HasSchedule p.now) }
     ensures bounds { IfOk result (λ traced. AreConstraints p.now traced.bounds × MeetWhereLegal p.now traced.bounds) }
@@ -175,6 +178,7 @@ pub fn solve(alloc: Global, p: &Problem) -> Result<Solved, SolveErr>
     ensures times { IfOk result (λ solved. IsSchedule p.now solved.times × IsChosen p.now (slice_index solved.times)) }
     ensures cost { IfOk result (λ solved. solved.cost ≡ cost p.now (slice_index solved.times)) }
     ensures flow { IfOk result (λ solved. IsDualFlow p.now solved.flow × HasValue p.now solved.flow solved.cost) }
+    ensures small { IfOk result (λ solved. AreWords solved.flow) }
     ensures refused { IfErr result (IsRefusal p.now) }
     ensures exactly { IfOk result (λ _. HasSchedule p.now) }
 {

@@ -22,6 +22,6 @@ returns-clause-solved c =
       schedule = rw times all.0;
       chosen = rw times all.1.chosen;
       cost = rw times value;
-      flow = rw c.in_ok-flow.ensures flow;
-      value = rw (c.in_ok-flow.ensures, value) all.1.value;
+      flow = rw c.in_ok-flow.ensures.flow flow;
+      value = rw (c.in_ok-flow.ensures.flow, value) all.1.value;
     }

@@ -3,6 +3,7 @@ use Rattle.std.proofs.lemmas.List.{get_or_default}
 use Rattle.ix_sheet.specs.declared.problem.Bound.TheVariants.{Early}
 use Rattle.ix_residual.specs.Residuals.{bound_at}
 use Rattle.ix_solve.proofs.Links.{used_more_none, used_more_some}
+use Rattle.ix_solve.proofs.Amounts.{words_taken}
 use Rattle.ix_solve.proofs.schedule.flow_of.Goals as goal
 use Rattle.ix_solve.proofs.schedule.flow_of.Goals.{then-amount-gt0+in_ok-bound+in_ok-push, else-amount-gt0}
 
@@ -21,3 +22,6 @@ places-preserved c =
           rw w.flow-is
           (used_more_none bounds amounts l.place l.flow c.requires c.places-test.true (omega (arith, w.if-amount-gt0.false)) l.invariant)
     ]
+
+pub returns-clause-small : goal.returns-clause-small
+returns-clause-small c = rw c.places.invariant (words_taken c.places.place c.args.bounds.now c.args.amounts.now (λ k. (let fits = c.type_inv.amounts k in omega (arith, fits))))
