@@ -90,7 +90,11 @@ fn put_graph(out: &mut String, graph: &Graph) -> Result<(), AllocError> {
 }
 
 /// Puts what becomes of a behaviour.
-fn put_behaviour(out: &mut String, name: &str, graph: Result<Graph, FlowErr>) -> Result<(), AllocError> {
+fn put_behaviour(
+    out: &mut String,
+    name: &str,
+    graph: Result<Graph, FlowErr>,
+) -> Result<(), AllocError> {
     out.push_str("graph ")?;
     out.push_str(name)?;
     match graph {
@@ -110,7 +114,11 @@ fn put_extension(out: &mut String, alloc: Global, ext: &Extension) -> Result<(),
     for number in 0..ext.instructions.len() {
         if number < 64 {
             let name = ext.instructions.as_slice()[number].behaviour.name.as_str();
-            put_behaviour(out, name, graph_of(alloc, ext, Which::Instruction(number as u8)))?;
+            put_behaviour(
+                out,
+                name,
+                graph_of(alloc, ext, Which::Instruction(number as u8)),
+            )?;
         }
     }
     for number in 0..ext.blocks.len() {
