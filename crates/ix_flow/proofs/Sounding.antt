@@ -22,7 +22,7 @@ use Rattle.ix_flow.specs.Orders.{terms_at}
 use Rattle.ix_flow.specs.Operands.{IsSound, IsOpReady}
 
 -- ---- loads are typed
-abbrev AreLoads : List Ty → List Load → Type 0
+abbrev pub AreLoads : List Ty → List Load → Type 0
 AreLoads ts [] = Unit {0}
 AreLoads ts (l ∷ ls) = IsTerm ts (load_root l) × AreLoads ts ls
 
@@ -51,7 +51,7 @@ branch_typed ts (t_entry _ _ _ _) xs ys h g = both_loads ts xs ys h g
 branch_typed ts (t_two _ _ _ _) xs ys h g = both_loads ts xs ys h g
 branch_typed ts (t_three _ _ _ _ _) xs ys h g = both_loads ts xs ys h g
 
-loads_typed : (f : Frame) (p : Term) → IsOf f.targets u1 p → (x : Statement) → IsTypedStatement f x → (s : Terms) → IsState f s → AreLoads f.targets (loads p x s)
+pub loads_typed : (f : Frame) (p : Term) → IsOf f.targets u1 p → (x : Statement) → IsTypedStatement f x → (s : Terms) → IsState f s → AreLoads f.targets (loads p x s)
 loads_typed f p q st_skip h s g = tt
 loads_typed f p q (st_then x y) h s g = both_loads f.targets (loads p x s) (loads p y (run_terms p x s)) (loads_typed f p q x h.0 s g) (loads_typed f p q y h.1 (run_terms p x s) (run_of f p q x h.0 s g))
 loads_typed f p q (st_set n ty e) h s g = expression_typed f s.slots p g.slots q e h.0

@@ -7,6 +7,7 @@ use Rattle.std.proofs.lemmas.List.{length-map}
 use Rattle.std.proofs.lemmas.List.Elements.{All-nil, All-cons, recursion_from_All}
 use Rattle.ix_bits.specs.declared.number.Ty.{Ty}
 use Rattle.ix_bits.specs.Operators.{value_of}
+use Rattle.ix_graph.specs.declared.kind.Kind.{Kind}
 use Rattle.ix_graph.specs.declared.kind.Kind.TheVariants as k
 use Rattle.ix_graph.specs.declared.graph.Op.{Op}
 use Rattle.ix_graph.specs.declared.graph.Graph.{Graph}
@@ -30,11 +31,14 @@ use Rattle.ix_behaviour.specs.Laws.{TypedBehaviourLaw, BehaviourEffectLaw, OneAc
 use Rattle.ix_behaviour.specs.Accesses.{AccessesAreTyped, AccessesLaw, StoredTypeLaw}
 use Rattle.ix_behaviour.specs.Tables.{HaveWidthOf, TablesAreRead, TablesLaw, WidthsLaw}
 use Rattle.ix_graph_laws.specs.Operations.{entries_in, operations_at, IsGraphOf}
-use Rattle.ix_graph_laws.specs.GraphEffects.{AreReads}
-use Rattle.ix_graph_laws.specs.Laws.{DoesTheSame}
+use Rattle.ix_graph_laws.specs.GraphEffects.{AreReads, read_raw}
+use Rattle.ix_graph_laws.specs.Laws.{DoesTheSame, HasValues}
 use Rattle.ix_graph_laws.proofs.Addresses.{without, all_plain, start_plain, plain_target}
 use Rattle.ix_graph_laws.proofs.Valid.{AreTargets, op_at, Is, what, write_is, graph_valid}
 use Rattle.ix_graph_laws.proofs.Running.{gives}
+use Rattle.ix_graph_laws.proofs.Under.{AreFit, has_meaning, has_reads, term_below, write_never}
+use Rattle.ix_graph.specs.Roles.{role_of}
+use Rattle.ix_terms.specs.Places.{IsOperation}
 use Rattle.ix_graph_laws.proofs.Doing.{writes_are, reads_are}
 
 wide_all : (ts : List Table) → AllByRecursion (λ table. HaveWidthOf table.ty table.entries) ts → All HasOneWidth (map entries_in ts)
@@ -104,3 +108,24 @@ module _ (x : ExtensionTree) (w : Which) (g : Graph) (l : IsLawful x w) (h : IsG
             ∙ ap (λ (z : List (Option Write)). without n (get_or z n None)) targets ∙ plain_target (effect_by_name x w i) n plain;
         reads = reads_are f s x.tables l.typed l.accesses l.tables l.targets g h.ops h.tables_are (valid_graph x w g l h) i inputs terms means reads (access t x w of has).stands ∙ kept.reads_are;
       }
+
+-- ---- under all inputs there are values
+module _ (x : ExtensionTree) (w : Which) (g : Graph) (l : IsLawful x w) (h : IsGraphOf x w g) (i : Inputs) (inputs : AreInputs (targets_at x w) i) where
+  are_fit : AreFit g i
+  are_fit n o e r xs =
+      let d = op_at (operations_at x w) (operations_at x w) g.ops n o h.ops e in
+      by d.term d.is.kind_is d.is.ty_is d.is.operation (what (frame_at x w) (statement_at x w) x.tables l.typed l.accesses l.tables l.targets g h.ops h.tables_are n d.term d.there)
+    where
+      by : (u : Term) → o.kind ≡ kind_of_term u → o.ty ≡ type_of u → IsOperation u → Is (frame_at x w) (statement_at x w) x.tables l.typed l.accesses l.tables l.targets g h.ops h.tables_are u
+          → read_raw i o.kind o.ty xs < 2 ^ o.ty.width
+      by u d y p (inl q) =
+          let there = term_below (targets_at x w) i inputs u xs q.typed p (ap role_of (sym d) ∙ r) in
+          let K : Kind → Type 0 = λ z. read_raw i z (type_of u) xs < 2 ^ (type_of u).width in
+          let T : Ty → Type 0 = λ z. read_raw i o.kind z xs < 2 ^ z.width in
+          subst T (sym y) (subst K (sym d) there)
+      by u d y p (inr q) =
+          let s = write_is (frame_at x w) (statement_at x w) x.tables l.typed l.accesses l.tables l.targets g h.ops h.tables_are u q in
+          absurd (write_never q.place q.entry (ap (λ (z : Term). role_of (kind_of_term z)) (sym s) ∙ ap role_of (sym d) ∙ r))
+
+  pub has_values : HasValues g i
+  has_values = record { meaning = has_meaning g i (valid_graph x w g l h) are_fit; reads = has_reads g i (valid_graph x w g l h) }

@@ -8,62 +8,17 @@ use Rattle.ix_bits.specs.Operators.{value_of, is_true}
 use Rattle.ix_graph.specs.declared.kind.Kind.TheVariants as k
 use Rattle.ix_tree.specs.declared.extension.Table.{Table}
 use Rattle.ix_mean.specs.Core.{u1, Expression, x_const, x_slot, x_read, x_load, x_one, x_cast, x_entry, x_two, x_choose, Statement, st_skip, st_then, st_set, st_write, st_if}
-use Rattle.ix_mean.specs.Terms.{Term, t_const, t_read, t_one, t_entry, t_two, t_three, same_term, zero_term, one_term, make_one, term, Entry, Terms, when, unless, test_term, run_terms, Load, expression_loads, branch_loads, loads}
+use Rattle.ix_mean.specs.Terms.{Term, t_const, t_read, t_one, t_entry, t_two, t_three, same_term, zero_term, one_term, Entry, Terms, when, unless, test_term, run_terms, Load, expression_loads, branch_loads, loads}
 use Rattle.ix_mean.specs.Order.{postorder, Among, operations, load_root, write_root, write_roots, roots}
-use Rattle.ix_mean.specs.Typing.{Frame, IsTypedExpression, IsTypedStatement, IsTerm, IsOf, IsEntry, AreOf, AreEntries, IsState}
+use Rattle.ix_mean.specs.Typing.{Frame, IsTypedStatement, IsTerm, IsEntry, AreEntries}
 use Rattle.ix_mean.specs.Effects.{start, effect_terms}
-use Rattle.ix_mean.proofs.Making.{condition_of, lnot_of, one_of}
-use Rattle.ix_mean.proofs.Expressions.{term_of}
-use Rattle.ix_mean.proofs.Merging.{path_of}
-use Rattle.ix_mean.proofs.Running.{run_of}
+use Rattle.ix_mean.proofs.Making.{one_of}
 use Rattle.ix_mean.proofs.Effecting.{start_of, effect_typed}
 use Rattle.ix_mean.proofs.Ordering.{among_left, among_either, operations_law}
 use Rattle.ix_behaviour.specs.Accesses.{IsAccessType, LoadsAreTyped, AccessesAreTyped}
 use Rattle.ix_behaviour.specs.Tables.{TablesAreRead}
+use Rattle.ix_flow.proofs.Sounding.{AreLoads, loads_typed}
 use Rattle.ix_graph_laws.proofs.Made.{Made, AllLoads, EntryMade, EntriesMade, LoadsMade, run_made, loads_made, start_made}
-
--- ---- loads are typed
-abbrev AreLoads : List Ty → List Load → Type 0
-AreLoads ts [] = Unit {0}
-AreLoads ts (l ∷ ls) = IsTerm ts (load_root l) × AreLoads ts ls
-
-both_loads : (ts : List Ty) (xs ys : List Load) → AreLoads ts xs → AreLoads ts ys → AreLoads ts (xs ++ ys)
-both_loads ts [] ys h g = g
-both_loads ts (x ∷ xs) ys h g = (h.0, both_loads ts xs ys h.1 g)
-
-expression_typed : (f : Frame) (xs : List Term) (p : Term) → AreOf f.targets f.slots xs → IsOf f.targets u1 p → (e : Expression) → IsTypedExpression f e → AreLoads f.targets (expression_loads xs p e)
-expression_typed f xs p s q (x_const ty raw) h = tt
-expression_typed f xs p s q (x_slot n ty) h = tt
-expression_typed f xs p s q (x_read kind ty) h = tt
-expression_typed f xs p s q (x_load ty a) h = both_loads f.targets (expression_loads xs p a) _ (expression_typed f xs p s q a h.0) ((term_of f xs p s q (x_load ty a) h).typed, tt)
-expression_typed f xs p s q (x_one kind ty a) h = expression_typed f xs p s q a h.0
-expression_typed f xs p s q (x_cast ty a) h = expression_typed f xs p s q a h
-expression_typed f xs p s q (x_entry n es ty a) h = expression_typed f xs p s q a h.0
-expression_typed f xs p s q (x_two op ty a b) h = both_loads f.targets (expression_loads xs p a) (expression_loads xs p b) (expression_typed f xs p s q a h.0) (expression_typed f xs p s q b h.1)
-expression_typed f xs p s q (x_choose ty c a b) h =
-    both_loads f.targets (expression_loads xs p c ++ expression_loads xs p a) (expression_loads xs p b)
-    (both_loads f.targets (expression_loads xs p c) (expression_loads xs p a) (expression_typed f xs p s q c h.0) (expression_typed f xs p s q a h.1)) (expression_typed f xs p s q b h.2)
-
-branch_typed : (ts : List Ty) (c : Term) (xs ys : List Load) → AreLoads ts xs → AreLoads ts ys → AreLoads ts (branch_loads c xs ys)
-branch_typed ts (t_const a raw) xs ys h g = cond_both (is_true (value_of a raw)) xs ys (AreLoads ts) (λ e. h) (λ e. g)
-branch_typed ts (t_read _ _) xs ys h g = both_loads ts xs ys h g
-branch_typed ts (t_one _ _ _) xs ys h g = both_loads ts xs ys h g
-branch_typed ts (t_entry _ _ _ _) xs ys h g = both_loads ts xs ys h g
-branch_typed ts (t_two _ _ _ _) xs ys h g = both_loads ts xs ys h g
-branch_typed ts (t_three _ _ _ _ _) xs ys h g = both_loads ts xs ys h g
-
-loads_typed : (f : Frame) (p : Term) → IsOf f.targets u1 p → (x : Statement) → IsTypedStatement f x → (s : Terms) → IsState f s → AreLoads f.targets (loads p x s)
-loads_typed f p q st_skip h s g = tt
-loads_typed f p q (st_then x y) h s g = both_loads f.targets (loads p x s) (loads p y (run_terms p x s)) (loads_typed f p q x h.0 s g) (loads_typed f p q y h.1 (run_terms p x s) (run_of f p q x h.0 s g))
-loads_typed f p q (st_set n ty e) h s g = expression_typed f s.slots p g.slots q e h.0
-loads_typed f p q (st_write n ty e a) h s g =
-    both_loads f.targets (expression_loads s.slots p a) (expression_loads s.slots p e) (expression_typed f s.slots p g.slots q a h.1) (expression_typed f s.slots p g.slots q e h.0)
-loads_typed f p q (st_if c x y) h s g =
-    let t = test_term s.slots p c in
-    let d = condition_of f.targets (term s.slots p c) (term_of f s.slots p g.slots q c h.0).typed in
-    both_loads f.targets (expression_loads s.slots p c) _ (expression_typed f s.slots p g.slots q c h.0)
-    (branch_typed f.targets t _ _ (loads_typed f (when p t) (path_of f.targets p t t q d) x h.1 s g)
-    (loads_typed f (unless p t) (path_of f.targets p t (make_one k.Lnot u1 t) q (lnot_of f.targets t d)) y h.2 s g))
 
 -- ---- each load has the type of an access
 abbrev HasAccess : Load → Type 0

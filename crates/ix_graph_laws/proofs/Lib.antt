@@ -6,4 +6,5 @@ mod Values
 mod Running
 mod Addresses
 mod Doing
+mod Under
 mod Graphs

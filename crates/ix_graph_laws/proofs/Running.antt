@@ -33,6 +33,35 @@ use Rattle.ix_graph_laws.specs.GraphEffects.{typed_number, arg_number, numbers_o
 use Rattle.ix_graph_laws.proofs.Values.{AreRaws, one_value, two_value, three_value, entry_value, memory_value}
 use Rattle.ix_graph_laws.proofs.Valid.{term_op, types_are, all, AreTargets, Inner, what, arg_inner, table_there}
 
+-- ---- roles of kinds
+pub one_role : (kind : Kind) (a ty : Ty) → IsOne kind a ty → role_of kind ≡ Compute
+one_role k.Neg a ty h = refl
+one_role k.Not a ty h = refl
+one_role k.Lnot a ty h = refl
+one_role k.Cast a ty h = refl
+one_role (k.Range hi lo) a ty h = refl
+one_role _ a ty h = absurd h
+
+pub operator_role : (kind : Kind) (a c ty : Ty) → IsOperator (binary_of kind) a c ty → role_of kind ≡ Compute
+operator_role k.Add a c ty h = refl
+operator_role k.Sub a c ty h = refl
+operator_role k.Mul a c ty h = refl
+operator_role k.And a c ty h = refl
+operator_role k.Or a c ty h = refl
+operator_role k.Xor a c ty h = refl
+operator_role k.Shl a c ty h = refl
+operator_role k.Shr a c ty h = refl
+operator_role k.Eq a c ty h = refl
+operator_role k.Ne a c ty h = refl
+operator_role k.Lt a c ty h = refl
+operator_role k.Le a c ty h = refl
+operator_role k.Gt a c ty h = refl
+operator_role k.Ge a c ty h = refl
+operator_role k.Land a c ty h = refl
+operator_role k.Lor a c ty h = refl
+operator_role k.Concat a c ty h = refl
+operator_role _ a c ty h = absurd h
+
 module _ (f : Frame) (x : Statement) (ts : List Table) (typed : IsTypedStatement f x) (accesses : AccessesAreTyped x) (tables : TablesAreRead ts x) (targets : AreTargets f x ts typed accesses tables)
     (g : Graph) (ops : AreOpsOf (all f x ts typed accesses tables) (all f x ts typed accesses tables) g.ops) (tables_are : g.tables ≡ map entries_in ts) (valid : IsValidGraph g) (i : Inputs) (inputs : AreInputs f.targets i)
     (terms : ℕ → ℕ) (means : IsMeaning g terms) (reads : AreReads g i terms) where
@@ -92,34 +121,6 @@ module _ (f : Frame) (x : Statement) (ts : List Table) (typed : IsTypedStatement
   reads_as : (n : ℕ) (o : Op) (kind : Kind) (numbers : List ℤ) → slice_get g.ops n ≡ Some o → o.kind ≡ kind → role_of kind ≡ Read → numbers_of g terms o ≡ numbers → terms n ≡ read_raw i kind o.ty numbers
   reads_as n o kind numbers e h r t =
       reads n o e (ap role_of h ∙ r) ∙ ap (λ (z : Kind). read_raw i z o.ty (numbers_of g terms o)) h ∙ ap (read_raw i kind o.ty) t
-
-  one_role : (kind : Kind) (a ty : Ty) → IsOne kind a ty → role_of kind ≡ Compute
-  one_role k.Neg a ty h = refl
-  one_role k.Not a ty h = refl
-  one_role k.Lnot a ty h = refl
-  one_role k.Cast a ty h = refl
-  one_role (k.Range hi lo) a ty h = refl
-  one_role _ a ty h = absurd h
-
-  operator_role : (kind : Kind) (a c ty : Ty) → IsOperator (binary_of kind) a c ty → role_of kind ≡ Compute
-  operator_role k.Add a c ty h = refl
-  operator_role k.Sub a c ty h = refl
-  operator_role k.Mul a c ty h = refl
-  operator_role k.And a c ty h = refl
-  operator_role k.Or a c ty h = refl
-  operator_role k.Xor a c ty h = refl
-  operator_role k.Shl a c ty h = refl
-  operator_role k.Shr a c ty h = refl
-  operator_role k.Eq a c ty h = refl
-  operator_role k.Ne a c ty h = refl
-  operator_role k.Lt a c ty h = refl
-  operator_role k.Le a c ty h = refl
-  operator_role k.Gt a c ty h = refl
-  operator_role k.Ge a c ty h = refl
-  operator_role k.Land a c ty h = refl
-  operator_role k.Lor a c ty h = refl
-  operator_role k.Concat a c ty h = refl
-  operator_role _ a c ty h = absurd h
 
   -- the operation of a term, with the type of the term
   at_type : (t : Term) (n : ℕ) (raw : ℕ) → terms n ≡ raw → value_of (type_of t) raw ≡ value i t → Gives n t

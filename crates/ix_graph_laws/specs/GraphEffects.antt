@@ -1,6 +1,6 @@
 -- What the operation graph of a behaviour gives, reads and writes (the operations on the core are SCAIE-V's; that one with the condition 0 does nothing, and that
 -- memory then gives 0, is this project's choice).
-use Rattle.std.specs.Prelude.{◌≡◌, ℕ, ◌/◌, ◌%◌, ◌^◌, ℤ, pos, unsigned_abs, List, [], ◌∷◌, ◌++◌, map, Option, Some, None, slice_get, Bool, false, if◌then◌else◌, nat_eq}
+use Rattle.std.specs.Prelude.{◌≡◌, ℕ, zero, suc, ◌/◌, ◌%◌, ◌^◌, ℤ, pos, unsigned_abs, List, [], ◌∷◌, ◌++◌, map, Option, Some, None, slice_get, slice_index, Bool, false, if◌then◌else◌, nat_eq}
 use Rattle.ix_bits.specs.declared.number.Ty.{Ty}
 use Rattle.ix_bits.specs.Operators.{value_of, is_true}
 use Rattle.ix_graph.specs.declared.kind.Kind.{Kind}
@@ -8,12 +8,13 @@ use Rattle.ix_graph.specs.declared.kind.Kind.TheVariants.{RdMem, WrMem}
 use Rattle.ix_graph.specs.declared.args.Arg.{Arg}
 use Rattle.ix_graph.specs.declared.graph.Op.{Op}
 use Rattle.ix_graph.specs.declared.graph.Graph.{Graph}
-use Rattle.ix_graph.specs.declared.role.Role.TheVariants.{Read}
+use Rattle.ix_graph.specs.declared.role.Role.{Role}
+use Rattle.ix_graph.specs.declared.role.Role.TheVariants.{Read, Compute, Write}
 use Rattle.ix_graph.specs.Graphs.{arg_type}
 use Rattle.ix_graph.specs.Roles.{role_of, same_kind}
 use Rattle.ix_mean.specs.Meaning.{Inputs, read, Access}
 use Rattle.ix_mean.specs.Meaning as meaning
-use Rattle.ix_mean.specs.GraphValues.{arg_raw}
+use Rattle.ix_mean.specs.GraphValues.{arg_raw, kind_value}
 use Rattle.ix_flow.specs.Flows.{target_of}
 
 -- ---- arguments
@@ -72,3 +73,22 @@ written_by g terms (o ∷ os) n = if is_target n (target_of o.kind) then written
 -- what the graph writes to a target by its number: memory is 0, rd 1, the program counter 2, the custom register r 3 + r
 abbrev pub graph_write : Graph → (ℕ → ℕ) → ℕ → Option meaning.Write
 graph_write g terms n = written_by g terms g.ops n
+
+-- ---- the values of a graph under inputs
+-- the value of an operation, from those of the operations before it
+abbrev pub under_as : Role → Graph → Inputs → List ℕ → Op → ℕ
+under_as Read g i values op = read_raw i op.kind op.ty (numbers_of g (slice_index values) op)
+under_as Compute g i values op = kind_value g.tables op.kind (map (arg_type g.ops) op.args) (map (arg_raw (slice_index values)) op.args) op.ty
+under_as Write g i values op = 0
+
+abbrev pub under_at : Graph → Inputs → List ℕ → Option Op → ℕ
+under_at g i values None = 0
+under_at g i values (Some op) = under_as (role_of op.kind) g i values op
+
+-- the values of the first n operations
+abbrev pub under_upto : Graph → Inputs → ℕ → List ℕ
+under_upto g i zero = []
+under_upto g i (suc n) = under_upto g i n ++ under_at g i (under_upto g i n) (slice_get g.ops n) ∷ []
+
+abbrev pub values_under : Graph → Inputs → ℕ → ℕ
+values_under g i k = slice_index (under_upto g i (suc k)) k

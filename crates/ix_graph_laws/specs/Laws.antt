@@ -15,7 +15,7 @@ use Rattle.ix_mean.specs.GraphValues.{IsMeaning}
 use Rattle.ix_behaviour.specs.declared.which.Which.{Which}
 use Rattle.ix_behaviour.specs.Behaviours.{HasBehaviour, targets_at, statement_at, frame_at, effect_by_name}
 use Rattle.ix_graph_laws.specs.Operations.{operations_at, IsGraphOf}
-use Rattle.ix_graph_laws.specs.GraphEffects.{AreReads, graph_reads, graph_write}
+use Rattle.ix_graph_laws.specs.GraphEffects.{AreReads, graph_reads, graph_write, values_under}
 
 abbrev pub ValidLaw : Type 0
 ValidLaw = (t : TypedTextTree) (x : ExtensionTree) (w : Which) (g : Graph) → IsOf t x → HasBehaviour x w → IsGraphOf x w g → IsValidGraph g
@@ -33,3 +33,14 @@ DoesAsNamed x w g = (i : Inputs) (terms : ℕ → ℕ) → AreInputs (targets_at
 
 abbrev pub GraphEffectLaw : Type 0
 GraphEffectLaw = (t : TypedTextTree) (x : ExtensionTree) (w : Which) (g : Graph) → IsOf t x → HasBehaviour x w → IsGraphOf x w g → DoesAsNamed x w g
+
+-- and there is one, for all inputs
+pub record HasValues (g : Graph) (i : Inputs) : Type 0 where
+  pub meaning : IsMeaning g (values_under g i)
+  pub reads : AreReads g i (values_under g i)
+
+abbrev pub HasAllValues : ExtensionTree → Which → Graph → Type 0
+HasAllValues x w g = (i : Inputs) → AreInputs (targets_at x w) i → HasValues g i
+
+abbrev pub ValuesLaw : Type 0
+ValuesLaw = (t : TypedTextTree) (x : ExtensionTree) (w : Which) (g : Graph) → IsOf t x → HasBehaviour x w → IsGraphOf x w g → HasAllValues x w g

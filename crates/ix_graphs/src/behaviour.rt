@@ -4,7 +4,7 @@ ghost use Rattle.ix_extension.specs.WellFormed.{IsWellFormed};
 ghost use Rattle.ix_behaviour.specs.Behaviours.{HasBehaviour};
 ghost use Rattle.ix_slots.specs.Found.{entries_of};
 ghost use Rattle.ix_graph.specs.Graphs.{IsValidGraph};
-ghost use Rattle.ix_graph_laws.specs.Laws.{DoesAsNamed};
+ghost use Rattle.ix_graph_laws.specs.Laws.{DoesAsNamed, HasAllValues};
 ghost use Rattle.ix_graphs.specs.Graphed.{GraphsTo};
 
 use ix_behaviour::{Which, behaviour_laws};
@@ -68,6 +68,7 @@ pub fn graph_of(alloc: Global, ext: &Extension, which: Which) -> Result<Graph, F
     ensures graph { GraphsTo (view_extension ext.now) which (entries_of ext.now.tables) result }
     ensures valid { IfOk result IsValidGraph }
     ensures effect { IfOk result (DoesAsNamed (view_extension ext.now) which) }
+    ensures values { IfOk result (HasAllValues (view_extension ext.now) which) }
 {
     graph_laws();
     graph_at(alloc, ext, which)

@@ -1,11 +1,10 @@
 -- Statements one behind the other, in front of those to come.
-use Rattle.std.proofs.Common.{◌≡◌, ◌∙◌, sym, ap, subst, refl, rules, ℕ, ◌+◌, ◌<◌, ◌≤◌, List, [], ◌∷◌, ◌++◌, drop, drop-cons, add-one, length, get_or, map}
+use Rattle.std.proofs.Common.{◌≡◌, ◌∙◌, sym, ap, refl, ℕ, ◌+◌, ◌<◌, ◌≤◌, List, [], ◌∷◌, ◌++◌, drop, drop-cons, add-one, length, get_or, map}
 use Rattle.std.proofs.lemmas.List.{drop_all}
 use Rattle.ix_bits.specs.declared.number.Ty.{Ty}
 use Rattle.ix_bits.specs.declared.number.Bits.{Bits}
 use Rattle.ix_tree.specs.declared.typed.TypedDecl.{TypedDecl}
 use Rattle.ix_tree.specs.declared.typed.TypedStmt.{TypedStmt}
-use Rattle.ix_tree.specs.TypedTrees.{TypedRow}
 use Rattle.ix_tree.specs.TypedView.{typed_decl, typed_whole, typed_items}
 use Rattle.ix_mean.specs.declared.resolved.ResolvedStmt.{ResolvedStmt}
 use Rattle.ix_mean.specs.Core.{Statement, st_skip, st_then}

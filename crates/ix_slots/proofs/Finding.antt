@@ -1,5 +1,5 @@
 -- Maps of custom registers and tables by their names, filled from the last to the first.
-use Rattle.std.proofs.Common.{◌≡◌, ◌∙◌, sym, ap, refl, ℕ, suc, ◌+◌, ◌<◌, List, [], ◌∷◌, drop, length, get_or, map, Option, Some, None, Bool, true, false, cond, String, BTreeMap, arith}
+use Rattle.std.proofs.Common.{◌≡◌, ◌∙◌, sym, ap, refl, ℕ, suc, ◌+◌, List, [], ◌∷◌, get_or, map, Option, Some, Bool, true, false, cond, String, BTreeMap, arith}
 use Rattle.std.specs.Prelude.{option_map, if◌then◌else◌}
 use Rattle.std.specs.BTreeMap.{get_by_text}
 use Rattle.std.specs.Map.{update}
@@ -12,7 +12,7 @@ use Rattle.ix_tree.proofs.Names.{same_is}
 use Rattle.ix_mean.specs.ByName.{Numbered, register_in, Entries, table_in}
 use Rattle.ix_mean.specs.View.{raw_of, patterns_of}
 use Rattle.ix_slots.specs.declared.names.Custom.{Custom}
-use Rattle.ix_slots.specs.Found.{entries_in, entries_of, custom_of, number_of}
+use Rattle.ix_slots.specs.Found.{entries_of, custom_of, number_of}
 
 -- the custom registers from the one with the number r on
 abbrev pub CustomsFrom : {Y : Type 0} → ℕ → List Register → BTreeMap (String Y) Custom → Type 0

@@ -1,23 +1,19 @@
 -- In a typed tree whose names resolve, what the code makes is what the names resolve to.
-use Rattle.std.proofs.Common.{◌≡◌, ◌∙◌, sym, ap, subst, refl, ℕ, zero, suc, ◌+◌, ◌-◌, ◌<◌, ◌≤◌, ◌^◌, min, List, [], ◌∷◌, map, Option, Some, None, Bool, true, false, cond, ℤ, pos, negsuc, arith}
+use Rattle.std.proofs.Common.{◌≡◌, ◌∙◌, sym, ap, subst, refl, ℕ, zero, suc, ◌+◌, ◌-◌, ◌<◌, ◌≤◌, min, List, [], ◌∷◌, map, Option, Some, None, Bool, true, false, ℤ, pos, negsuc, arith}
 use Rattle.std.specs.Prelude.{nat_lt, int_lt, int_le, unsigned_abs, if◌then◌else◌}
 use Rattle.std.proofs.lemmas.Bool.{lt-leb}
 use Rattle.ix_bits.specs.declared.number.Ty.{Ty}
-use Rattle.ix_bits.specs.declared.operator.BinOp.{BinOp}
 use Rattle.ix_bits.specs.NearTypes.{type_near}
-use Rattle.ix_graph.specs.declared.kind.Kind.{Kind}
 use Rattle.ix_graph.specs.declared.kind.Kind.TheVariants as k
 use Rattle.ix_tree.specs.declared.extension.Piece.{Piece}
 use Rattle.ix_tree.specs.Lexing.{same_bytes}
-use Rattle.ix_tree.specs.LoopHeads.{Valued, head_value}
-use Rattle.ix_tree.specs.TypedTrees.{TypedExprTree, t_literal, t_name, t_pc, t_x, t_mem, t_index, t_range, t_unary, t_cast, t_binary, t_choose, erased}
-use Rattle.ix_mean.specs.Core.{u1, u32, Expression, x_const, x_slot, x_read, x_load, x_one, x_cast, x_entry, x_two, x_choose, type_of_expression}
-use Rattle.ix_mean.specs.Meaning.{number}
+use Rattle.ix_tree.specs.TypedTrees.{TypedExprTree, t_literal, t_name, t_pc, t_x, t_mem, t_index, t_range, t_unary, t_cast, t_binary, t_choose}
+use Rattle.ix_mean.specs.Core.{u1, u32, Expression, x_const, x_read, x_load, x_one, x_cast, x_entry, x_two, x_choose, type_of_expression}
 use Rattle.ix_mean.specs.Typing.{Frame, IsTypedExpression}
 use Rattle.ix_mean.specs.ByName.{Names, Numbered, register_in, Entries, table_in}
-use Rattle.ix_mean.specs.Resolving.{Slot, slot_in, word_part, behind, with_zeros, field_from, pieces_of, insert, ordered, top_of, some_or, field_expression, resolved_other, resolved_name, unary_kind, constant, no_inputs, bits, resolved_entry, resolved_index, resolved_range, resolved, IsPlace, IsEntryOrBit, IsIndex, IsRange, IsResolved}
+use Rattle.ix_mean.specs.Resolving.{Slot, slot_in, word_part, behind, with_zeros, field_from, pieces_of, insert, ordered, top_of, some_or, field_expression, resolved_other, resolved_name, unary_kind, constant, bits, resolved_entry, resolved_index, resolved_range, resolved, IsPlace, IsEntryOrBit, IsIndex, IsRange, IsResolved}
 use Rattle.ix_slots.specs.declared.field.Part.{Part}
-use Rattle.ix_slots.specs.Made.{place_in, place_of, part_of, put_part, parts_of, top_of_parts, made_part, put_behind, with_part, made_from, made_field, made_other, made_name, made_bits, made_entry, made_index, made_range, made}
+use Rattle.ix_slots.specs.Made.{place_in, place_of, part_of, put_part, parts_of, top_of_parts, made_part, put_behind, made_from, made_field, made_other, made_name, made_bits, made_entry, made_index, made_range, made}
 
 -- ---- the parts of a field
 put_case : (b : Bool) (p q : Piece) (qs rs : List Piece) (ps : List Part) → map part_of rs ≡ ps

@@ -1,5 +1,5 @@
 -- Statements: what the code makes is what the names resolve to, and behind a statement the locals around it stand as before.
-use Rattle.std.proofs.Common.{◌≡◌, ◌∙◌, sym, ap, subst, refl, ℕ, ◌-◌, List, [], ◌∷◌, ◌++◌, append_assoc, length, length-append, drop, Option, Some, None, arith}
+use Rattle.std.proofs.Common.{◌≡◌, ◌∙◌, sym, ap, refl, ℕ, ◌-◌, List, [], ◌∷◌, ◌++◌, append_assoc, length, length-append, drop, Option, Some, None, arith}
 use Rattle.std.proofs.Math.Seq.{drop-append_seam}
 use Rattle.ix_bits.specs.declared.number.Ty.{Ty}
 use Rattle.ix_bits.specs.declared.operator.BinOp.{BinOp}
@@ -7,11 +7,11 @@ use Rattle.std.specs.Prelude.{false}
 use Rattle.ix_bits.specs.NearTypes.{type_near}
 use Rattle.ix_tree.specs.TypedTrees.{TypedExprTree, TypedLvalueTree, tl_name, tl_pc, tl_x, tl_mem, TypedDeclTree, TypedStmtTree, ts_block, ts_empty, ts_locals, ts_assign, ts_if, ts_if_else, ts_spawn, TypedRow, typed_end, typed_more}
 use Rattle.ix_graph.specs.declared.kind.Kind.TheVariants as k
-use Rattle.ix_mean.specs.Core.{u32, Expression, x_slot, x_read, Statement, st_skip, st_then, st_set, st_write, st_if}
+use Rattle.ix_mean.specs.Core.{u32, Expression, x_slot, x_read, Statement, st_then, st_write}
 use Rattle.ix_mean.specs.Typing.{Frame, IsTypedExpression, IsTypedStatement}
 use Rattle.ix_mean.specs.ByName.{Names, Numbered, register_in}
 use Rattle.ix_mean.specs.EffectByName.{type_of_text}
-use Rattle.ix_mean.specs.Resolving.{Slot, slot_in, resolved, register_read, IsResolved}
+use Rattle.ix_mean.specs.Resolving.{Slot, slot_in, resolved, register_read}
 use Rattle.ix_mean.specs.ResolvingStatements.{Scope, Step, declared, initial, after, declarations, operated, no_address, register_written, name_written, written, store_type, left, scoped, tested, chosen, step, step_row, IsInitial, AreDeclared, IsTarget, IsResolvedStatement, IsResolvedRow}
 use Rattle.ix_slots.specs.Made.{made, made_initial, made_declared, made_declarations, made_written, made_step, made_row}
 use Rattle.ix_slots.proofs.Makes.{made_is}

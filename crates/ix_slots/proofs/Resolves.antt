@@ -1,9 +1,8 @@
 -- Names that are found, or are not.
-use Rattle.std.proofs.Common.{◌≡◌, ◌∙◌, sym, ap, refl, ℕ, List, Option, Some, None}
+use Rattle.std.proofs.Common.{◌≡◌, refl, Option, Some, None}
 use Rattle.std.specs.Prelude.{option_map}
 use Rattle.ix_mean.specs.ByName.{Numbered}
 use Rattle.ix_mean.specs.Resolving.{Slot}
-use Rattle.ix_slots.specs.declared.names.Custom.{Custom}
 use Rattle.ix_slots.specs.Kept.{place_of}
 use Rattle.ix_slots.specs.Found.{custom_of, numbered}
 

@@ -1,6 +1,6 @@
 -- Expressions and statements as the code resolves them. The places of bits are those that constants have as in the heads of loops, and at most 255
 -- whatever the tree; in a typed tree they are below 128 (this project's choice).
-use Rattle.std.specs.Prelude.{ℕ, ◌+◌, ◌-◌, ◌*◌, ◌%◌, ◌^◌, min, nat_lt, int_lt, unsigned_abs, pos, List, [], ◌∷◌, Option, Some, None, false, if◌then◌else◌}
+use Rattle.std.specs.Prelude.{ℕ, ◌+◌, ◌-◌, ◌%◌, ◌^◌, min, nat_lt, int_lt, unsigned_abs, pos, List, [], ◌∷◌, Option, Some, None, false, if◌then◌else◌}
 use Rattle.ix_bits.specs.declared.number.Ty.{Ty}
 use Rattle.ix_bits.specs.declared.operator.BinOp.{BinOp}
 use Rattle.ix_bits.specs.declared.operator.BinOp.TheVariants.{Concat}

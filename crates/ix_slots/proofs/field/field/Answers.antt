@@ -1,6 +1,5 @@
-use Rattle.std.proofs.Common.{◌≡◌, ◌∙◌, ap, sym, ℕ, List, Option, None, option_map}
+use Rattle.std.proofs.Common.{◌∙◌, ap, sym, ℕ, List, Option, None, option_map}
 use Rattle.ix_bits.specs.declared.number.Ty.{Ty}
-use Rattle.ix_bits.specs.declared.number.Bits.{Bits}
 use Rattle.ix_mean.specs.Core.{u1, Expression, x_const}
 use Rattle.ix_mean.specs.Resolving.{some_or}
 use Rattle.ix_mean.specs.View.{view_expression}

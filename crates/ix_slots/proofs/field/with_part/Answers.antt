@@ -1,8 +1,8 @@
-use Rattle.std.proofs.Common.{◌≡◌, ◌∙◌, ap, sym, subst, ℕ, ◌+◌, ◌-◌, Option, option_map, IfOk}
+use Rattle.std.proofs.Common.{◌≡◌, ◌∙◌, ap, subst, ℕ, ◌+◌, ◌-◌, Option, option_map, IfOk}
 use Rattle.ix_mean.specs.Core.{Expression}
 use Rattle.ix_mean.specs.Resolving.{with_zeros}
 use Rattle.ix_mean.specs.View.{view_expression}
-use Rattle.ix_slots.specs.Made.{put_behind, made_part}
+use Rattle.ix_slots.specs.Made.{put_behind}
 use Rattle.ix_slots.proofs.field.with_part.Goals as goal
 
 pub returns : goal.returns

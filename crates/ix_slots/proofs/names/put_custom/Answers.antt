@@ -4,7 +4,6 @@ use Rattle.std.specs.BTreeMap.{get_by_text}
 use Rattle.std.specs.Map.{update}
 use Rattle.std.specs.Str.{bytes_eq}
 use Rattle.ix_bits.specs.declared.memory.Memory.{Memory}
-use Rattle.ix_slots.specs.declared.names.Custom.{Custom}
 use Rattle.ix_slots.proofs.names.put_custom.Goals as goal
 use Rattle.ix_slots.proofs.names.put_custom.Goals.{in-Err-insert, in-Ok-insert}
 

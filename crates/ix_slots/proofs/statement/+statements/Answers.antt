@@ -1,11 +1,11 @@
-use Rattle.std.proofs.Common.{◌≡◌, ◌≤◌, ◌+◌, ◌∙◌, ap, sym, arith, ℕ, List, ◌++◌, drop, length}
+use Rattle.std.proofs.Common.{◌≡◌, ◌≤◌, ◌+◌, ◌∙◌, ap, sym, arith, List, ◌++◌, drop, length}
 use Rattle.ix_tree.specs.declared.typed.TypedStmt.{TypedStmt}
 use Rattle.ix_tree.specs.declared.typed.TypedStmtKind.{TypedStmtKind}
 use Rattle.ix_tree.specs.TypedTrees.{TypedStmtTree}
 use Rattle.ix_tree.specs.TypedView.{typed_stmt, typed_whole, typed_items}
 use Rattle.ix_tree.proofs.TypedViews.{typed_block_view}
 use Rattle.ix_mean.specs.declared.resolved.ResolvedStmt.{ResolvedStmt}
-use Rattle.ix_mean.specs.ResolvingStatements.{Scope, left}
+use Rattle.ix_mean.specs.ResolvingStatements.{left}
 use Rattle.ix_mean.proofs.Executing.{block_view}
 use Rattle.ix_slots.specs.Found.{entries_of}
 use Rattle.ix_slots.specs.Made.{made_step, made_row}

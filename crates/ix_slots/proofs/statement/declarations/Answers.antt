@@ -1,4 +1,4 @@
-use Rattle.std.proofs.Common.{◌≡◌, ◌≤◌, ◌+◌, ◌∙◌, ap, sym, arith, ℕ, List, [], ◌++◌, drop, length, map}
+use Rattle.std.proofs.Common.{◌≤◌, ◌+◌, ◌∙◌, ap, arith, ℕ, List, ◌++◌, drop, length, map}
 use Rattle.ix_tree.specs.TypedView.{typed_decl}
 use Rattle.ix_mean.specs.declared.resolved.ResolvedStmt.{ResolvedStmt}
 use Rattle.ix_mean.proofs.Executing.{block_view}

@@ -1,4 +1,4 @@
-use Rattle.std.proofs.Common.{◌≡◌, sym, subst, ℕ, List, length, Result, OnOk, arith}
+use Rattle.std.proofs.Common.{◌≡◌, sym, subst, ℕ, length, Result, OnOk, arith}
 use Rattle.ix_bits.specs.declared.memory.Memory.{Memory}
 use Rattle.ix_slots.specs.Kept.{scope_of, with_local}
 use Rattle.ix_slots.proofs.Keeping.{scope_push}

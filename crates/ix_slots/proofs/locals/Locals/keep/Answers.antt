@@ -1,4 +1,4 @@
-use Rattle.std.proofs.Common.{◌≡◌, ◌∙◌, ap, ◌<◌, ◌-◌, drop, length, List, arith}
+use Rattle.std.proofs.Common.{◌∙◌, ap, ◌<◌, ◌-◌, drop, length, List, arith}
 use Rattle.ix_mean.specs.Resolving.{Slot}
 use Rattle.ix_slots.proofs.Keeping.{fewer}
 use Rattle.ix_slots.proofs.locals.Locals.keep.Goals as goal
