@@ -1,5 +1,5 @@
 //! Reads the nets of Verilog texts, each text ended by a byte 30: a line for each with the count of its nets, and whether they are printed as this text,
-//! or with why it is refused.
+//! or with why it is refused. Of a text behind a byte 31 it counts the fronts, shorter than the text, that are refused.
 #![tactic(auto)]
 
 ghost use Rattle.ix_verilog.specs.Subset.{Denotes};
@@ -14,6 +14,9 @@ use std::io::Read;
 
 /// The byte behind each text.
 const END: u8 = 30;
+
+/// The byte before a text whose fronts are read.
+const FRONTS: u8 = 31;
 
 /// Whether the nets of a text are printed as it.
 fn is_printed(alloc: Global, text: &[u8], nets: &[Net]) -> Result<bool, Memory>
@@ -37,11 +40,27 @@ fn count(alloc: Global, text: &[u8]) -> Result<(usize, bool), VErr> {
     }
 }
 
+/// How many of the fronts of a text that are shorter than it are refused.
+fn refused_fronts(alloc: Global, text: &[u8]) -> usize {
+    let mut refused = 0;
+    for length in 0..text.len() {
+        if count(alloc, &text[..length]).is_err() {
+            refused += 1;
+        }
+    }
+    refused
+}
+
 fn main(rt: HostRuntime) -> io::Result<()> {
     let mut bytes = Vec::new(rt.alloc());
     rt.reader().read_to_end(&mut bytes)?;
     for text in bytes.as_slice().split_inclusive(|byte| *byte == END) {
         let text = text.strip_suffix(&[END]).unwrap_or(text);
+        if let Some(whole) = text.strip_prefix(&[FRONTS]) {
+            let refused = refused_fronts(rt.alloc(), whole);
+            println!(rt; "refused fronts {refused} of {}", whole.len())?;
+            continue;
+        }
         match count(rt.alloc(), text) {
             Ok((count, true)) => println!(rt; "nets {count} as printed")?,
             Ok((count, false)) => println!(rt; "nets {count}")?,
