@@ -209,114 +209,252 @@ fn declaring(scope: &Scope, kind: Kind, name: Slot, tokens: &[Token]) -> Reach
     )
 }
 
+/// How far an assignment of a number goes.
+fn literal(scope: &Scope, tokens: &[Token]) -> Reach
+    ensures { IsReach scope.now (specified_slots (Kind.Assign Right.Literal)) (words_of tokens.now) result }
+{
+    tried(
+        scope,
+        &[
+            Slot::First(Kind::Assign(Right::Literal)),
+            Slot::Target,
+            Slot::Byte(b'='),
+            Slot::Literal,
+            Slot::Byte(b';'),
+        ],
+        tokens,
+    )
+}
+
+/// How far an assignment of a name goes.
+fn copy(scope: &Scope, tokens: &[Token]) -> Reach
+    ensures { IsReach scope.now (specified_slots (Kind.Assign Right.Copy)) (words_of tokens.now) result }
+{
+    tried(
+        scope,
+        &[
+            Slot::First(Kind::Assign(Right::Copy)),
+            Slot::Target,
+            Slot::Byte(b'='),
+            Slot::Operand,
+            Slot::Byte(b';'),
+        ],
+        tokens,
+    )
+}
+
+/// How far an assignment of two operands and a sign between goes.
+fn both(scope: &Scope, tokens: &[Token]) -> Reach
+    ensures { IsReach scope.now (specified_slots (Kind.Assign Right.Both)) (words_of tokens.now) result }
+{
+    tried(
+        scope,
+        &[
+            Slot::First(Kind::Assign(Right::Both)),
+            Slot::Target,
+            Slot::Byte(b'='),
+            Slot::Operand,
+            Slot::Operator,
+            Slot::Operand,
+            Slot::Byte(b';'),
+        ],
+        tokens,
+    )
+}
+
+/// How far an assignment of `~` and an operand goes.
+fn turned(scope: &Scope, tokens: &[Token]) -> Reach
+    ensures { IsReach scope.now (specified_slots (Kind.Assign Right.Turned)) (words_of tokens.now) result }
+{
+    tried(
+        scope,
+        &[
+            Slot::First(Kind::Assign(Right::Turned)),
+            Slot::Target,
+            Slot::Byte(b'='),
+            Slot::Byte(b'~'),
+            Slot::Operand,
+            Slot::Byte(b';'),
+        ],
+        tokens,
+    )
+}
+
+/// How far an assignment of a signed comparison goes.
+fn signed(scope: &Scope, tokens: &[Token]) -> Reach
+    ensures { IsReach scope.now (specified_slots (Kind.Assign Right.Signed)) (words_of tokens.now) result }
+{
+    tried(
+        scope,
+        &[
+            Slot::First(Kind::Assign(Right::Signed)),
+            Slot::Target,
+            Slot::Byte(b'='),
+            Slot::Signed,
+            Slot::Byte(b'('),
+            Slot::Operand,
+            Slot::Byte(b')'),
+            Slot::Byte(b'<'),
+            Slot::Signed,
+            Slot::Byte(b'('),
+            Slot::Operand,
+            Slot::Byte(b')'),
+            Slot::Byte(b';'),
+        ],
+        tokens,
+    )
+}
+
+/// How far an assignment of two operands side by side goes.
+fn joined(scope: &Scope, tokens: &[Token]) -> Reach
+    ensures { IsReach scope.now (specified_slots (Kind.Assign Right.Joined)) (words_of tokens.now) result }
+{
+    tried(
+        scope,
+        &[
+            Slot::First(Kind::Assign(Right::Joined)),
+            Slot::Target,
+            Slot::Byte(b'='),
+            Slot::Byte(b'{'),
+            Slot::Operand,
+            Slot::Byte(b','),
+            Slot::Operand,
+            Slot::Byte(b'}'),
+            Slot::Byte(b';'),
+        ],
+        tokens,
+    )
+}
+
+/// How far an assignment of a range of bits goes.
+fn range(scope: &Scope, tokens: &[Token]) -> Reach
+    ensures { IsReach scope.now (specified_slots (Kind.Assign Right.Range)) (words_of tokens.now) result }
+{
+    tried(
+        scope,
+        &[
+            Slot::First(Kind::Assign(Right::Range)),
+            Slot::Target,
+            Slot::Byte(b'='),
+            Slot::Operand,
+            Slot::Byte(b'['),
+            Slot::Number,
+            Slot::Byte(b':'),
+            Slot::Number,
+            Slot::Byte(b']'),
+            Slot::Byte(b';'),
+        ],
+        tokens,
+    )
+}
+
+/// How far an assignment of a choice of two operands goes.
+fn choice(scope: &Scope, tokens: &[Token]) -> Reach
+    ensures { IsReach scope.now (specified_slots (Kind.Assign Right.Choice)) (words_of tokens.now) result }
+{
+    tried(
+        scope,
+        &[
+            Slot::First(Kind::Assign(Right::Choice)),
+            Slot::Target,
+            Slot::Byte(b'='),
+            Slot::Operand,
+            Slot::Byte(b'?'),
+            Slot::Operand,
+            Slot::Byte(b':'),
+            Slot::Operand,
+            Slot::Byte(b';'),
+        ],
+        tokens,
+    )
+}
+
 /// How far an assignment with such a right side goes.
 fn assigning(scope: &Scope, right: Right, tokens: &[Token]) -> Reach
     ensures { IsReach scope.now (specified_slots (Kind.Assign right)) (words_of tokens.now) result }
 {
-    let first = Slot::First(Kind::Assign(right));
-    let end = Slot::Byte(b';');
     match right {
-        Right::Literal => tried(
-            scope,
-            &[first, Slot::Target, Slot::Byte(b'='), Slot::Literal, end],
-            tokens,
-        ),
-        Right::Copy => tried(
-            scope,
-            &[first, Slot::Target, Slot::Byte(b'='), Slot::Operand, end],
-            tokens,
-        ),
-        Right::Both => tried(
-            scope,
-            &[
-                first,
-                Slot::Target,
-                Slot::Byte(b'='),
-                Slot::Operand,
-                Slot::Operator,
-                Slot::Operand,
-                end,
-            ],
-            tokens,
-        ),
-        Right::Turned => tried(
-            scope,
-            &[
-                first,
-                Slot::Target,
-                Slot::Byte(b'='),
-                Slot::Byte(b'~'),
-                Slot::Operand,
-                end,
-            ],
-            tokens,
-        ),
-        Right::Signed => tried(
-            scope,
-            &[
-                first,
-                Slot::Target,
-                Slot::Byte(b'='),
-                Slot::Signed,
-                Slot::Byte(b'('),
-                Slot::Operand,
-                Slot::Byte(b')'),
-                Slot::Byte(b'<'),
-                Slot::Signed,
-                Slot::Byte(b'('),
-                Slot::Operand,
-                Slot::Byte(b')'),
-                end,
-            ],
-            tokens,
-        ),
-        Right::Joined => tried(
-            scope,
-            &[
-                first,
-                Slot::Target,
-                Slot::Byte(b'='),
-                Slot::Byte(b'{'),
-                Slot::Operand,
-                Slot::Byte(b','),
-                Slot::Operand,
-                Slot::Byte(b'}'),
-                end,
-            ],
-            tokens,
-        ),
-        Right::Range => tried(
-            scope,
-            &[
-                first,
-                Slot::Target,
-                Slot::Byte(b'='),
-                Slot::Operand,
-                Slot::Byte(b'['),
-                Slot::Number,
-                Slot::Byte(b':'),
-                Slot::Number,
-                Slot::Byte(b']'),
-                end,
-            ],
-            tokens,
-        ),
-        Right::Choice => tried(
-            scope,
-            &[
-                first,
-                Slot::Target,
-                Slot::Byte(b'='),
-                Slot::Operand,
-                Slot::Byte(b'?'),
-                Slot::Operand,
-                Slot::Byte(b':'),
-                Slot::Operand,
-                end,
-            ],
-            tokens,
-        ),
+        Right::Literal => literal(scope, tokens),
+        Right::Copy => copy(scope, tokens),
+        Right::Both => both(scope, tokens),
+        Right::Turned => turned(scope, tokens),
+        Right::Signed => signed(scope, tokens),
+        Right::Joined => joined(scope, tokens),
+        Right::Range => range(scope, tokens),
+        Right::Choice => choice(scope, tokens),
     }
+}
+
+/// How far the first line of a module goes.
+fn head(scope: &Scope, tokens: &[Token]) -> Reach
+    ensures { IsReach scope.now (specified_slots Kind.Head) (words_of tokens.now) result }
+{
+    tried(
+        scope,
+        &[
+            Slot::First(Kind::Head),
+            Slot::Fresh,
+            Slot::Byte(b'('),
+            Slot::Clk,
+        ],
+        tokens,
+    )
+}
+
+/// How far the end of the ports goes.
+fn ports_end(scope: &Scope, tokens: &[Token]) -> Reach
+    ensures { IsReach scope.now (specified_slots Kind.Heading) (words_of tokens.now) result }
+{
+    tried(
+        scope,
+        &[
+            Slot::First(Kind::Heading),
+            Slot::Byte(b';'),
+            Slot::Input,
+            Slot::Clk,
+            Slot::Byte(b';'),
+        ],
+        tokens,
+    )
+}
+
+/// How far the first line of `always` goes.
+fn always(scope: &Scope, tokens: &[Token]) -> Reach
+    ensures { IsReach scope.now (specified_slots Kind.Always) (words_of tokens.now) result }
+{
+    tried(
+        scope,
+        &[
+            Slot::First(Kind::Always),
+            Slot::Byte(b'@'),
+            Slot::Byte(b'('),
+            Slot::Posedge,
+            Slot::Clk,
+            Slot::Byte(b')'),
+            Slot::Begin,
+        ],
+        tokens,
+    )
+}
+
+/// How far a line that changes a register goes.
+fn updating(scope: &Scope, tokens: &[Token]) -> Reach
+    ensures { IsReach scope.now (specified_slots Kind.Update) (words_of tokens.now) result }
+{
+    tried(
+        scope,
+        &[
+            Slot::First(Kind::Update),
+            Slot::Byte(b'('),
+            Slot::Operand,
+            Slot::Byte(b')'),
+            Slot::Register,
+            Slot::Arrow,
+            Slot::Operand,
+            Slot::Byte(b';'),
+        ],
+        tokens,
+    )
 }
 
 /// How far a line of a kind goes.
@@ -324,55 +462,16 @@ pub fn reach_of(scope: &Scope, kind: Kind, tokens: &[Token]) -> Reach
     ensures { IsReach scope.now (specified_slots kind) (words_of tokens.now) result }
 {
     match kind {
-        Kind::Head => tried(
-            scope,
-            &[Slot::First(kind), Slot::Fresh, Slot::Byte(b'('), Slot::Clk],
-            tokens,
-        ),
+        Kind::Head => head(scope, tokens),
         Kind::Port => tried(scope, &[Slot::First(kind), Slot::Fresh], tokens),
-        Kind::Heading => tried(
-            scope,
-            &[
-                Slot::First(kind),
-                Slot::Byte(b';'),
-                Slot::Input,
-                Slot::Clk,
-                Slot::Byte(b';'),
-            ],
-            tokens,
-        ),
+        Kind::Heading => ports_end(scope, tokens),
         Kind::Input => declaring(scope, kind, Slot::Next, tokens),
         Kind::Output => declaring(scope, kind, Slot::Next, tokens),
         Kind::Wire => declaring(scope, kind, Slot::Fresh, tokens),
         Kind::Register => declaring(scope, kind, Slot::Fresh, tokens),
         Kind::Assign(right) => assigning(scope, right, tokens),
-        Kind::Always => tried(
-            scope,
-            &[
-                Slot::First(kind),
-                Slot::Byte(b'@'),
-                Slot::Byte(b'('),
-                Slot::Posedge,
-                Slot::Clk,
-                Slot::Byte(b')'),
-                Slot::Begin,
-            ],
-            tokens,
-        ),
-        Kind::Update => tried(
-            scope,
-            &[
-                Slot::First(kind),
-                Slot::Byte(b'('),
-                Slot::Operand,
-                Slot::Byte(b')'),
-                Slot::Register,
-                Slot::Arrow,
-                Slot::Operand,
-                Slot::Byte(b';'),
-            ],
-            tokens,
-        ),
+        Kind::Always => always(scope, tokens),
+        Kind::Update => updating(scope, tokens),
         Kind::Done => tried(scope, &[Slot::First(kind)], tokens),
         Kind::Finish => tried(scope, &[Slot::First(kind)], tokens),
     }

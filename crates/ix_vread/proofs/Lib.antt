@@ -1,2 +1,3 @@
 pub mod Denoted
 pub mod Places
+mod Spots

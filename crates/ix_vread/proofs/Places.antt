@@ -1,15 +1,16 @@
 -- Places of tokens.
-use Rattle.std.proofs.Common.{◌≡◌, ℕ, zero, suc, ◌<◌, ◌≤◌, List, [], ◌∷◌, length, get_or, map, refl, ap, sym, ◌∙◌, subst, arith}
+use Rattle.std.proofs.Common.{◌≡◌, ℕ, zero, suc, ◌+◌, ◌++◌, ◌<◌, ◌≤◌, List, [], ◌∷◌, length, get_or, refl, ap, sym, ◌∙◌, subst, arith}
 use Rattle.std.specs.Prelude.{Result, Ok, Err, IfOk, IfErr}
-use Rattle.std.proofs.lemmas.List.{length-map}
+use Rattle.std.specs.List.{AllByRecursion}
+use Rattle.std.proofs.lemmas.List.{length-map, length-append}
 use Rattle.ix_verilog.specs.declared.token.Token.{Token}
 use Rattle.ix_verilog.specs.declared.source.Source.{Source}
-use Rattle.ix_verilog.specs.Words.{Spells, words_of}
+use Rattle.ix_verilog.specs.Words.{Form, IsPart, is_space_part, is_line_part, is_comment_part, is_open_part, is_name_part, is_number_part, is_pair_part, is_single_part, Spells, spells_none, spells_more, words_of}
 use Rattle.ix_verilog.specs.Subset.{AreModules, IsWritten, LeavesAt, place_of_token}
 use Rattle.ix_vparse.specs.Answers.{Leaves}
 use Rattle.ix_vonce.specs.Names.{AllOnce, said}
 use Rattle.ix_vread.specs.declared.error.VErr.{VErr}
-use Rattle.ix_vread.specs.declared.error.VErr.TheVariants.{At, Twice, Memory}
+use Rattle.ix_vread.specs.declared.error.VErr.TheVariants.{At, Width, Loop, Twice, Memory}
 use Rattle.ix_vread.specs.Told.{IsTold, IsDoubled}
 
 -- a token by number
@@ -58,4 +59,33 @@ pub then_told : (text : List ℕ) (ms : List Source) (r : Result (List Source) V
 then_told text ms (Ok ns) w h = tt
 then_told text ms (Err (At byte)) w h = absurd h
 then_told text ms (Err (Twice name)) w h = (ms, w, h)
+then_told text ms (Err (Width line)) w h = absurd h
+then_told text ms (Err (Loop name)) w h = absurd h
 then_told text ms (Err Memory) w h = tt
+
+-- ---- places of tokens are within the text
+part_within : {f : Form} {at : ℕ} {x y : List ℕ} {us : List Token} → IsPart f at x y us → AllByRecursion (λ (t : Token). t.place < at + length x) us
+part_within is_space_part = tt
+part_within (is_line_part a s) = tt
+part_within (is_comment_part c) = tt
+part_within (is_open_part n) = (omega arith, tt)
+part_within (is_name_part a s) = (omega arith, tt)
+part_within (is_number_part a s) = (omega arith, tt)
+part_within is_pair_part = (omega arith, tt)
+part_within is_single_part = (omega arith, tt)
+
+each_less : (us : List Token) (m n : ℕ) → m ≤ n → AllByRecursion (λ (t : Token). t.place < m) us → AllByRecursion (λ (t : Token). t.place < n) us
+each_less [] m n l h = tt
+each_less (u ∷ us) m n l h = (omega (arith, l, h.0), each_less us m n l h.1)
+
+each_both : {X : Type 0} (P : X → Type 0) (xs ys : List X) → AllByRecursion P xs → AllByRecursion P ys → AllByRecursion P (xs ++ ys)
+each_both P [] ys h k = k
+each_both P (x ∷ xs) ys h k = (h.0, each_both P xs ys h.1 k)
+
+pub spelled_within : {at : ℕ} {text : List ℕ} {ts : List Token} → Spells at text ts → AllByRecursion (λ (t : Token). t.place < at + length text) ts
+spelled_within spells_none = tt
+spelled_within (spells_more {at = at} {b = b} {x = x} {y = y} {us = us} {ts = ts} p s) =
+    let long : length (b ∷ (x ++ y)) ≡ length (b ∷ x) + length y = length-append (b ∷ x) y in
+    each_both (λ (t : Token). t.place < at + length (b ∷ (x ++ y))) us ts
+    (each_less us (at + length (b ∷ x)) (at + length (b ∷ (x ++ y))) (omega (arith, long)) (part_within p))
+    (each_less ts ((at + length (b ∷ x)) + length y) (at + length (b ∷ (x ++ y))) (omega (arith, long)) (spelled_within s))

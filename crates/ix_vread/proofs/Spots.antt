@@ -1,0 +1,85 @@
+-- Places and lines.
+use Rattle.std.proofs.Common.{◌≡◌, ◌⊎◌, inl, inr, ℕ, zero, suc, ◌+◌, ◌<◌, ◌^◌, List, [], ◌∷◌, ◌++◌, Bool, true, false, cond, length, take, drop, get_or, map, filter, refl, ap, sym, ◌∙◌, subst, arith}
+use Rattle.std.specs.List.{AllByRecursion}
+use Rattle.std.proofs.lemmas.List.{length-map, length-append, take_more, drop-drop, get_or-drop}
+use Rattle.ix_verilog.specs.declared.source.Source.{Source}
+use Rattle.ix_verilog.specs.declared.token.Token.{Token}
+use Rattle.ix_verilog.specs.Words.{Spells}
+use Rattle.ix_verilog.specs.Subset.{place_of_token}
+use Rattle.ix_verilog.proofs.OneSpelling.{one_spelling}
+use Rattle.ix_vnets.specs.Drives.{assigning, updating, drives, drives_in}
+use Rattle.ix_vread.specs.Told.{begins_drive, drive_place}
+use Rattle.ix_vread.specs.Spots.{IsDrivePlace}
+use Rattle.ix_vread.proofs.Places.{spelled_within}
+
+-- ---- lists
+filter_both : {X : Type 0} (p : X → Bool) (xs : List X) (x : X) → filter p (xs ++ x ∷ []) ≡ filter p xs ++ cond (p x) (x ∷ []) []
+filter_both p [] x = go (p x)
+  where
+    go : (b : Bool) → cond b (x ∷ []) [] ≡ cond b (x ∷ []) []
+    go b = refl
+filter_both p (y ∷ xs) x = go (p y) (filter_both p xs x)
+  where
+    go : (b : Bool) → filter p (xs ++ x ∷ []) ≡ filter p xs ++ cond (p x) (x ∷ []) [] → cond b (y ∷ filter p (xs ++ x ∷ [])) (filter p (xs ++ x ∷ [])) ≡ cond b (y ∷ filter p xs) (filter p xs) ++ cond (p x) (x ∷ []) []
+    go true h = ap (λ z. y ∷ z) h
+    go false h = h
+
+pub filter_next : {X : Type 0} (p : X → Bool) (xs : List X) (i : ℕ) (x : X) (b : Bool) → x ≡ get_or xs i x → i < length xs → p x ≡ b → filter p (take (i + 1) xs) ≡ filter p (take i xs) ++ cond b (x ∷ []) []
+filter_next p xs i x b e l h =
+    let t : take (i + 1) xs ≡ take i xs ++ x ∷ [] = take_more xs i x l ∙ ap (λ z. take i xs ++ z ∷ []) (sym e) in
+    ap (filter p) t ∙ filter_both p (take i xs) x ∙ ap (λ c. filter p (take i xs) ++ cond c (x ∷ []) []) h
+
+get_place : (ts : List Token) (k : ℕ) → get_or (map (λ (t : Token). t.place) ts) k 0 ≡ place_of_token 0 k ts
+get_place [] zero = refl
+get_place [] (suc k) = refl
+get_place (t ∷ ts) zero = refl
+get_place (t ∷ ts) (suc k) = get_place ts k
+
+-- ---- lines of modules
+drives_long : (s : Source) → length (drives_in s) ≡ length s.assigns + length s.updates
+drives_long s = omega (arith, length-append (map (assigning s) s.assigns) (map (updating s) s.updates), length-map s.assigns (assigning s), length-map s.updates (updating s))
+
+drives_push : (ss : List Source) (s : Source) → length (drives (ss ++ s ∷ [])) ≡ length (drives ss) + length (drives_in s)
+drives_push [] s = omega (arith, length-append (drives_in s) [])
+drives_push (x ∷ ss) s = omega (arith, drives_push ss s, length-append (drives_in x) (drives (ss ++ s ∷ [])), length-append (drives_in x) (drives ss))
+
+pub behind_more : (ss : List Source) (i : ℕ) (s : Source) (places rest mid new : List ℕ) (a u : ℕ) → s ≡ get_or ss i s → i < length ss → rest ≡ drop (length (drives (take i ss))) places → a ≡ length s.assigns → u ≡ length s.updates
+    → mid ≡ drop a rest → new ≡ drop u mid → new ≡ drop (length (drives (take (i + 1) ss))) places
+behind_more ss i s places rest mid new a u e l h p q m n =
+    let t : take (i + 1) ss ≡ take i ss ++ s ∷ [] = take_more ss i s l ∙ ap (λ z. take i ss ++ z ∷ []) (sym e) in
+    let k = length (drives (take i ss)) in
+    let long : length (drives (take (i + 1) ss)) ≡ (k + a) + u = omega (arith, ap (λ z. length (drives z)) t, drives_push (take i ss) s, drives_long s, p, q) in
+    n ∙ ap (drop u) (m ∙ ap (drop a) h ∙ drop-drop a k places) ∙ drop-drop u (k + a) places ∙ ap (λ z. drop z places) (sym long)
+
+-- ---- the place of a line
+kept : (p : Token → Bool) (n : ℕ) (ts : List Token) → AllByRecursion (λ (t : Token). t.place < n) ts → AllByRecursion (λ (t : Token). t.place < n) (filter p ts)
+kept p n [] h = tt
+kept p n (t ∷ ts) h = go (p t) (kept p n ts h.1)
+  where
+    go : (b : Bool) → AllByRecursion (λ (t : Token). t.place < n) (filter p ts) → AllByRecursion (λ (t : Token). t.place < n) (cond b (t ∷ filter p ts) (filter p ts))
+    go true k = (h.0, k)
+    go false k = k
+
+small_at : (n : ℕ) (ts : List Token) (k : ℕ) → AllByRecursion (λ (t : Token). t.place < n) ts → (place_of_token 0 k ts ≡ 0) ⊎ (place_of_token 0 k ts < n)
+small_at n [] zero h = inl refl
+small_at n [] (suc k) h = inl refl
+small_at n (t ∷ ts) zero h = inr h.0
+small_at n (t ∷ ts) (suc k) h = small_at n ts k h.1
+
+pub place_found : (text : List ℕ) (tokens : List Token) (places rest : List ℕ) (n drive place : ℕ) → length text < 2 ^ 32 → Spells 0 text tokens → places ≡ map (λ (t : Token). t.place) (filter begins_drive tokens) → rest ≡ drop n places → place ≡ get_or rest drive 0
+    → IsDrivePlace text (n + drive) place
+place_found text tokens places rest n drive place small s e r p =
+    let here : place ≡ drive_place tokens (n + drive) = p ∙ ap (λ z. get_or z drive 0) r ∙ get_or-drop n places drive 0 ∙ ap (λ z. get_or z (n + drive) 0) e ∙ get_place (filter begins_drive tokens) (n + drive) in
+    let zero_more : 0 + length text ≡ length text = omega arith in
+    let bound : (place ≡ 0) ⊎ (place < length text) = subst (λ z. (z ≡ 0) ⊎ (z < length text)) (sym here) (small_at (length text) (filter begins_drive tokens) (n + drive) (kept begins_drive (length text) tokens (subst (λ z. AllByRecursion (λ (t : Token). t.place < z) tokens) zero_more (spelled_within s)))) in
+    record {
+      is = λ others q. here ∙ ap (λ ts. drive_place ts (n + drive)) (one_spelling s text refl q);
+      within = elim bound [
+        | inl z ↦ omega (arith, z)
+        | inr z ↦ omega (arith, z)
+      ];
+      small = elim bound [
+        | inl z ↦ omega (arith, z)
+        | inr z ↦ omega (arith, z, small)
+      ];
+    }
