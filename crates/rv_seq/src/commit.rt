@@ -1,13 +1,12 @@
-ghost use Rattle.std.specs.Prelude.{◌≤◌, ◌<◌, ◌≢◌};
-
 use ix_bits::Bits;
+use ix_eval::Access;
 
 /// Why a run stops (RV32I; the profile of traps is this project's choice).
 #[derive(Clone, Copy, Debug, PartialEq, Eq)]
 pub enum Stop {
     Ecall,
     Ebreak,
-    /// A word that no row of the instruction set matches.
+    /// A word that is no instruction.
     Illegal,
     /// A pc that is not divisible by 4 or lies outside the image.
     Fetch,
@@ -19,22 +18,12 @@ pub enum Stop {
     Target,
 }
 
-/// What a step does to one target: nothing, a write of a value, or a write that comes later.
+/// What a step does to one target: nothing, a write of a value, or a write that comes later, which there is in a pipeline alone.
 #[derive(Clone, Copy, Debug, PartialEq, Eq)]
 pub enum Slot<V> {
     Absent,
     Now(V),
     Later,
-}
-
-/// A memory access: its address, and its size of 1, 2 or 4 bytes.
-#[derive(Clone, Copy, Debug, PartialEq, Eq)]
-pub struct Access {
-    pub at: u32,
-    pub bytes: u8,
-    pub ghost some: { 0 < bytes },
-    pub ghost few: { bytes ≤ 4 },
-    pub ghost not_three: { bytes ≢ 3 },
 }
 
 /// The writes of one retired instruction.

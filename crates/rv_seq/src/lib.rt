@@ -1,6 +1,17 @@
-//! What one instruction writes, and why a run stops.
+//! The sequential run: one instruction at a time on a core with an extension, with no cycles in it.
 #![tactic(auto)]
 
+mod answer;
+mod applying;
+mod arch;
 mod commit;
+mod step;
+mod stopping;
 
-pub use commit::{Access, Commit, Slot, Stop};
+pub use answer::StepAnswer;
+pub use applying::{apply, commit_of};
+pub use arch::Arch;
+pub use commit::{Commit, Slot, Stop};
+pub use ix_eval::Access;
+pub use step::{seq_step, word_at};
+pub use stopping::{access_stop, stop_of};

@@ -9,7 +9,7 @@ use Rattle.rv_trace.specs.declared.row.Target.{Target}
 use Rattle.rv_trace.specs.declared.row.Target.TheVariants.{X, Custom as custom_target}
 use Rattle.rv_trace.specs.declared.row.Hold.{Hold}
 use Rattle.rv_trace.specs.declared.row.Hold.TheVariants.{Operand, Board, Custom, Late, Drain, Wait, StoreAhead, Tail, UnitFull, Port, Behind}
-use Rattle.rv_seq.specs.declared.commit.Access.{Access}
+use Rattle.ix_eval.specs.declared.access.Access.{Access}
 use Rattle.rv_built.specs.declared.arch.Arch.{Arch}
 use Rattle.rv_seq.specs.declared.commit.Commit.{Commit}
 use Rattle.rv_seq.specs.declared.commit.Slot.{Slot}

@@ -21,7 +21,7 @@ fn put_number(out: &mut Out, number: u32)
 }
 
 /// Appends at most 3 digits.
-fn put_small(out: &mut Out, number: u8)
+pub fn put_small(out: &mut Out, number: u8)
     requires { length out.old + 3 ≤ 65536 }
     ensures text { out.new ≡ out.old ++ decimal number }
     ensures few { length out.new ≤ length out.old + 3 }
@@ -30,7 +30,7 @@ fn put_small(out: &mut Out, number: u8)
 }
 
 /// Appends eight hexadecimal digits.
-fn put_word(out: &mut Out, word: u32)
+pub fn put_word(out: &mut Out, word: u32)
     requires { length out.old + 8 ≤ 65536 }
     ensures text { out.new ≡ out.old ++ hex_word_text word }
     ensures few { length out.new ≡ length out.old + 8 }
@@ -42,7 +42,8 @@ fn put_word(out: &mut Out, word: u32)
     out.hex(pattern, 8);
 }
 
-fn put_stop(out: &mut Out, stop: Stop)
+/// Appends the name of a stop.
+pub fn put_stop(out: &mut Out, stop: Stop)
     requires { length out.old + 10 ≤ 65536 }
     ensures text { out.new ≡ out.old ++ stop_text stop }
     ensures few { length out.new ≤ length out.old + 10 }
@@ -325,7 +326,8 @@ fn put_writes(out: &mut Out, commit: &Commit)
     put_next(out, commit.at, commit.next);
 }
 
-fn put_retired(out: &mut Out, retired: Option<(u32, Commit)>)
+/// Appends the line of an instruction that retires, or of a step of a sequential run: its number, its address, its word and its writes. Takes no memory.
+pub fn put_retired(out: &mut Out, retired: Option<(u32, Commit)>)
     requires { length out.old + 684 ≤ 65536 }
     ensures text { out.new ≡ out.old ++ retired_text retired }
     ensures few { length out.new ≤ length out.old + 684 }
@@ -398,7 +400,8 @@ fn put_register(out: &mut Out, n: u8, value: u32)
     }
 }
 
-fn put_registers(out: &mut Out, x: &[u32; 32])
+/// Appends a line for each x register that is not 0. Takes no memory.
+pub fn put_registers(out: &mut Out, x: &[u32; 32])
     requires { length out.old + 448 ≤ 65536 }
     ensures text { out.new ≡ out.old ++ registers_text 0 x.now }
     ensures few { length out.new ≤ length out.old + 448 }

@@ -1,0 +1,66 @@
+-- The text of a sequential run (this project's choice): a line a step, the stop if there is one, and the state behind the last step.
+use Rattle.std.specs.Prelude.{ℕ, zero, suc, ◌+◌, ◌*◌, ◌/◌, List, [], ◌∷◌, ◌++◌, length, take, Some, if◌then◌else◌, ◌==◌, codes, decimal}
+use Rattle.ix_bits.specs.declared.number.Bits.{Bits}
+use Rattle.ix_io.specs.Out.{hex_digits}
+use Rattle.ix_extension.specs.Extensions.{ExtensionTree}
+use Rattle.rv_memory.specs.Room.{base, read}
+use Rattle.rv_seq.specs.declared.commit.Commit.{Commit}
+use Rattle.rv_seq.specs.declared.commit.Stop.{Stop}
+use Rattle.rv_seq.specs.declared.arch.Arch.{Arch}
+use Rattle.rv_seq.specs.declared.answer.StepAnswer.{StepAnswer}
+use Rattle.rv_seq.specs.declared.answer.StepAnswer.TheVariants.{Done, Stopped}
+use Rattle.rv_seq.specs.States.{first}
+use Rattle.rv_seq.specs.Commits.{applied}
+use Rattle.rv_seq.specs.Steps.{step}
+use Rattle.rv_trace.specs.TraceText.{hex_word_text, stop_text, retired_text, registers_text}
+
+-- a step is told as a pipeline tells a retirement, with the step's number for the serial
+abbrev pub step_line : ℕ → Commit → List ℕ
+step_line number c = retired_text (Some (number, c))
+
+abbrev pub stop_line : Stop → List ℕ
+stop_line stop = codes "stop " ++ stop_text stop ++ codes "\n"
+
+-- ---- the state
+-- a custom register, with as many digits as its width needs
+abbrev pub custom_line : ℕ → Bits → List ℕ
+custom_line number b = codes "c" ++ decimal number ++ codes " " ++ hex_digits ((b.width + 3) / 4) b.raw ++ codes "\n"
+
+abbrev pub custom_lines : ℕ → List Bits → List ℕ
+custom_lines number [] = []
+custom_lines number (b ∷ rest) = custom_line number b ++ custom_lines (suc number) rest
+
+-- the pc, each x register that is not 0, and so many custom registers
+abbrev pub head_text : ℕ → Arch → List ℕ
+head_text registers s =
+    codes "state\npc " ++ hex_word_text s.pc ++ codes "\n" ++ registers_text 0 s.x ++ custom_lines 0 (take registers s.custom)
+
+-- an aligned word of the memory that is not 0
+abbrev pub word_line : ℕ → ℕ → List ℕ
+word_line at value = if value == 0 then [] else codes "m " ++ hex_word_text at ++ codes " " ++ hex_word_text value ++ codes "\n"
+
+abbrev pub memory_word : List ℕ → ℕ → List ℕ
+memory_word memory k = word_line (base + 4 * k) (read memory (base + 4 * k) 4)
+
+-- so many words, from this one on
+unfoldable pub memory_lines : List ℕ → ℕ → ℕ → List ℕ
+memory_lines memory zero k = []
+memory_lines memory (suc n) k = memory_word memory k ++ memory_lines memory n (suc k)
+
+unfoldable pub state_text : ExtensionTree → Arch → List ℕ
+state_text x s = head_text (length x.registers) s ++ memory_lines s.mem 262144 0
+
+-- ---- the run
+-- the line of what a step comes to, and what is told behind it; nothing is tried after a stop
+abbrev pub lines_after : ExtensionTree → ℕ → Arch → (Arch → List ℕ) → StepAnswer → List ℕ
+lines_after x number s rest (Stopped stop) = stop_line stop ++ state_text x s
+lines_after x number s rest (Done c) = step_line number c ++ rest (applied c s)
+
+-- the lines of at most so many steps from a state on, of which the first has this number, and of the state behind them
+unfoldable pub lines_from : ExtensionTree → List ℕ → ℕ → ℕ → Arch → List ℕ
+lines_from x image zero number s = state_text x s
+lines_from x image (suc n) number s = lines_after x number s (λ t. lines_from x image n (suc number) t) (step x image s)
+
+-- the run of an image on a core with this extension, of at most so many steps
+unfoldable pub run_text : ExtensionTree → List ℕ → ℕ → List ℕ
+run_text x image steps = lines_from x image steps 0 (first x)

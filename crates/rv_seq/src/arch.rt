@@ -1,0 +1,62 @@
+ghost use Rattle.std.specs.Prelude.{◌≡◌, IfOk};
+ghost use Rattle.ix_extension.specs.Extensions.{view_extension};
+ghost use Rattle.ix_extension.specs.WellFormed.{IsWellFormed};
+ghost use Rattle.rv_effect.specs.WordEffects.{AreWide};
+ghost use Rattle.rv_seq.specs.States.{first, initials, initial_of};
+
+use ix_bits::{Bits, Memory};
+use ix_tree::{Extension, Register};
+use rv_memory::RandomAccess;
+use std::alloc::Global;
+
+/// The architectural state: the pc, the x registers, of which x0 is 0, the custom registers, and the memory. Custom registers past
+/// the extension's are a zero of one bit. Only `new` takes memory.
+#[derive(Drop)]
+pub struct Arch {
+    pub pc: u32,
+    pub x: [u32; 32],
+    pub custom: [Bits; 16],
+    pub mem: RandomAccess,
+}
+
+// The value that the custom register of a number starts with.
+fn initial(registers: &[Register], number: usize) -> Bits
+    ensures { result ≡ initial_of registers.now number }
+{
+    if number < registers.len() {
+        registers[number].initial
+    } else {
+        Bits { raw: 0, width: 1 }
+    }
+}
+
+// The values that the custom registers start with.
+fn initials_of(registers: &[Register]) -> [Bits; 16]
+    ensures { result ≡ initials registers.now }
+{
+    let mut all = [Bits { raw: 0, width: 1 }; 16];
+    for number in 0..16usize {
+        all[number] = initial(registers, number);
+    }
+    all
+}
+
+impl Arch {
+    /// The first state of a core with a well-formed extension.
+    pub fn new(alloc: Global, ext: &Extension) -> Result<Arch, Memory>
+        requires { IsWellFormed ext.now }
+        ensures first { IfOk result (λ arch. arch ≡ first (view_extension ext.now)) }
+        ensures wide { IfOk result (λ arch. AreWide (view_extension ext.now) arch.custom) }
+    {
+        let custom = initials_of(ext.registers.as_slice());
+        match RandomAccess::new(alloc) {
+            Ok(mem) => Ok(Arch {
+                pc: 0,
+                x: [0; 32],
+                custom,
+                mem,
+            }),
+            Err(error) => Err(error),
+        }
+    }
+}

@@ -1,0 +1,113 @@
+ghost use Rattle.std.specs.Prelude.{◌≡◌};
+ghost use Rattle.ix_extension.specs.Extensions.{view_extension};
+ghost use Rattle.ix_extension.specs.WellFormed.{IsWellFormed};
+ghost use Rattle.ix_eval.specs.Scratches.{IsScratchOf};
+ghost use Rattle.rv_effect.specs.WordEffects.{AreWide};
+ghost use Rattle.rv_effect.specs.Decoding.{IsIn};
+ghost use Rattle.rv_seq.specs.States.{state_at as specified_state_at};
+ghost use Rattle.rv_seq.specs.Steps.{word_at as specified_word_at, attempted, step, after};
+ghost use Rattle.rv_seq.specs.Sound.{IsSound};
+
+use crate::answer::StepAnswer;
+use crate::applying::{apply, commit_of};
+use crate::arch::Arch;
+use crate::commit::Stop;
+use crate::stopping::stop_of;
+use ix_eval::{Inputs, Scratch};
+use ix_tree::Extension;
+use rv_effect::{Decoded, blocks_effect, decode_in, effect_of, over, rs1_of, rs2_of};
+use rv_isa::Image;
+
+/// The word at an address of the image, where the address is divisible by 4 and inside it.
+pub fn word_at(image: &[u32], at: u32) -> Option<u32>
+    ensures { result ≡ specified_word_at image.now at }
+{
+    if at % 4 == 0 {
+        image.get((at / 4) as usize).copied()
+    } else {
+        None
+    }
+}
+
+// What an instruction of a word and the always-blocks see of the state.
+fn state_at(word: u32, arch: &Arch) -> Inputs
+    ensures { result ≡ specified_state_at word arch.now }
+{
+    Inputs {
+        word,
+        rs1: arch.x[usize::from(rs1_of(word))],
+        rs2: arch.x[usize::from(rs2_of(word))],
+        pc: arch.pc,
+        custom: arch.custom,
+    }
+}
+
+// What the instruction of a word comes to.
+#[tactic(auto, unfolding(crate::specs::Steps::attempted))]
+fn attempt(
+    ext: &Extension,
+    arch: &Arch,
+    word: u32,
+    decoded: Decoded,
+    scratch: &mut Scratch,
+) -> StepAnswer
+    requires well_formed { IsWellFormed ext.now }
+    requires is_in { IsIn (view_extension ext.now) decoded }
+    requires wide { AreWide (view_extension ext.now) arch.now.custom }
+    requires scratch { IsScratchOf (view_extension ext.now) scratch.old }
+    ensures scratch { IsScratchOf (view_extension ext.now) scratch.new }
+    ensures answer { result ≡ attempted (view_extension ext.now) arch.now word decoded }
+    ensures sound { IsSound (view_extension ext.now) result }
+{
+    let inputs = state_at(word, arch);
+    let own = effect_of(ext, decoded, &inputs, &arch.mem, scratch);
+    match stop_of(decoded, &own) {
+        Some(stop) => StepAnswer::Stopped(stop),
+        None => {
+            let blocks = blocks_effect(ext, &inputs, &arch.mem, scratch);
+            StepAnswer::Done(commit_of(arch.pc, word, &over(&own, &blocks)))
+        }
+    }
+}
+
+// What a step comes to.
+#[tactic(auto, unfolding(crate::specs::Steps::step))]
+fn answer_to(ext: &Extension, image: &Image, arch: &Arch, scratch: &mut Scratch) -> StepAnswer
+    requires well_formed { IsWellFormed ext.now }
+    requires wide { AreWide (view_extension ext.now) arch.now.custom }
+    requires scratch { IsScratchOf (view_extension ext.now) scratch.old }
+    ensures scratch { IsScratchOf (view_extension ext.now) scratch.new }
+    ensures answer { result ≡ step (view_extension ext.now) image.now arch.now }
+    ensures sound { IsSound (view_extension ext.now) result }
+{
+    match word_at(image.as_slice(), arch.pc) {
+        None => StepAnswer::Stopped(Stop::Fetch),
+        Some(word) => match decode_in(ext, word) {
+            None => StepAnswer::Stopped(Stop::Illegal),
+            Some(decoded) => attempt(ext, arch, word, decoded, scratch),
+        },
+    }
+}
+
+/// A step of the sequential run of an image on a core with a well-formed extension: one instruction with the always-blocks. The
+/// state and the scratch are of this extension. It takes no memory. Where the run stops, the state stays as it was.
+pub fn seq_step(
+    ext: &Extension,
+    image: &Image,
+    arch: &mut Arch,
+    scratch: &mut Scratch,
+) -> StepAnswer
+    requires well_formed { IsWellFormed ext.now }
+    requires wide { AreWide (view_extension ext.now) arch.old.custom }
+    requires scratch { IsScratchOf (view_extension ext.now) scratch.old }
+    ensures answer { result ≡ step (view_extension ext.now) image.now arch.old }
+    ensures state { arch.new ≡ after arch.old result }
+    ensures wide { AreWide (view_extension ext.now) arch.new.custom }
+    ensures scratch { IsScratchOf (view_extension ext.now) scratch.new }
+{
+    let answer = answer_to(ext, image, arch, scratch);
+    if let StepAnswer::Done(commit) = &answer {
+        apply(arch, commit);
+    }
+    answer
+}
