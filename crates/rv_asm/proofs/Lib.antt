@@ -1,3 +1,6 @@
+pub mod Assembling
+mod Decoding
+pub mod Placing
 pub mod ImageLemmas
 pub mod Printed
 pub mod Results
