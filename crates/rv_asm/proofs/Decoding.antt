@@ -1,11 +1,9 @@
 -- The words of base lines decode to their instructions.
-use Rattle.std.proofs.Common.{◌≡◌, ◌≢◌, ◌∙◌, sym, ap, refl, subst, ℕ, zero, suc, ◌+◌, ◌*◌, ◌^◌, ◌%◌, ◌<◌, ◌≤◌, List, [], ◌∷◌, length, Bool, true, false, Option, Some, None, ◌==◌, ℤ, pos, ◌-ℤ◌, ◌≤ℤ◌, ◌<ℤ◌, arith}
+use Rattle.std.proofs.Common.{◌≡◌, ◌≢◌, ◌∙◌, sym, ap, refl, subst, ℕ, zero, suc, ◌*◌, ◌^◌, ◌%◌, ◌<◌, List, [], ◌∷◌, length, Bool, true, false, Option, Some, None, ◌==◌, pos, ◌-ℤ◌, ◌≤ℤ◌, ◌<ℤ◌, arith}
 use Rattle.std.specs.Prelude.{nat_le, nat_lt, unsigned_abs, if◌then◌else◌, option_map}
 use Rattle.std.specs.List.{position}
 use Rattle.std.proofs.lemmas.Bool.{leb-true, ltb-true, eqb-true}
-use Rattle.std.proofs.lemmas.Bool.Decides.{nat_tests}
 use Rattle.std.proofs.lemmas.Int.{ints}
-use Rattle.std.proofs.Math.Nat.{mod-lt}
 use Rattle.ix_bits.specs.Types.{IsWithin}
 use Rattle.ix_tree.specs.Lexing.{same_bytes}
 use Rattle.ix_extension.specs.Extensions.{InstructionTree}
@@ -28,7 +26,7 @@ use Rattle.rv_asm_line.specs.declared.form.Form.{Form}
 use Rattle.rv_asm_line.specs.declared.form.Form.TheVariants as F
 use Rattle.rv_asm_line.specs.declared.label.Target.{Target}
 use Rattle.rv_asm_line.specs.declared.label.Target.TheVariants as G
-use Rattle.rv_asm_line.specs.Forms.{form_of, row_of, zero_number, is_signed, is_unsigned, is_even, is_in_reach, whole_of, base_of, base_verdict}
+use Rattle.rv_asm_line.specs.Forms.{form_of, row_of, zero_number, is_in_reach, base_of, base_verdict}
 use Rattle.rv_asm_line.specs.Labels.{Places, target_of, is_doubled}
 use Rattle.rv_asm_line.specs.Verdicts.{nth, taken, when, towards, access_verdict, load_verdict, number_verdict, all_of_memory, form_verdict, mnemonic_verdict, instruction_verdict, with_label, line_verdict}
 use Rattle.rv_asm.specs.Laws.{IsInstructionOf, FieldsLaw, LineLaw}

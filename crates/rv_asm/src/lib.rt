@@ -8,5 +8,5 @@ mod source;
 
 pub use image_print::print_image;
 pub use image_text::{TextErr, line_of_word, read_image};
-pub use laws::base_lines_decode;
+pub use laws::{base_lines_decode, numbers_are_whole};
 pub use source::{AsmErr, assemble};
