@@ -1,11 +1,10 @@
 -- The words of lines, one line after another.
-use Rattle.std.proofs.Common.{◌≡◌, ◌∙◌, sym, ap, refl, ℕ, ◌+◌, ◌<◌, ◌≤◌, List, [], ◌∷◌, ◌++◌, append_assoc, length, drop, map, get_or, Bor, Bool, true, false, Option, Some, None, arith}
-use Rattle.std.specs.Prelude.{Ok, Err, nat_lt, if◌then◌else◌}
+use Rattle.std.proofs.Common.{◌≡◌, ◌∙◌, sym, ap, refl, ℕ, ◌+◌, ◌<◌, List, [], ◌∷◌, ◌++◌, append_assoc, length, drop, map, get_or, Bor, true, false, arith}
+use Rattle.std.specs.Prelude.{Ok, Err, nat_lt}
 use Rattle.std.proofs.lemmas.Bool.Decides.{nat_tests}
 use Rattle.std.proofs.lemmas.List.{append-nil}
 use Rattle.ix_extension.specs.Extensions.{InstructionTree}
 use Rattle.rv_asm_field.specs.declared.verdict.Verdict.{Verdict}
-use Rattle.rv_asm_field.specs.declared.verdict.Verdict.TheVariants as V
 use Rattle.rv_asm_line.specs.Labels.{Places}
 use Rattle.rv_asm_line.specs.Verdicts.{line_verdict}
 use Rattle.rv_asm_line.proofs.Noting.{line_at}

@@ -1,4 +1,6 @@
 pub mod Assembling
+mod Decoding
+mod Wholes
 pub mod Placing
 pub mod ImageLemmas
 pub mod Printed

@@ -1,2 +1,3 @@
 pub mod ImageText
+pub mod Laws
 pub mod Sources

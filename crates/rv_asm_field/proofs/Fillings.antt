@@ -1,5 +1,5 @@
 -- Operands one after another.
-use Rattle.std.proofs.Common.{◌≡◌, ◌≢◌, ◌∙◌, sym, ap, refl, ℕ, zero, suc, ◌<◌, ◌≤◌, List, [], ◌∷◌, length, drop, map, get_or, Bor, Option, Some, None, arith}
+use Rattle.std.proofs.Common.{◌≡◌, ◌≢◌, sym, ap, refl, ℕ, zero, suc, ◌<◌, ◌≤◌, List, [], ◌∷◌, length, drop, map, get_or, Bor, Some, None, arith}
 use Rattle.ix_tree.specs.declared.extension.Piece.{Piece}
 use Rattle.rv_asm_text.specs.declared.number.Number.{Number}
 use Rattle.rv_asm_field.specs.declared.operand.Operand.{Operand}

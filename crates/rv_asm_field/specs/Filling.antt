@@ -1,6 +1,6 @@
 -- The word of an extension's instruction: its fixed bits, and each operand's bits in the places of its field's pieces
 -- (CoreDSL 2, instruction encodings; the range of a number is this project's choice).
-use Rattle.std.specs.Prelude.{◌≡◌, ℕ, ◌+◌, ◌-◌, ◌*◌, ◌/◌, ◌%◌, ◌^◌, List, [], ◌∷◌, Option, Some, None, Bool, ◌==◌, if◌then◌else◌, nat_le, nat_lt, min, max, bit_or, slice_get}
+use Rattle.std.specs.Prelude.{ℕ, ◌+◌, ◌-◌, ◌*◌, ◌/◌, ◌%◌, ◌^◌, List, [], ◌∷◌, Option, Some, None, Bool, ◌==◌, if◌then◌else◌, nat_le, nat_lt, min, max, bit_or, slice_get}
 use Rattle.std.specs.Option.{option_and_then}
 use Rattle.ix_tree.specs.declared.extension.Piece.{Piece}
 use Rattle.ix_tree.specs.Lexing.{same_bytes}

@@ -1,10 +1,9 @@
 -- The operands of an extension's instruction are its fields: first those by which the behaviour indexes X, in the order of bits 11:7, 19:15 and 24:20,
 -- which take registers, then the others in the order of their first pieces, which take numbers (this project's choice).
-use Rattle.std.specs.Prelude.{◌≡◌, ℕ, suc, ◌+◌, List, [], ◌∷◌, ◌++◌, Option, Some, None, option_map, Bool, true, false, ◌&&◌, ◌||◌, ◌==◌, if◌then◌else◌}
+use Rattle.std.specs.Prelude.{ℕ, ◌+◌, List, [], ◌∷◌, ◌++◌, Option, option_map, Bool, true, false, ◌&&◌, ◌==◌, if◌then◌else◌}
 use Rattle.ix_tree.specs.declared.extension.Piece.{Piece}
 use Rattle.ix_tree.specs.Lexing.{same_bytes}
 use Rattle.ix_tree.specs.TypedTrees.{TypedStmtTree}
-use Rattle.ix_extension.specs.Extensions.{InstructionTree}
 use Rattle.rv_asm_text.specs.declared.number.Number.{Number}
 use Rattle.rv_asm_text.specs.Names.{register_of}
 use Rattle.rv_asm_text.specs.Numbers.{number_of, positive}

@@ -1,6 +1,6 @@
 -- The forms of the mnemonics, a line each, and the words of the base instructions
 -- (RISC-V Unprivileged ISA, RV32I Base Integer Instruction Set; the short forms as in its "RISC-V Assembly Programmer's Handbook").
-use Rattle.std.specs.Prelude.{◌≡◌, ℕ, ◌+◌, ◌-◌, ◌*◌, ◌%◌, ◌^◌, ℤ, pos, ◌-ℤ◌, List, [], ◌∷◌, Bool, true, false, not, ◌&&◌, ◌==◌, if◌then◌else◌, nat_le, nat_lt, slice_index_or}
+use Rattle.std.specs.Prelude.{ℕ, ◌-◌, ◌*◌, ◌%◌, ◌^◌, ℤ, pos, ◌-ℤ◌, List, [], ◌∷◌, Bool, true, false, ◌==◌, if◌then◌else◌, nat_le, nat_lt, slice_index_or}
 use Rattle.rv_isa.specs.Table.{format_of}
 use Rattle.rv_isa.specs.Fields.{upper_of}
 use Rattle.rv_isa.specs.Encoded.{encoded}

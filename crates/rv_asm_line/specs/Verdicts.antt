@@ -1,5 +1,5 @@
 -- What is said of a line, with the labels known: its word, or the first of Line, Label and Reach (this project's choice).
-use Rattle.std.specs.Prelude.{◌≡◌, ℕ, List, [], ◌∷◌, length, Option, Some, None, Bool, true, false, ◌==◌, if◌then◌else◌, nat_lt, slice_index_or}
+use Rattle.std.specs.Prelude.{ℕ, List, [], ◌∷◌, length, Option, Some, None, Bool, true, false, ◌==◌, if◌then◌else◌, slice_index_or}
 use Rattle.ix_extension.specs.Extensions.{InstructionTree}
 use Rattle.rv_asm_text.specs.declared.number.Number.{Number}
 use Rattle.rv_asm_text.specs.Lines.{instruction_of, name_of, operands_of, indexed_of}

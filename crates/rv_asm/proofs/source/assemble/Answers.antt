@@ -1,4 +1,4 @@
-use Rattle.std.proofs.Common.{◌≡◌, ◌∙◌, ap, sym, map, List, ℕ, Bor, arith}
+use Rattle.std.proofs.Common.{◌≡◌, ◌∙◌, ap, map, List, ℕ, Bor, arith}
 use Rattle.ix_tree.specs.declared.extension.Instruction.{Instruction}
 use Rattle.ix_extension.specs.Extensions.{view_instruction}
 use Rattle.rv_asm_text.specs.Lines.{lines_of}

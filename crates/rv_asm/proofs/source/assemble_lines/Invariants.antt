@@ -1,4 +1,4 @@
-use Rattle.std.proofs.Common.{◌≡◌, ◌≤◌, ℕ, List, Bor, map, drop, length}
+use Rattle.std.proofs.Common.{◌≡◌, ℕ, List, Bor, map, drop, length}
 use Rattle.ix_extension.specs.Extensions.{view_instruction}
 use Rattle.rv_asm_line.specs.Labels.{found}
 use Rattle.rv_asm.specs.Sources.{assembled_from, prepended}

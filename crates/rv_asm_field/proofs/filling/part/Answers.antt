@@ -1,4 +1,4 @@
-use Rattle.std.proofs.Common.{◌+◌, ◌-◌, ◌≡◌, ◌∙◌, ◌*◌, ◌/◌, ◌%◌, ◌^◌, ap, sym, arith, ℕ}
+use Rattle.std.proofs.Common.{◌+◌, ◌-◌, ◌≡◌, ◌∙◌, ◌/◌, ◌%◌, ◌^◌, ap, arith, ℕ}
 use Rattle.rv_isa.proofs.BitLemmas.{and_ones}
 use Rattle.rv_asm_field.proofs.Bits.{nothing_past, all_of}
 use Rattle.rv_asm_field.proofs.filling.part.Goals as goal

@@ -1,4 +1,4 @@
-use Rattle.std.proofs.Common.{◌≡◌, length, map}
+use Rattle.std.proofs.Common.{◌≡◌, length}
 use Rattle.rv_asm_field.specs.Filling.{placed_from}
 use Rattle.rv_asm_field.proofs.filling.placed.Given as goal
 

@@ -1,4 +1,4 @@
-use Rattle.std.proofs.Common.{◌∙◌, List, sym, ap, refl}
+use Rattle.std.proofs.Common.{◌∙◌, List, sym, ap}
 use Rattle.ix_tree.specs.declared.typed.TypedStmt.{TypedStmt}
 use Rattle.ix_tree.specs.TypedView.{typed_items, typed_stmt}
 use Rattle.ix_tree.proofs.TypedViews.{typed_block_view}

@@ -1,4 +1,4 @@
-use Rattle.std.proofs.Common.{◌≡◌, length, map}
+use Rattle.std.proofs.Common.{◌≡◌, length}
 use Rattle.rv_asm_field.specs.Operands.{has_field}
 use Rattle.rv_asm_field.proofs.operand.has_field.Given as goal
 

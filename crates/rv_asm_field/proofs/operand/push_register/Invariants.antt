@@ -1,4 +1,4 @@
-use Rattle.std.proofs.Common.{◌≡◌, ◌++◌, [], drop, take, map}
+use Rattle.std.proofs.Common.{◌≡◌, ◌++◌, drop, map}
 use Rattle.ix_tree.specs.TypedView.{typed_whole}
 use Rattle.rv_asm_field.specs.Operands.{register_from}
 use Rattle.rv_asm_field.proofs.operand.push_register.Given as goal

@@ -1,4 +1,4 @@
-use Rattle.std.proofs.Common.{◌∙◌, sym, ap, Some, List, ℕ, Option}
+use Rattle.std.proofs.Common.{◌∙◌, ap, Some, List, ℕ, Option}
 use Rattle.std.proofs.lemmas.Map.Text.{btree_map_updates_str}
 use Rattle.rv_asm_line.specs.Labels.{found, kept, marked, is_labelled}
 use Rattle.rv_asm_line.proofs.Noting.{noted}
