@@ -5,56 +5,66 @@ use Rattle.ix_io.specs.Limits.{most_bytes}
 use Rattle.ix_io.specs.Shelf.{NamedFiles, told_file}
 use Rattle.ix_io.specs.Sink.{Appends}
 use Rattle.ix_tool.specs.declared.status.Status.{Status}
-use Rattle.ix_tool.specs.declared.status.Status.TheVariants.{Ok as ok_status, Usage, ReadFault, WriteFault, TooLong, Extension as extension_status, Image as image_status, Certificate, Memory}
+use Rattle.ix_tool.specs.declared.status.Status.TheVariants.{Ok as ok_status, Usage, ReadFault, WriteFault, TooLong, Extension as extension_status, Image as image_status, Certificate, Memory, Source}
+use Rattle.ix_tool.specs.declared.command.Command.TheVariants.{Assemble}
 use Rattle.ix_tool.specs.declared.command.Command.{Command}
 use Rattle.ix_tool.specs.declared.command.FileKind.{FileKind}
-use Rattle.ix_tool.specs.declared.command.FileKind.TheVariants.{Image, Report, Extension}
+use Rattle.ix_tool.specs.declared.command.FileKind.TheVariants.{Image, Report, Extension, Source as source_kind}
 use Rattle.ix_tool.specs.Readings.{Reading}
 use Rattle.ix_tool.specs.CommandLine.{command_of, slots_of, behind}
-use Rattle.ix_tool.specs.CommandOutput.{Outcome, RoseIn, NoneRises, file_line, refusal_status, IsRefusedText, IsRefusedFile, not_read, too_long, bad_text, IsFirstRefused, IsAnswer, IsDue, due_usage, due_file, due_answer, UsageAnswer, ReadFaultAnswer, WriteFaultAnswer, TooLongAnswer, IsFileOf, TextAnswer, OutputAnswer, IsBuiltAnswer, IsStatusOr, Premises, Completes}
+use Rattle.ix_tool.specs.CommandOutput.{Outcome, RoseIn, NoneRises, file_line, refusal_status, IsRefusedText, IsRefusedFile, not_read, too_long, bad_text, IsFirstRefused, IsAnswer, IsDue, due_usage, due_file, due_answer, UsageAnswer, ReadFaultAnswer, WriteFaultAnswer, TooLongAnswer, IsFileOf, TextAnswer, OutputAnswer, SourceAnswer, AreRead, IsBuiltAnswer, IsStatusOr, Premises, Completes}
 use Rattle.ix_tool.proofs.Reading.{at_found}
 use Rattle.ix_tool.proofs.Due.{all_one, not_refused, own_status, commanded, usage_alone, due_one}
 
 -- ---- statuses are apart
 -- a status that refuses a text is none of these
-no_text : (s : Status) → (image_status ≡ s → ⊥) → (Certificate ≡ s → ⊥) → (extension_status ≡ s → ⊥) → (kind : FileKind) → refusal_status kind ≡ s → ⊥
-no_text s i r x Image e = i e
-no_text s i r x Report e = r e
-no_text s i r x Extension e = x e
+no_text : (s : Status) → (image_status ≡ s → ⊥) → (Certificate ≡ s → ⊥) → (extension_status ≡ s → ⊥) → (Source ≡ s → ⊥) → (kind : FileKind) → refusal_status kind ≡ s → ⊥
+no_text s i r x o Image e = i e
+no_text s i r x o Report e = r e
+no_text s i r x o Extension e = x e
+no_text s i r x o source_kind e = o e
 
 text_no_usage : (kind : FileKind) → refusal_status kind ≡ Usage → ⊥
-text_no_usage = no_text Usage (λ q. cc) (λ q. cc) (λ q. cc)
+text_no_usage = no_text Usage (λ q. cc) (λ q. cc) (λ q. cc) (λ q. cc)
 
 text_no_read_fault : (kind : FileKind) → refusal_status kind ≡ ReadFault → ⊥
-text_no_read_fault = no_text ReadFault (λ q. cc) (λ q. cc) (λ q. cc)
+text_no_read_fault = no_text ReadFault (λ q. cc) (λ q. cc) (λ q. cc) (λ q. cc)
 
 text_no_write_fault : (kind : FileKind) → refusal_status kind ≡ WriteFault → ⊥
-text_no_write_fault = no_text WriteFault (λ q. cc) (λ q. cc) (λ q. cc)
+text_no_write_fault = no_text WriteFault (λ q. cc) (λ q. cc) (λ q. cc) (λ q. cc)
 
 text_not_long : (kind : FileKind) → refusal_status kind ≡ TooLong → ⊥
-text_not_long = no_text TooLong (λ q. cc) (λ q. cc) (λ q. cc)
+text_not_long = no_text TooLong (λ q. cc) (λ q. cc) (λ q. cc) (λ q. cc)
 
 text_not_ok : (kind : FileKind) → refusal_status kind ≡ ok_status → ⊥
-text_not_ok = no_text ok_status (λ q. cc) (λ q. cc) (λ q. cc)
+text_not_ok = no_text ok_status (λ q. cc) (λ q. cc) (λ q. cc) (λ q. cc)
 
 text_no_memory : (kind : FileKind) → refusal_status kind ≡ Memory → ⊥
-text_no_memory = no_text Memory (λ q. cc) (λ q. cc) (λ q. cc)
+text_no_memory = no_text Memory (λ q. cc) (λ q. cc) (λ q. cc) (λ q. cc)
 
 text_is_built : (kind : FileKind) → IsBuiltAnswer (refusal_status kind)
 text_is_built Image = tt
 text_is_built Report = tt
 text_is_built Extension = tt
+text_is_built source_kind = tt
 
 one_kind : (found kind : FileKind) → refusal_status found ≡ refusal_status kind → found ≡ kind
 one_kind Image Image e = refl
 one_kind Image Report e = cc
 one_kind Image Extension e = cc
+one_kind Image source_kind e = cc
 one_kind Report Image e = cc
 one_kind Report Report e = refl
 one_kind Report Extension e = cc
+one_kind Report source_kind e = cc
 one_kind Extension Image e = cc
 one_kind Extension Report e = cc
 one_kind Extension Extension e = refl
+one_kind Extension source_kind e = cc
+one_kind source_kind Image e = cc
+one_kind source_kind Report e = cc
+one_kind source_kind Extension e = cc
+one_kind source_kind source_kind e = refl
 
 -- the status of a file's refusal, by what is so of each
 of_refusal : (P : Status → Type 0) → P ReadFault → P TooLong → ((kind : FileKind) → P (refusal_status kind)) → (files : Option NamedFiles) (R : List ℕ → Type 0) (kind : FileKind) (name : List ℕ) (status : Status) (line : List ℕ) → IsRefusedFile files R kind name status line → P status
@@ -68,15 +78,15 @@ of_first P f l t files R command words status line h =
     of_refusal P f l t files R found.0 found.1 status line found.2
 
 -- the status of a command's answer, by what is so of each
-of_answer : (P : Status → Type 0) → P ok_status → (command : Command) (vs : List Reading) (status : Status) (bytes : List ℕ) → IsAnswer command vs status bytes → P status
-of_answer P o command vs status bytes (inl own) = own_status P command vs status bytes own
-of_answer P o command vs status bytes (inr out) = subst P (sym out.0) o
+of_answer : (P : Status → Type 0) → P ok_status → P Source → (command : Command) (vs : List Reading) (status : Status) (bytes : List ℕ) → IsAnswer command vs status bytes → P status
+of_answer P o s command vs status bytes (inl own) = own_status P s command vs status bytes own
+of_answer P o s command vs status bytes (inr out) = subst P (sym out.0) o
 
 -- a status that is due, by what is so of each
 of_due : (P : Status → Type 0) → P ok_status → P Usage → P ReadFault → P TooLong → ((kind : FileKind) → P (refusal_status kind)) → (files : Option NamedFiles) (R : List ℕ → Type 0) (words : List (List ℕ)) (status : Status) (bytes : List ℕ) → IsDue files R words status bytes → P status
 of_due P o u f l t files R words _ _ (due_usage none) = u
 of_due P o u f l t files R words _ _ (due_file command status line is first) = of_first P f l t files R command words status line first
-of_due P o u f l t files R words _ _ (due_answer command vs status bytes is read answer) = of_answer P o command vs status bytes answer
+of_due P o u f l t files R words _ _ (due_answer command vs status bytes is read answer) = of_answer P o (t source_kind) command vs status bytes answer
 
 due_no_fault : (files : Option NamedFiles) (R : List ℕ → Type 0) (words : List (List ℕ)) (status : Status) (bytes : List ℕ) → IsDue files R words status bytes → status ≡ WriteFault → ⊥
 due_no_fault = of_due (λ s. s ≡ WriteFault → ⊥) (λ e. cc) (λ e. cc) (λ e. cc) (λ e. cc) text_no_write_fault
@@ -89,7 +99,7 @@ usage_of : (files : Option NamedFiles) (R : List ℕ → Type 0) (words : List (
 usage_of files R words before now _ _ (due_usage none) e a = (none, a)
 usage_of files R words before now _ _ (due_file command status line is first) e a =
     absurd (of_first (λ s. s ≡ Usage → ⊥) (λ q. cc) (λ q. cc) text_no_usage files R command words status line first e)
-usage_of files R words before now _ _ (due_answer command vs status bytes is read answer) e a = absurd (of_answer (λ s. s ≡ Usage → ⊥) (λ q. cc) command vs status bytes answer e)
+usage_of files R words before now _ _ (due_answer command vs status bytes is read answer) e a = absurd (of_answer (λ s. s ≡ Usage → ⊥) (λ q. cc) (λ q. cc) command vs status bytes answer e)
 
 fault_of : (files : Option NamedFiles) (counts counts_now : List ℕ → ℕ) (before now : Option (List ℕ)) (kind : FileKind) (name : List ℕ) (status : Status) (line : List ℕ) → IsRefusedFile files (RoseIn counts counts_now) kind name status line → status ≡ ReadFault → Appends before now line
     → RoseIn counts counts_now name × Appends before now (file_line (codes "ReadFault") name)
@@ -103,7 +113,7 @@ read_fault_of files counts counts_now words before now _ _ (due_file command sta
     let found = at_found files (λ kind name. IsRefusedFile files (RoseIn counts counts_now) kind name status line) (slots_of command) (behind words) first in
     let cause = fault_of files counts counts_now before now found.0 found.1 status line found.2 e a in
     record { command = command; kind = found.0; name = found.1; command_is = is; file = found.3; rose = cause.0; line = cause.1 }
-read_fault_of files counts counts_now words before now _ _ (due_answer command vs status bytes is read answer) e a = absurd (of_answer (λ s. s ≡ ReadFault → ⊥) (λ q. cc) command vs status bytes answer e)
+read_fault_of files counts counts_now words before now _ _ (due_answer command vs status bytes is read answer) e a = absurd (of_answer (λ s. s ≡ ReadFault → ⊥) (λ q. cc) (λ q. cc) command vs status bytes answer e)
 
 long_of : (files : Option NamedFiles) (R : List ℕ → Type 0) (before now : Option (List ℕ)) (kind : FileKind) (name : List ℕ) (status : Status) (line : List ℕ) → IsRefusedFile files R kind name status line → status ≡ TooLong → Appends before now line
     → IfSome (told_file files name) (λ file. most_bytes < length file) × Appends before now (file_line (codes "TooLong") name)
@@ -117,7 +127,7 @@ too_long_of files R words before now _ _ (due_file command status line is first)
     let found = at_found files (λ kind name. IsRefusedFile files R kind name status line) (slots_of command) (behind words) first in
     let cause = long_of files R before now found.0 found.1 status line found.2 e a in
     record { command = command; kind = found.0; name = found.1; command_is = is; file = found.3; long = cause.0; line = cause.1 }
-too_long_of files R words before now _ _ (due_answer command vs status bytes is read answer) e a = absurd (of_answer (λ s. s ≡ TooLong → ⊥) (λ q. cc) command vs status bytes answer e)
+too_long_of files R words before now _ _ (due_answer command vs status bytes is read answer) e a = absurd (of_answer (λ s. s ≡ TooLong → ⊥) (λ q. cc) (λ q. cc) command vs status bytes answer e)
 
 bad_of : (files : Option NamedFiles) (R : List ℕ → Type 0) (words : List (List ℕ)) (kind : FileKind) (before now : Option (List ℕ)) (command : Command) (found : FileKind) (name : List ℕ) (status : Status) (line : List ℕ) → command_of words ≡ Some command → IsRefusedFile files R found name status line
     → IsFileOf files found name (slots_of command) (behind words) → status ≡ refusal_status kind → Appends before now line → TextAnswer files words kind before now
@@ -137,20 +147,49 @@ bad_of files R words kind before now command found name _ _ is (bad_text bytes l
       written = a;
     }
 
-text_of_kind : (files : Option NamedFiles) (R : List ℕ → Type 0) (words : List (List ℕ)) (kind : FileKind) (before now : Option (List ℕ)) (status : Status) (bytes : List ℕ) → IsDue files R words status bytes → status ≡ refusal_status kind → Appends before now bytes → TextAnswer files words kind before now
-text_of_kind files R words kind before now _ _ (due_usage none) e a = absurd (text_no_usage kind (sym e))
-text_of_kind files R words kind before now _ _ (due_file command status line is first) e a =
+text_of_kind : (files : Option NamedFiles) (R : List ℕ → Type 0) (words : List (List ℕ)) (kind : FileKind) → (refusal_status kind ≡ Source → ⊥) → (before now : Option (List ℕ)) (status : Status) (bytes : List ℕ) → IsDue files R words status bytes → status ≡ refusal_status kind → Appends before now bytes → TextAnswer files words kind before now
+text_of_kind files R words kind apart before now _ _ (due_usage none) e a = absurd (text_no_usage kind (sym e))
+text_of_kind files R words kind apart before now _ _ (due_file command status line is first) e a =
     let found = at_found files (λ other name. IsRefusedFile files R other name status line) (slots_of command) (behind words) first in
     bad_of files R words kind before now command found.0 found.1 status line is found.2 found.3 e a
-text_of_kind files R words kind before now _ _ (due_answer command vs status bytes is read answer) e a =
-    absurd (of_answer (λ s. s ≡ refusal_status kind → ⊥) (λ q. text_not_ok kind (sym q)) command vs status bytes answer e)
+text_of_kind files R words kind apart before now _ _ (due_answer command vs status bytes is read answer) e a =
+    absurd (of_answer (λ s. s ≡ refusal_status kind → ⊥) (λ q. text_not_ok kind (sym q)) (λ q. apart (sym q)) command vs status bytes answer e)
 
 output_of : (files : Option NamedFiles) (R : List ℕ → Type 0) (words : List (List ℕ)) (before now : Option (List ℕ)) (status : Status) (bytes : List ℕ) → IsDue files R words status bytes → status ≡ ok_status → Appends before now bytes → OutputAnswer files words before now
 output_of files R words before now _ _ (due_usage none) e a = absurd cc
 output_of files R words before now _ _ (due_file command status line is first) e a =
     absurd (of_first (λ s. s ≡ ok_status → ⊥) (λ q. cc) (λ q. cc) text_not_ok files R command words status line first e)
-output_of files R words before now _ _ (due_answer command vs status bytes is read (inl own)) e a = absurd (own_status (λ s. s ≡ ok_status → ⊥) command vs status bytes own e)
+output_of files R words before now _ _ (due_answer command vs status bytes is read (inl own)) e a = absurd (own_status (λ s. s ≡ ok_status → ⊥) (λ q. cc) command vs status bytes own e)
 output_of files R words before now _ _ (due_answer command vs status bytes is read (inr out)) e a = record { command = command; values = vs; text = bytes; command_is = is; read = read; output = out.1; written = a }
+
+-- a source's file is never refused by its text alone
+no_source_file : (files : Option NamedFiles) (R : List ℕ → Type 0) (kind : FileKind) (name : List ℕ) (status : Status) (line : List ℕ) → IsRefusedFile files R kind name status line → status ≡ Source → ⊥
+no_source_file files R kind name _ _ (not_read rose) e = cc
+no_source_file files R kind name _ _ (too_long long) e = cc
+no_source_file files R Image name _ _ (bad_text bytes line file bad) e = cc
+no_source_file files R Report name _ _ (bad_text bytes line file bad) e = cc
+no_source_file files R Extension name _ _ (bad_text bytes line file bad) e = cc
+no_source_file files R source_kind name _ _ (bad_text bytes line file bad) e = bad
+
+source_answer_of : (files : Option NamedFiles) (R : List ℕ → Type 0) (words : List (List ℕ)) (before now : Option (List ℕ)) (status : Status) (bytes : List ℕ) → IsDue files R words status bytes → status ≡ Source → Appends before now bytes → SourceAnswer files words before now
+source_answer_of files R words before now _ _ (due_usage none) e a = absurd cc
+source_answer_of files R words before now _ _ (due_file command status line is first) e a =
+    let found = at_found files (λ kind name. IsRefusedFile files R kind name status line) (slots_of command) (behind words) first in
+    absurd (no_source_file files R found.0 found.1 status line found.2 e)
+source_answer_of files R words before now _ _ (due_answer command vs status bytes is read (inl own)) e a =
+    record {
+      values = vs;
+      extension = own.extension;
+      source = own.source;
+      error = own.error;
+      command_is = subst (λ c. command_of words ≡ Some c) own.command_is is;
+      read = subst (λ c. AreRead files (slots_of c) (behind words) vs) own.command_is read;
+      values_are = own.values_are;
+      no_memory = own.no_memory;
+      refused = own.refused;
+      written = subst (λ l. Appends before now l) own.line_is a;
+    }
+source_answer_of files R words before now _ _ (due_answer command vs status bytes is read (inr out)) e a = absurd (let ok = out.0 in grind (arith, ok, e))
 
 -- ---- from the outcome
 module _ (files : Option NamedFiles) (counts counts_now : List ℕ → ℕ) (words : List (List ℕ)) (before now : Option (List ℕ)) (faults faults_now : ℕ) (result : Status)
@@ -175,13 +214,16 @@ module _ (files : Option NamedFiles) (counts counts_now : List ℕ → ℕ) (wor
   too_long_answer e = let w = written (λ q. grind (arith, e, q)) (λ q. grind (arith, e, q)) in too_long_of files (RoseIn counts counts_now) words before now result w.0 w.1 e w.2
 
   pub image : result ≡ image_status → TextAnswer files words Image before now
-  image e = let w = written (λ q. grind (arith, e, q)) (λ q. grind (arith, e, q)) in text_of_kind files (RoseIn counts counts_now) words Image before now result w.0 w.1 e w.2
+  image e = let w = written (λ q. grind (arith, e, q)) (λ q. grind (arith, e, q)) in text_of_kind files (RoseIn counts counts_now) words Image (λ q. cc) before now result w.0 w.1 e w.2
 
   pub certificate : result ≡ Certificate → TextAnswer files words Report before now
-  certificate e = let w = written (λ q. grind (arith, e, q)) (λ q. grind (arith, e, q)) in text_of_kind files (RoseIn counts counts_now) words Report before now result w.0 w.1 e w.2
+  certificate e = let w = written (λ q. grind (arith, e, q)) (λ q. grind (arith, e, q)) in text_of_kind files (RoseIn counts counts_now) words Report (λ q. cc) before now result w.0 w.1 e w.2
 
   pub extension : result ≡ extension_status → TextAnswer files words Extension before now
-  extension e = let w = written (λ q. grind (arith, e, q)) (λ q. grind (arith, e, q)) in text_of_kind files (RoseIn counts counts_now) words Extension before now result w.0 w.1 e w.2
+  extension e = let w = written (λ q. grind (arith, e, q)) (λ q. grind (arith, e, q)) in text_of_kind files (RoseIn counts counts_now) words Extension (λ q. cc) before now result w.0 w.1 e w.2
+
+  pub source : result ≡ Source → SourceAnswer files words before now
+  source e = let w = written (λ q. grind (arith, e, q)) (λ q. grind (arith, e, q)) in source_answer_of files (RoseIn counts counts_now) words before now result w.0 w.1 e w.2
 
   pub output : result ≡ ok_status → OutputAnswer files words before now
   output e = let w = written (λ q. grind (arith, e, q)) (λ q. grind (arith, e, q)) in output_of files (RoseIn counts counts_now) words before now result w.0 w.1 e w.2

@@ -5,19 +5,22 @@ use Rattle.ix_io.specs.Limits.{most_bytes}
 use Rattle.ix_io.specs.Shelf.{NamedFiles, told_file, file_named}
 use Rattle.ix_cert.proofs.Verdicts.{faultless_not_refused}
 use Rattle.ix_tool.specs.declared.status.Status.{Status}
-use Rattle.ix_tool.specs.declared.status.Status.TheVariants.{Usage, ReadFault}
+use Rattle.ix_tool.specs.declared.status.Status.TheVariants.{Usage, ReadFault, Source}
+use Rattle.ix_tool.specs.declared.command.Command.TheVariants.{Assemble}
 use Rattle.ix_tool.specs.declared.command.Command.{Command}
 use Rattle.ix_tool.specs.declared.command.FileKind.{FileKind}
-use Rattle.ix_tool.specs.declared.command.FileKind.TheVariants.{Image, Report, Extension}
+use Rattle.ix_tool.specs.declared.command.FileKind.TheVariants.{Image, Report, Extension, Source as source_kind}
 use Rattle.ix_tool.specs.declared.command.Slot.{Slot}
 use Rattle.ix_tool.specs.declared.command.Slot.TheVariants.{Number, File}
-use Rattle.ix_tool.specs.Readings.{Reading, number_read, image_read, report_read, extension_read}
+use Rattle.ix_tool.specs.Readings.{Reading, number_read, image_read, report_read, extension_read, source_read}
 use Rattle.rv_asm.specs.ImageText.{IsImageText}
 use Rattle.ix_tool.specs.BuiltImages.{AllBuilt}
 use Rattle.ix_tool.specs.CommandLine.{command_of, slots_of, behind, number_within}
-use Rattle.ix_tool.specs.CommandOutput.{IsRefusedImage, bad_line, unbuilt_line, IsRefusedText, IsReadAs, IsFile, IsRead, AreRead, IsRefusedFile, not_read, too_long, bad_text, IsFirstRefused, IsOwnRefusal, IsAnswer, IsDue, due_usage, due_file, due_answer, NoneRises, NoFileRises}
+use Rattle.ix_tool.specs.CommandOutput.{IsRefusedImage, bad_line, unbuilt_line, IsRefusedText, IsReadAs, IsFile, IsRead, AreRead, IsRefusedFile, not_read, too_long, bad_text, IsFirstRefused, IsOwnRefusal, IsOutput, IsAnswer, IsDue, due_usage, due_file, due_answer, NoneRises, NoFileRises}
 use Rattle.ix_listing.proofs.OneExtension.{same_extension, extension_not_refused}
 use Rattle.rv_asm.proofs.ImageLemmas.{image_not_refused}
+use Rattle.rv_asm.proofs.Placing.{only_memory}
+use Rattle.rv_asm.specs.Sources.{assembled}
 use Rattle.ix_tool.proofs.BuiltWords.{built_not_refused}
 
 -- no value is some and none; one value is some of one thing
@@ -37,37 +40,56 @@ text_apart Image bytes line (image_read image) r bad = image_apart bytes image b
 text_apart Image bytes line (number_read n) r bad = r
 text_apart Image bytes line report_read r bad = r
 text_apart Image bytes line (extension_read x) r bad = r
+text_apart Image bytes line (source_read x) r bad = r
 text_apart Report bytes line report_read r bad = faultless_not_refused bytes bad.0 r bad.1
 text_apart Report bytes line (image_read image) r bad = r
 text_apart Report bytes line (number_read n) r bad = r
 text_apart Report bytes line (extension_read x) r bad = r
+text_apart Report bytes line (source_read x) r bad = r
 text_apart Extension bytes line (extension_read x) r bad = extension_not_refused bytes x bad.0 r bad.1
 text_apart Extension bytes line (image_read image) r bad = r
 text_apart Extension bytes line (number_read n) r bad = r
 text_apart Extension bytes line report_read r bad = r
+text_apart Extension bytes line (source_read x) r bad = r
+text_apart source_kind bytes line v r bad = bad
 
 text_one : (kind : FileKind) (bytes : List ℕ) (v u : Reading) → IsReadAs kind bytes v → IsReadAs kind bytes u → v ≡ u
 text_one Image bytes (image_read i) (image_read j) r s = ap (λ x. image_read x) (r.0.words_are ∙ sym s.0.words_are)
 text_one Image bytes (image_read i) (number_read n) r s = absurd s
 text_one Image bytes (image_read i) report_read r s = absurd s
 text_one Image bytes (image_read i) (extension_read y) r s = absurd s
+text_one Image bytes (image_read i) (source_read y) r s = absurd s
 text_one Image bytes (number_read n) u r s = absurd r
 text_one Image bytes report_read u r s = absurd r
 text_one Image bytes (extension_read x) u r s = absurd r
+text_one Image bytes (source_read x) u r s = absurd r
 text_one Report bytes report_read report_read r s = refl
 text_one Report bytes report_read (image_read i) r s = absurd s
 text_one Report bytes report_read (number_read n) r s = absurd s
 text_one Report bytes report_read (extension_read y) r s = absurd s
+text_one Report bytes report_read (source_read y) r s = absurd s
 text_one Report bytes (number_read n) u r s = absurd r
 text_one Report bytes (image_read i) u r s = absurd r
 text_one Report bytes (extension_read x) u r s = absurd r
+text_one Report bytes (source_read x) u r s = absurd r
 text_one Extension bytes (extension_read x) (extension_read y) r s = ap (λ z. extension_read z) (same_extension bytes x y r s)
 text_one Extension bytes (extension_read x) (image_read i) r s = absurd s
 text_one Extension bytes (extension_read x) (number_read n) r s = absurd s
 text_one Extension bytes (extension_read x) report_read r s = absurd s
+text_one Extension bytes (extension_read x) (source_read y) r s = absurd s
 text_one Extension bytes (image_read i) u r s = absurd r
 text_one Extension bytes (number_read n) u r s = absurd r
 text_one Extension bytes report_read u r s = absurd r
+text_one Extension bytes (source_read x) u r s = absurd r
+text_one source_kind bytes (source_read x) (source_read y) r s = ap (λ z. source_read z) (r ∙ sym s)
+text_one source_kind bytes (source_read x) (image_read i) r s = absurd s
+text_one source_kind bytes (source_read x) (number_read n) r s = absurd s
+text_one source_kind bytes (source_read x) report_read r s = absurd s
+text_one source_kind bytes (source_read x) (extension_read y) r s = absurd s
+text_one source_kind bytes (image_read i) u r s = absurd r
+text_one source_kind bytes (number_read n) u r s = absurd r
+text_one source_kind bytes report_read u r s = absurd r
+text_one source_kind bytes (extension_read x) u r s = absurd r
 
 -- ---- a told file has one text
 same_file : (files : Option NamedFiles) (name a b : List ℕ) → files ≢ None → IsFile files name a → IsFile files name b → a ≡ b
@@ -155,15 +177,23 @@ none_rises (File kind ∷ slots) [] = tt
 none_rises (Number most ∷ slots) (word ∷ words) = none_rises slots words
 none_rises (File kind ∷ slots) (word ∷ words) = (λ rose. rose, none_rises slots words)
 
--- ---- a command's own refusals, of which there are none yet
+-- ---- a command's own refusals, which are those of sources
 -- their statuses, by what is so of each
-pub own_status : (P : Status → Type 0) (command : Command) (vs : List Reading) (status : Status) (line : List ℕ) → IsOwnRefusal command vs status line → P status
-own_status P command vs status line own = absurd own
+pub own_status : (P : Status → Type 0) → P Source → (command : Command) (vs : List Reading) (status : Status) (line : List ℕ) → IsOwnRefusal command vs status line → P status
+own_status P s command vs status line own = subst P (sym own.status_is) s
+
+-- a source that is refused has no words
+own_apart : (command : Command) (vs : List Reading) (s : Status) (a b : List ℕ) → IsOwnRefusal command vs s a → IsOutput command vs b → ⊥
+own_apart command vs s a b own out =
+    let there : IsOutput Assemble (extension_read own.extension ∷ source_read own.source ∷ []) b =
+    subst (λ us. IsOutput Assemble us b) own.values_are (subst (λ c. IsOutput c vs b) own.command_is out) in
+    own.no_memory (only_memory (assembled own.extension own.source) own.error there.0 own.refused there.1)
 
 -- a command answers its values with one status
 answer_one : (command : Command) (vs : List Reading) (s t : Status) (a b : List ℕ) → IsAnswer command vs s a → IsAnswer command vs t b → s ≡ t
-answer_one command vs s t a b (inl own) other = absurd own
-answer_one command vs s t a b (inr out) (inl own) = absurd own
+answer_one command vs s t a b (inl own) (inl other) = own.status_is ∙ sym other.status_is
+answer_one command vs s t a b (inl own) (inr out) = absurd (own_apart command vs s a b own out.1)
+answer_one command vs s t a b (inr out) (inl own) = absurd (own_apart command vs t b a own out.1)
 answer_one command vs s t a b (inr out) (inr other) = out.0 ∙ sym other.0
 
 -- ---- what is due to a command: a refusal of a file, or its answer

@@ -9,17 +9,19 @@ use Rattle.ix_io.specs.Sink.{Appends}
 use Rattle.ix_cert.specs.Certificates.{IsFaultless}
 use Rattle.ix_cert.proofs.Verdicts.{faultless_certified}
 use Rattle.ix_tool.specs.declared.command.Command.{Command}
-use Rattle.ix_tool.specs.declared.command.Command.TheVariants.{RunImage, Check, Certify}
-use Rattle.ix_tool.specs.declared.command.FileKind.TheVariants.{Image, Report, Extension}
-use Rattle.ix_tool.specs.Readings.{Reading, number_read, image_read, report_read, extension_read}
-use Rattle.rv_asm.specs.ImageText.{IsImageText}
+use Rattle.ix_tool.specs.declared.command.Command.TheVariants.{RunImage, Check, Certify, Assemble}
+use Rattle.ix_tool.specs.declared.command.FileKind.TheVariants.{Image, Report, Extension, Source as source_kind}
+use Rattle.ix_tool.specs.Readings.{Reading, number_read, image_read, report_read, extension_read, source_read}
+use Rattle.rv_asm.specs.ImageText.{IsImageText, image_text}
+use Rattle.rv_asm.specs.Sources.{Assembles}
+use Rattle.ix_io.specs.Limits.{most_bytes}
 use Rattle.ix_extension.specs.Extensions.{ExtensionTree}
 use Rattle.ix_elab.specs.Elaborating.{Elaborates}
 use Rattle.ix_listing.specs.Listing.{listing_text}
 use Rattle.ix_listing.proofs.OneExtension.{is_well_formed}
 use Rattle.ix_tool.specs.BuiltImages.{AllBuilt}
-use Rattle.ix_tool.specs.CommandLine.{command_of, commands, first_command, is_command, slots_of, fits_slots, behind, number_within, run_of, run_command, extension_of, report_of}
-use Rattle.ix_tool.specs.CommandOutput.{IsReadAs, IsFile, AreRead, IsOutput, Takes, OutputAnswer, RunAnswer, ListedAnswer, CertifiedAnswer, image_of_run, told_of}
+use Rattle.ix_tool.specs.CommandLine.{command_of, commands, first_command, is_command, slots_of, fits_slots, behind, number_within, run_of, run_command, AsmCommand, extension_of, report_of, source_of}
+use Rattle.ix_tool.specs.CommandOutput.{IsReadAs, IsFile, AreRead, IsOutput, Takes, OutputAnswer, RunAnswer, ListedAnswer, CertifiedAnswer, AssembledAnswer, image_of_run, told_of}
 use Rattle.ix_tool.proofs.Due.{both, one}
 
 -- ---- the words of a command
@@ -49,18 +51,28 @@ image_of bytes (image_read image) r = (image, refl, r.0, r.1)
 image_of bytes (number_read n) r = absurd r
 image_of bytes report_read r = absurd r
 image_of bytes (extension_read x) r = absurd r
+image_of bytes (source_read x) r = absurd r
 
 report_in : (bytes : List ℕ) (v : Reading) → IsReadAs Report bytes v → (v ≡ report_read) × IsFaultless bytes
 report_in bytes report_read r = (refl, r)
 report_in bytes (image_read image) r = absurd r
 report_in bytes (number_read n) r = absurd r
 report_in bytes (extension_read x) r = absurd r
+report_in bytes (source_read x) r = absurd r
 
 extension_in : (bytes : List ℕ) (v : Reading) → IsReadAs Extension bytes v → (x : ExtensionTree) × (v ≡ extension_read x) × Elaborates bytes x
 extension_in bytes (extension_read x) r = (x, refl, r)
 extension_in bytes (image_read image) r = absurd r
 extension_in bytes (number_read n) r = absurd r
 extension_in bytes report_read r = absurd r
+extension_in bytes (source_read x) r = absurd r
+
+source_in : (bytes : List ℕ) (v : Reading) → IsReadAs source_kind bytes v → v ≡ source_read bytes
+source_in bytes (source_read text) r = ap (λ t. source_read t) r
+source_in bytes (image_read image) r = absurd r
+source_in bytes (number_read n) r = absurd r
+source_in bytes report_read r = absurd r
+source_in bytes (extension_read x) r = absurd r
 
 pub record IsRunRead (files : Option NamedFiles) (rest : List (List ℕ)) (vs : List Reading) : Type 0 where
   pub name : List ℕ
@@ -133,11 +145,46 @@ extension_is_read files (a ∷ []) (v ∷ []) h =
     let r = extension_in h.0.0 v h.0.2 in
     record { name = a; bytes = h.0.0; extension = r.0; words = refl; values = ap (λ x. x ∷ []) r.1; file = h.0.1; elaborates = r.2 }
 
+pub record IsSourceRead (files : Option NamedFiles) (rest : List (List ℕ)) (vs : List Reading) : Type 0 where
+  pub name : List ℕ
+  pub other : List ℕ
+  pub bytes : List ℕ
+  pub extension : ExtensionTree
+  pub source : List ℕ
+  pub words : rest ≡ name ∷ other ∷ []
+  pub values : vs ≡ extension_read extension ∷ source_read source ∷ []
+  pub file : IsFile files name bytes
+  pub elaborates : Elaborates bytes extension
+  pub source_file : IsFile files other source
+
+source_is_read : (files : Option NamedFiles) (rest : List (List ℕ)) (vs : List Reading) → AreRead files (slots_of Assemble) rest vs → IsSourceRead files rest vs
+source_is_read files [] vs h = absurd h
+source_is_read files (a ∷ rest) [] h = absurd h
+source_is_read files (a ∷ []) (v ∷ vs) h = absurd h.1
+source_is_read files (a ∷ b ∷ rest) (v ∷ []) h = absurd h.1
+source_is_read files (a ∷ b ∷ c ∷ rest) (v ∷ u ∷ vs) h = absurd h.1.1
+source_is_read files (a ∷ b ∷ []) (v ∷ u ∷ w ∷ vs) h = absurd h.1.1
+source_is_read files (a ∷ b ∷ []) (v ∷ u ∷ []) h =
+    let x = extension_in h.0.0 v h.0.2 in
+    record {
+      name = a;
+      other = b;
+      bytes = h.0.0;
+      extension = x.0;
+      source = h.1.0.0;
+      words = refl;
+      values = ap (λ y. y ∷ u ∷ []) x.1 ∙ ap (λ y. extension_read x.0 ∷ y ∷ []) (source_in h.1.0.0 u h.1.0.2);
+      file = h.0.1;
+      elaborates = x.2;
+      source_file = h.1.0.1;
+    }
+
 -- the values of the words are those that the command takes
 pub takes : (files : Option NamedFiles) (command : Command) (rest : List (List ℕ)) (vs : List Reading) → AreRead files (slots_of command) rest vs → Takes command vs
 takes files RunImage rest vs h = subst (λ x. Takes RunImage x) (sym (run_read files rest vs h).values) tt
 takes files Check rest vs h = subst (λ x. Takes Check x) (sym (extension_is_read files rest vs h).values) tt
 takes files Certify rest vs h = subst (λ x. Takes Certify x) (sym (report_is_read files rest vs h).values) tt
+takes files Assemble rest vs h = let r = source_is_read files rest vs h in subst (λ x. Takes Assemble x) (sym r.values) r.source_file.within
 
 -- ---- the headline
 -- the words of a run
@@ -153,9 +200,9 @@ two_no_run [] name command is e = absurd (true≢false (sym is))
 two_no_run (word ∷ rest) name command is e = ap (λ r. run_of (word ∷ r)) e
 
 -- and three are none of a file alone
-three_no_file : (words : List (List ℕ)) (name number : List ℕ) → is_command RunImage words ≡ true → behind words ≡ name ∷ number ∷ [] → (extension_of words ≡ None) × (report_of words ≡ None)
-three_no_file [] name number is e = absurd (true≢false (sym is))
-three_no_file (word ∷ rest) name number is e = (ap (λ r. extension_of (word ∷ r)) e, ap (λ r. report_of (word ∷ r)) e)
+three_no_file : (words : List (List ℕ)) (name number : List ℕ) (command : Command) → is_command command words ≡ true → behind words ≡ name ∷ number ∷ [] → (extension_of words ≡ None) × (report_of words ≡ None)
+three_no_file [] name number command is e = absurd (true≢false (sym is))
+three_no_file (word ∷ rest) name number command is e = (ap (λ r. extension_of (word ∷ r)) e, ap (λ r. report_of (word ∷ r)) e)
 
 -- the word of one command is none of another
 not_its_word : (a b c : List ℕ) → bytes_eq b c ≡ false → bytes_eq a b ≡ true → bytes_eq a c ≡ false
@@ -164,6 +211,18 @@ not_its_word a b c unlike same = subst (λ w. bytes_eq w c ≡ false) (sym ((byt
 none_where : (b : Bool) (name : List ℕ) → b ≡ false → (if b then Some name else None) ≡ None
 none_where true name e = absurd (true≢false e)
 none_where false name e = refl
+
+-- the words of an assembly are no run
+no_run : (b : Bool) (name : List ℕ) (o : Option ℕ) → b ≡ false → run_command b name o ≡ None
+no_run b name None e = refl
+no_run true name (Some n) e = absurd (true≢false e)
+no_run false name (Some n) e = refl
+
+asm_no_run : (words : List (List ℕ)) (name other : List ℕ) → is_command Assemble words ≡ true → behind words ≡ name ∷ other ∷ [] → run_of words ≡ None
+asm_no_run [] name other is e = absurd (true≢false (sym is))
+asm_no_run (word ∷ rest) name other is e =
+    ap (λ r. run_of (word ∷ r)) e
+    ∙ no_run (bytes_eq word (codes "run")) name (number_within 200000 other) (not_its_word word (codes "asm") (codes "run") refl (and_parts _ _ is).0)
 
 told_is : (files : Option NamedFiles) (name bytes : List ℕ) → told_file files name ≢ None → IsFile files name bytes → told_file files name ≡ Some bytes
 told_is None name bytes told f = absurd (told refl)
@@ -177,6 +236,9 @@ headline_of files words before now Certify vs text is read out a told =
 headline_of files words before now Check vs text is read out a told =
     let r = extension_is_read files (behind words) vs read in
     absurd (told (ap (λ o. image_of_run files o) (two_no_run words r.name Check is r.words)))
+headline_of files words before now Assemble vs text is read out a told =
+    let r = source_is_read files (behind words) vs read in
+    absurd (told (ap (λ o. image_of_run files o) (asm_no_run words r.name r.other is r.words)))
 headline_of files words before now RunImage vs text is read out a told =
     let r = run_read files (behind words) vs read in
     let run = run_words_are words r.name r.number r.cycles is r.words r.within in
@@ -214,10 +276,13 @@ certified_of : (files : Option NamedFiles) (words : List (List ℕ)) (before now
     → report_of words ≡ Some report → CertifiedAnswer files report before now
 certified_of files words before now RunImage vs text report is read out a e =
     let r = run_read files (behind words) vs read in
-    absurd (both (report_of words) report e (three_no_file words r.name r.number is r.words).1)
+    absurd (both (report_of words) report e (three_no_file words r.name r.number RunImage is r.words).1)
 certified_of files words before now Check vs text report is read out a e =
     let r = extension_is_read files (behind words) vs read in
     absurd (both (report_of words) report e (check_no_report words r.name is r.words))
+certified_of files words before now Assemble vs text report is read out a e =
+    let r = source_is_read files (behind words) vs read in
+    absurd (both (report_of words) report e (three_no_file words r.name r.other Assemble is r.words).1)
 certified_of files words before now Certify vs text report is read out a e =
     let r = report_is_read files (behind words) vs read in
     let within = r.file.within in
@@ -252,10 +317,13 @@ listed_of : (files : Option NamedFiles) (words : List (List ℕ)) (before now : 
     → extension_of words ≡ Some name → ListedAnswer files name before now
 listed_of files words before now RunImage vs text name is read out a e =
     let r = run_read files (behind words) vs read in
-    absurd (both (extension_of words) name e (three_no_file words r.name r.number is r.words).0)
+    absurd (both (extension_of words) name e (three_no_file words r.name r.number RunImage is r.words).0)
 listed_of files words before now Certify vs text name is read out a e =
     let r = report_is_read files (behind words) vs read in
     absurd (both (extension_of words) name e (certify_no_extension words r.name is r.words))
+listed_of files words before now Assemble vs text name is read out a e =
+    let r = source_is_read files (behind words) vs read in
+    absurd (both (extension_of words) name e (three_no_file words r.name r.other Assemble is r.words).0)
 listed_of files words before now Check vs text name is read out a e =
     let r = extension_is_read files (behind words) vs read in
     let listing : text ≡ listing_text r.extension = subst (λ x. IsOutput Check x text) r.values out in
@@ -270,3 +338,57 @@ listed_of files words before now Check vs text name is read out a e =
 
 pub listed : (files : Option NamedFiles) (words : List (List ℕ)) (before now : Option (List ℕ)) → OutputAnswer files words before now → (name : List ℕ) → extension_of words ≡ Some name → ListedAnswer files name before now
 listed files words before now o name e = listed_of files words before now o.command o.values o.text name (is_of words o.command o.command_is) o.read o.output o.written e
+
+-- ---- a source that is assembled
+none_asm : (b : Bool) (o : AsmCommand) → b ≡ false → (if b then Some o else None) ≡ None
+none_asm true o e = absurd (true≢false e)
+none_asm false o e = refl
+
+asm_words_are : (words : List (List ℕ)) (name other : List ℕ) (command : AsmCommand) → is_command Assemble words ≡ true → behind words ≡ name ∷ other ∷ [] → source_of words ≡ Some command → record { extension = name; source = other } ≡ command
+asm_words_are [] name other command is e h = absurd (true≢false (sym is))
+asm_words_are (word ∷ rest) name other command is e h =
+    let first = (and_parts _ _ is).0 in
+    let asked : AsmCommand = record { extension = name; source = other } in
+    let named : source_of (word ∷ rest) ≡ Some asked = ap (λ r. source_of (word ∷ r)) e ∙ ap (λ b. if b then Some asked else None) first in
+    one (source_of (word ∷ rest)) asked command named h
+
+-- two words are no assembly, and a run is none
+two_no_asm : (words : List (List ℕ)) (name : List ℕ) (command : Command) → is_command command words ≡ true → behind words ≡ name ∷ [] → source_of words ≡ None
+two_no_asm [] name command is e = absurd (true≢false (sym is))
+two_no_asm (word ∷ rest) name command is e = ap (λ r. source_of (word ∷ r)) e
+
+run_no_asm : (words : List (List ℕ)) (name number : List ℕ) → is_command RunImage words ≡ true → behind words ≡ name ∷ number ∷ [] → source_of words ≡ None
+run_no_asm [] name number is e = absurd (true≢false (sym is))
+run_no_asm (word ∷ rest) name number is e =
+    ap (λ r. source_of (word ∷ r)) e
+    ∙ none_asm (bytes_eq word (codes "asm")) (record { extension = name; source = number }) (not_its_word word (codes "run") (codes "asm") refl (and_parts _ _ is).0)
+
+assembled_of : (files : Option NamedFiles) (words : List (List ℕ)) (before now : Option (List ℕ)) (command : Command) (vs : List Reading) (text : List ℕ) (asked : AsmCommand) → is_command command words ≡ true → AreRead files (slots_of command) (behind words) vs → IsOutput command vs text → Appends before now text
+    → source_of words ≡ Some asked → AssembledAnswer files asked before now
+assembled_of files words before now RunImage vs text asked is read out a e =
+    let r = run_read files (behind words) vs read in
+    absurd (both (source_of words) asked e (run_no_asm words r.name r.number is r.words))
+assembled_of files words before now Check vs text asked is read out a e =
+    let r = extension_is_read files (behind words) vs read in
+    absurd (both (source_of words) asked e (two_no_asm words r.name Check is r.words))
+assembled_of files words before now Certify vs text asked is read out a e =
+    let r = report_is_read files (behind words) vs read in
+    absurd (both (source_of words) asked e (two_no_asm words r.name Certify is r.words))
+assembled_of files words before now Assemble vs text asked is read out a e =
+    let r = source_is_read files (behind words) vs read in
+    let there : IsOutput Assemble (extension_read r.extension ∷ source_read r.source ∷ []) text = subst (λ x. IsOutput Assemble x text) r.values out in
+    let same = asm_words_are words r.name r.other asked is r.words e in
+    record {
+      text = r.bytes;
+      extension = r.extension;
+      source = r.source;
+      words = there.0;
+      extension_file = subst (λ n. IsFile files n r.bytes) (ap (λ (c : AsmCommand). c.extension) same) r.file;
+      elaborates = r.elaborates;
+      source_file = subst (λ n. IsFile files n r.source) (ap (λ (c : AsmCommand). c.source) same) r.source_file;
+      assembles = there.1;
+      written = subst (λ t. Appends before now t) there.2 a;
+    }
+
+pub assembled : (files : Option NamedFiles) (words : List (List ℕ)) (before now : Option (List ℕ)) → OutputAnswer files words before now → (asked : AsmCommand) → source_of words ≡ Some asked → AssembledAnswer files asked before now
+assembled files words before now o asked e = assembled_of files words before now o.command o.values o.text asked (is_of words o.command o.command_is) o.read o.output o.written e

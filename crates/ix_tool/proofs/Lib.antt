@@ -1,3 +1,4 @@
+mod Answering
 pub mod BuiltWords
 pub mod Words
 pub mod Judging

@@ -4,8 +4,8 @@ use Rattle.std.specs.Option.{option_and_then}
 use Rattle.std.specs.Str.{bytes_eq}
 use Rattle.std.specs.declared.alloc.Global.{Global}
 use Rattle.ix_tool.specs.declared.command.Command.{Command}
-use Rattle.ix_tool.specs.declared.command.Command.TheVariants.{RunImage, Check, Certify}
-use Rattle.ix_tool.specs.declared.command.FileKind.TheVariants.{Image, Report, Extension}
+use Rattle.ix_tool.specs.declared.command.Command.TheVariants.{RunImage, Check, Certify, Assemble}
+use Rattle.ix_tool.specs.declared.command.FileKind.TheVariants.{Image, Report, Extension, Source}
 use Rattle.ix_tool.specs.declared.command.Slot.{Slot}
 use Rattle.ix_tool.specs.declared.command.Slot.TheVariants.{Number, File}
 
@@ -35,16 +35,18 @@ abbrev pub word_of : Command → List ℕ
 word_of RunImage = codes "run"
 word_of Check = codes "check"
 word_of Certify = codes "certify"
+word_of Assemble = codes "asm"
 
 -- numbers and files, in the order of the words
 abbrev pub slots_of : Command → List Slot
 slots_of RunImage = File Image ∷ Number 200000 ∷ []
 slots_of Check = File Extension ∷ []
 slots_of Certify = File Report ∷ []
+slots_of Assemble = File Extension ∷ File Source ∷ []
 
 -- the commands, in the order in which words are tried
 abbrev pub commands : List Command
-commands = RunImage ∷ Check ∷ Certify ∷ []
+commands = RunImage ∷ Check ∷ Certify ∷ Assemble ∷ []
 
 -- ---- which command words are
 -- any word names a file; a number is at most the given one
@@ -110,6 +112,19 @@ report_of [] = None
 report_of (command ∷ []) = None
 report_of (command ∷ report ∷ []) = if bytes_eq command (codes "certify") then Some report else None
 report_of (command ∷ report ∷ more ∷ rest) = None
+
+-- ---- asm EXT SOURCE
+-- the extension and the source that these words ask to be assembled, if they do
+pub record AsmCommand : Type 0 where
+  pub extension : List ℕ
+  pub source : List ℕ
+
+abbrev pub source_of : List (List ℕ) → Option AsmCommand
+source_of [] = None
+source_of (command ∷ []) = None
+source_of (command ∷ extension ∷ []) = None
+source_of (command ∷ extension ∷ source ∷ []) = if bytes_eq command (codes "asm") then Some (record { extension = extension; source = source }) else None
+source_of (command ∷ extension ∷ source ∷ more ∷ rest) = None
 
 -- the bytes of the words
 abbrev pub bytes_of : List (String Global) → List (List ℕ)

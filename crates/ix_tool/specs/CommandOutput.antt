@@ -4,9 +4,9 @@ use Rattle.rv_trace.specs.declared.row.Row.{Row}
 use Rattle.ix_tool.specs.declared.status.Status.{Status}
 use Rattle.ix_tool.specs.declared.status.Status.TheVariants.{Ok as ok_status, Usage, ReadFault, WriteFault, TooLong, Extension as extension_status, Sheet, Image as image_status, NoSchedule, Certificate, Memory, Source, Waits}
 use Rattle.ix_tool.specs.declared.command.Command.{Command}
-use Rattle.ix_tool.specs.declared.command.Command.TheVariants.{RunImage, Check, Certify}
+use Rattle.ix_tool.specs.declared.command.Command.TheVariants.{RunImage, Check, Certify, Assemble}
 use Rattle.ix_tool.specs.declared.command.FileKind.{FileKind}
-use Rattle.ix_tool.specs.declared.command.FileKind.TheVariants.{Image, Report, Extension}
+use Rattle.ix_tool.specs.declared.command.FileKind.TheVariants.{Image, Report, Extension, Source as source_kind}
 use Rattle.ix_tool.specs.declared.command.Slot.{Slot}
 use Rattle.ix_tool.specs.declared.command.Slot.TheVariants.{Number, File}
 use Rattle.ix_tool.specs.declared.value.Value.{Value}
@@ -18,7 +18,10 @@ use Rattle.rv_core.specs.Kinds.{IsShapeOf}
 use Rattle.rv_trace.specs.Trace.{newest, architecture}
 use Rattle.rv_trace.specs.Headline.{Headline}
 use Rattle.rv_trace.specs.TraceText.{trace_text, state_text}
-use Rattle.rv_asm.specs.ImageText.{IsImageText, IsBadLine}
+use Rattle.rv_asm.specs.ImageText.{IsImageText, IsBadLine, image_text}
+use Rattle.rv_asm.specs.Sources.{Assembles, IsRefusedAs}
+use Rattle.rv_asm.specs.declared.source.AsmErr.{AsmErr}
+use Rattle.rv_asm.specs.declared.source.AsmErr.TheVariants as A
 use Rattle.ix_extension.specs.Extensions.{ExtensionTree}
 use Rattle.ix_extension.specs.WellFormed.{IsOf}
 use Rattle.ix_tree.specs.TypedTrees.{TypedTextTree}
@@ -28,8 +31,8 @@ use Rattle.ix_elab.specs.Refusing.{IsRefused as IsRefusedExtension}
 use Rattle.ix_listing.specs.Listing.{listing_text}
 use Rattle.ix_listing.specs.RefusalLine.{refusal_line}
 use Rattle.ix_tool.specs.BuiltImages.{AllBuilt, IsUnbuiltLine}
-use Rattle.ix_tool.specs.Readings.{Reading, number_read, image_read, report_read, extension_read, reading_of}
-use Rattle.ix_tool.specs.CommandLine.{RunCommand, run_of, report_of, command_of, slots_of, behind, number_within}
+use Rattle.ix_tool.specs.Readings.{Reading, number_read, image_read, report_read, extension_read, source_read, reading_of}
+use Rattle.ix_tool.specs.CommandLine.{RunCommand, AsmCommand, run_of, report_of, command_of, slots_of, behind, number_within}
 use Rattle.ix_cert.specs.declared.report.CertErr.{CertErr}
 use Rattle.ix_cert.specs.Certificates.{IsCertifiedText, IsFaultless, IsRefused as IsRefusedReport}
 use Rattle.ix_cert.specs.Words.{line_number, kind_word}
@@ -62,6 +65,17 @@ image_line number = codes "refused Image " ++ decimal number ++ codes "\n"
 abbrev pub certificate_line : CertErr → List ℕ
 certificate_line e = codes "refused Certificate " ++ decimal (line_number e) ++ codes " " ++ kind_word e ++ codes "\n"
 
+-- a refusal of a source, which names what fails and its line
+abbrev pub source_text : List ℕ → ℕ → List ℕ
+source_text kind at = codes "refused Source " ++ kind ++ codes " " ++ decimal at ++ codes "\n"
+
+abbrev pub source_line : AsmErr → List ℕ
+source_line (A.Line at) = source_text (codes "Line") at
+source_line (A.Label at) = source_text (codes "Label") at
+source_line (A.Reach at) = source_text (codes "Reach") at
+source_line (A.Size at) = source_text (codes "Size") at
+source_line A.Memory = []
+
 -- ---- what judges a file
 -- a line of the image is refused: the first that is none, or else the first whose word is not built
 pub data IsRefusedImage (bytes : List ℕ) : ℕ → Type 0 where
@@ -73,12 +87,14 @@ abbrev pub IsRefusedText : FileKind → List ℕ → List ℕ → Type 0
 IsRefusedText Image bytes line = (number : ℕ) × IsRefusedImage bytes number × (line ≡ image_line number)
 IsRefusedText Report bytes line = (e : CertErr) × IsRefusedReport bytes e × (line ≡ certificate_line e)
 IsRefusedText Extension bytes line = (e : FrontErr) × IsRefusedExtension bytes e × (line ≡ refusal_line e)
+IsRefusedText source_kind bytes line = ⊥
 
 -- the status of that refusal
 abbrev pub refusal_status : FileKind → Status
 refusal_status Image = image_status
 refusal_status Report = Certificate
 refusal_status Extension = extension_status
+refusal_status source_kind = Source
 
 -- the text of a file of this kind is read as this value
 abbrev pub IsReadAs : FileKind → List ℕ → Reading → Type 0
@@ -88,6 +104,8 @@ IsReadAs Report bytes report_read = IsFaultless bytes
 IsReadAs Report bytes v = ⊥
 IsReadAs Extension bytes (extension_read x) = Elaborates bytes x
 IsReadAs Extension bytes v = ⊥
+IsReadAs source_kind bytes (source_read text) = text ≡ bytes
+IsReadAs source_kind bytes v = ⊥
 
 -- ---- the words behind the first, in order: each file is read whole and judged before the next is read
 -- the bytes of a file that was read whole: those that are told, or some where nothing is told
@@ -128,11 +146,20 @@ abbrev pub IsOutput : Command → List Reading → List ℕ → Type 0
 IsOutput RunImage (image_read image ∷ number_read cycles ∷ []) text = IsRunOutput image cycles text
 IsOutput Check (extension_read x ∷ []) text = text ≡ listing_text x
 IsOutput Certify (report_read ∷ []) text = text ≡ codes "yes\n"
+IsOutput Assemble (extension_read x ∷ source_read bytes ∷ []) text = (words : List ℕ) × Assembles x bytes words × (text ≡ image_text words)
 IsOutput command values text = ⊥
 
--- a refusal of the command's own, behind those of its files; no command has one yet
-abbrev pub IsOwnRefusal : Command → List Reading → Status → List ℕ → Type 0
-IsOwnRefusal command values status line = ⊥
+-- a refusal of the command's own, behind those of its files: of a source with the extension before it
+pub record IsOwnRefusal (command : Command) (values : List Reading) (status : Status) (line : List ℕ) : Type 0 where
+  pub command_is : command ≡ Assemble
+  pub extension : ExtensionTree
+  pub source : List ℕ
+  pub values_are : values ≡ extension_read extension ∷ source_read source ∷ []
+  pub error : AsmErr
+  pub no_memory : error ≢ A.Memory
+  pub refused : IsRefusedAs extension source error
+  pub status_is : status ≡ Source
+  pub line_is : line ≡ source_line error
 
 -- what the command answers: its own refusal, or its output
 abbrev pub IsAnswer : Command → List Reading → Status → List ℕ → Type 0
@@ -200,6 +227,7 @@ abbrev pub Takes : Command → List Reading → Type 0
 Takes RunImage (image_read image ∷ number_read cycles ∷ []) = Unit {0}
 Takes Check (extension_read x ∷ []) = Unit {0}
 Takes Certify (report_read ∷ []) = Unit {0}
+Takes Assemble (extension_read x ∷ source_read bytes ∷ []) = length bytes ≤ most_bytes
 Takes command values = ⊥
 
 -- what a command with these values did
@@ -319,6 +347,31 @@ pub record ListedAnswer (files : Option NamedFiles) (name : List ℕ) (before no
   pub well_formed : (text : TypedTextTree) × IsOf text extension
   pub written : Appends before now (listing_text extension)
 
+-- the files are the text of this extension and a source; each line of the source has a word or none, and the image of these words was written
+pub record AssembledAnswer (files : Option NamedFiles) (command : AsmCommand) (before now : Option (List ℕ)) : Type 0 where
+  pub text : List ℕ
+  pub extension : ExtensionTree
+  pub source : List ℕ
+  pub words : List ℕ
+  pub extension_file : IsFile files command.extension text
+  pub elaborates : Elaborates text extension
+  pub source_file : IsFile files command.source source
+  pub assembles : Assembles extension source words
+  pub written : Appends before now (image_text words)
+
+-- the first line of the source that fails, with the extension before it, was refused and its line written
+pub record SourceAnswer (files : Option NamedFiles) (words : List (List ℕ)) (before now : Option (List ℕ)) : Type 0 where
+  pub values : List Reading
+  pub extension : ExtensionTree
+  pub source : List ℕ
+  pub error : AsmErr
+  pub command_is : command_of words ≡ Some Assemble
+  pub read : AreRead files (slots_of Assemble) (behind words) values
+  pub values_are : values ≡ extension_read extension ∷ source_read source ∷ []
+  pub no_memory : error ≢ A.Memory
+  pub refused : IsRefusedAs extension source error
+  pub written : Appends before now (source_line error)
+
 -- one of the answers that are built
 abbrev pub IsBuiltAnswer : Status → Type 0
 IsBuiltAnswer ok_status = Unit {0}
@@ -332,7 +385,7 @@ IsBuiltAnswer Certificate = Unit {0}
 IsBuiltAnswer Memory = Unit {0}
 IsBuiltAnswer Sheet = ⊥
 IsBuiltAnswer NoSchedule = ⊥
-IsBuiltAnswer Source = ⊥
+IsBuiltAnswer Source = Unit {0}
 IsBuiltAnswer Waits = ⊥
 
 -- the status that is due, or an answer that every other yields to

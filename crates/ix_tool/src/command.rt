@@ -10,6 +10,8 @@ pub enum Command {
     Check,
     /// `certify REPORT`.
     Certify,
+    /// `asm EXT SOURCE`.
+    Assemble,
 }
 
 /// What a file is read as.
@@ -21,6 +23,8 @@ pub enum FileKind {
     Report,
     /// The text of an extension.
     Extension,
+    /// An assembly source.
+    Source,
 }
 
 /// What may stand in a place behind the first word.
@@ -33,7 +37,12 @@ pub enum Slot {
 }
 
 /// The commands, in the order in which words are tried.
-const COMMANDS: [Command; 3] = [Command::RunImage, Command::Check, Command::Certify];
+const COMMANDS: [Command; 4] = [
+    Command::RunImage,
+    Command::Check,
+    Command::Certify,
+    Command::Assemble,
+];
 
 /// What stands behind `run` for an image alone.
 const RUN_IMAGE: [Slot; 2] = [Slot::File(FileKind::Image), Slot::Number(200_000)];
@@ -44,6 +53,12 @@ const CHECK: [Slot; 1] = [Slot::File(FileKind::Extension)];
 /// What stands behind `certify`.
 const CERTIFY: [Slot; 1] = [Slot::File(FileKind::Report)];
 
+/// What stands behind `asm`.
+const ASSEMBLE: [Slot; 2] = [
+    Slot::File(FileKind::Extension),
+    Slot::File(FileKind::Source),
+];
+
 impl Command {
     /// The first word.
     fn word(self) -> &'static str
@@ -53,6 +68,7 @@ impl Command {
             Command::RunImage => "run",
             Command::Check => "check",
             Command::Certify => "certify",
+            Command::Assemble => "asm",
         }
     }
 
@@ -64,6 +80,7 @@ impl Command {
             Command::RunImage => &RUN_IMAGE,
             Command::Check => &CHECK,
             Command::Certify => &CERTIFY,
+            Command::Assemble => &ASSEMBLE,
         }
     }
 }

@@ -1,6 +1,7 @@
 //! The tool: from the words of a command and the bytes of its files to the bytes that it writes.
 #![tactic(auto)]
 
+pub mod assembling;
 pub mod command;
 pub mod running;
 pub mod status;

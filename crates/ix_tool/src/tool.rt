@@ -2,12 +2,13 @@ ghost use Rattle.std.specs.Prelude.{◌≡◌, ◌≢◌, ℕ, List, map, Some, 
 ghost use Rattle.ix_tool.specs.declared.status.Status.{Status};
 ghost use Rattle.ix_tool.specs.declared.command.Command.{Command as TheCommand};
 ghost use Rattle.ix_tool.specs.declared.command.FileKind.TheVariants.{Image as image_kind, Report as report_kind, Extension as extension_kind};
-ghost use Rattle.ix_tool.specs.CommandLine.{command_of as specified_command_of, extension_of, report_of, bytes_of};
+ghost use Rattle.ix_tool.specs.CommandLine.{AsmCommand, command_of as specified_command_of, extension_of, report_of, source_of, bytes_of};
 ghost use Rattle.ix_extension.specs.Extensions.{view_extension};
 ghost use Rattle.ix_listing.specs.Listing.{listing_text};
 ghost use Rattle.ix_tool.specs.Readings.{Reading, reading_of};
-ghost use Rattle.ix_tool.specs.CommandOutput.{Writes, Takes, Answered, Outcome, RoseIn, NoneRises, IsDue, UsageAnswer, ReadFaultAnswer, WriteFaultAnswer, TooLongAnswer, TextAnswer, OutputAnswer, RunAnswer, ListedAnswer, CertifiedAnswer, IsBuiltAnswer, IsStatusOr, Premises, Completes, told_of};
+ghost use Rattle.ix_tool.specs.CommandOutput.{Writes, Takes, Answered, Outcome, RoseIn, NoneRises, IsDue, UsageAnswer, ReadFaultAnswer, WriteFaultAnswer, TooLongAnswer, TextAnswer, OutputAnswer, RunAnswer, ListedAnswer, CertifiedAnswer, AssembledAnswer, SourceAnswer, IsBuiltAnswer, IsStatusOr, Premises, Completes, told_of};
 
+use crate::assembling::assemble_source;
 use crate::command::{Command, command_of};
 use crate::running::run_image;
 use crate::status::Status;
@@ -18,7 +19,7 @@ use ix_tree::Extension;
 use std::alloc::Global;
 
 /// Writes these bytes and answers the status, or that they could not be written.
-fn finish<S: Sink>(sink: &mut S, status: Status, bytes: &[u8]) -> Status
+pub(crate) fn finish<S: Sink>(sink: &mut S, status: Status, bytes: &[u8]) -> Status
     ensures { Writes status bytes.now (S.written sink.old) (S.written sink.new) (S.faults sink.old) (S.faults sink.new) result }
 {
     match write_all(sink, bytes) {
@@ -49,6 +50,9 @@ fn answer<S: Sink>(alloc: Global, command: Command, values: &[Value], sink: &mut
         }
         (Command::Check, [Value::Extension(extension)]) => list_extension(alloc, extension, sink),
         (Command::Certify, [Value::Report]) => finish(sink, Status::Ok, b"yes\n"),
+        (Command::Assemble, [Value::Extension(extension), Value::Source(source)]) => {
+            assemble_source(alloc, extension, source, sink)
+        }
         _ => unreachable!(),
     }
 }
@@ -77,7 +81,7 @@ fn run_words<F: Shelf, S: Sink>(
 /// `run IMAGE CYCLES` writes the trace and the state of a run on the core of three stages: at most 200,000 cycles over an
 /// image of at most 1,048,576 bytes and 65,536 words. `check EXT` writes the listing of an extension: its registers, tables,
 /// encodings and blocks. `certify REPORT` writes `yes` where the check of a report finds no
-/// fault. The files are read whole and judged one after another, in the order of the words. A refusal writes its one line
+/// fault. `asm EXT SOURCE` writes the image of a source with the instructions of an extension. The files are read whole and judged one after another, in the order of the words. A refusal writes its one line
 /// alone; want of memory writes nothing, and comes before the first cycle.
 pub fn run_tool<F: Shelf, S: Sink>(
     alloc: Global,
@@ -97,6 +101,10 @@ pub fn run_tool<F: Shelf, S: Sink>(
     // A yes shows of each behaviour of the report that its times are legal and cheapest, or that there are none.
     ensures certified { result ≡ Status.Ok → (report : List ℕ) → report_of (bytes_of words.now) ≡ Some report
         → CertifiedAnswer (F.files shelf.old) report (S.written sink.old) (S.written sink.new) }
+
+    // An image is that of the words of the source's lines, with the extension which the other file is the text of.
+    ensures assembled { result ≡ Status.Ok → (command : AsmCommand) → source_of (bytes_of words.now) ≡ Some command
+        → AssembledAnswer (F.files shelf.old) command (S.written sink.old) (S.written sink.new) }
 
     // For every command: the status and the bytes that were written are due, by the words and the bytes of the files. Of a
     // file of which nothing is told, they are some bytes of at most the greatest length.
@@ -120,6 +128,8 @@ pub fn run_tool<F: Shelf, S: Sink>(
         → TextAnswer (F.files shelf.old) (bytes_of words.now) extension_kind (S.written sink.old) (S.written sink.new) }
     ensures certificate { result ≡ Status.Certificate
         → TextAnswer (F.files shelf.old) (bytes_of words.now) report_kind (S.written sink.old) (S.written sink.new) }
+    ensures source { result ≡ Status.Source
+        → SourceAnswer (F.files shelf.old) (bytes_of words.now) (S.written sink.old) (S.written sink.new) }
     ensures memory { result ≡ Status.Memory → S.written sink.new ≡ S.written sink.old }
     ensures built { IsBuiltAnswer result }
 

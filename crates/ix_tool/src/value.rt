@@ -10,10 +10,11 @@ ghost use Rattle.ix_tool.specs.CommandLine.{fits_slot, fits_slots, bytes_of};
 ghost use Rattle.ix_tool.specs.CommandOutput.{image_line, file_line, certificate_line, Refuses, Judged, WordRead, WordsRefused, AreRead, RoseIn};
 ghost use Rattle.ix_tool.specs.Readings.{reading_of};
 ghost use Rattle.ix_tool.specs.declared.command.FileKind.{FileKind as Kind};
-ghost use Rattle.ix_tool.specs.declared.command.FileKind.TheVariants.{Image as image_kind, Report as report_kind, Extension as extension_kind};
+ghost use Rattle.ix_tool.specs.declared.command.FileKind.TheVariants.{Image as image_kind, Report as report_kind, Extension as extension_kind, Source as source_kind};
 
 use crate::command::{FileKind, Slot, number_within};
 use crate::status::Status;
+use ix_bits::List;
 use ix_cert::{CertErr, certify};
 use ix_elab::{FrontErr, elaborate};
 use ix_io::{ReadErr, Shelf, read_all};
@@ -35,6 +36,8 @@ pub enum Value {
     Report,
     /// The extension of a text.
     Extension(Extension),
+    /// The bytes of an assembly source.
+    Source(List<u8>),
 }
 
 /// Why a word stands for nothing: the status and the line of the refusal.
@@ -153,6 +156,16 @@ fn judge_extension(alloc: Global, bytes: &[u8]) -> Result<Value, Refusal>
     }
 }
 
+/// A source is read as its bytes; whether it has words depends on the extension.
+fn judge_source(alloc: Global, bytes: &[u8]) -> Result<Value, Refusal>
+    ensures { Judged source_kind bytes.now result }
+{
+    match List::from_slice(alloc, bytes) {
+        Ok(list) => Ok(Value::Source(list)),
+        Err(_) => Err(Refusal::Memory),
+    }
+}
+
 /// What the text of a file is read as, or its refusal.
 fn judge(alloc: Global, kind: FileKind, bytes: &[u8]) -> Result<Value, Refusal>
     requires { length bytes.now ≤ most_bytes }
@@ -162,6 +175,7 @@ fn judge(alloc: Global, kind: FileKind, bytes: &[u8]) -> Result<Value, Refusal>
         FileKind::Image => judge_image(alloc, bytes),
         FileKind::Report => judge_report(alloc, bytes),
         FileKind::Extension => judge_extension(alloc, bytes),
+        FileKind::Source => judge_source(alloc, bytes),
     }
 }
 

@@ -1,6 +1,6 @@
 use Rattle.ix_tool.specs.CommandLine.{bytes_of}
-use Rattle.ix_tool.proofs.Clauses.{usage, read_fault, too_long_answer, image, extension, certificate, output, write_fault, memory_alone, built, no_command, due_status, complete}
-use Rattle.ix_tool.proofs.Headlines.{headline, listed, certified}
+use Rattle.ix_tool.proofs.Clauses.{usage, read_fault, too_long_answer, image, extension, certificate, source, output, write_fault, memory_alone, built, no_command, due_status, complete}
+use Rattle.ix_tool.proofs.Headlines.{headline, listed, certified, assembled}
 use Rattle.ix_tool.proofs.tool.run_tool.Goals as goal
 
 pub returns-clause-headline : goal.returns-clause-headline
@@ -8,6 +8,9 @@ returns-clause-headline g c = λ e. headline (g.F.Shelf.files c.args.shelf.now) 
 
 pub returns-clause-listed : goal.returns-clause-listed
 returns-clause-listed g c = λ e. listed (g.F.Shelf.files c.args.shelf.now) (bytes_of c.args.words.now) (g.S.Sink.written c.args.sink.now) (g.S.Sink.written c.run_words.new.sink) (output (g.F.Shelf.files c.args.shelf.now) (g.F.Shelf.faults c.args.shelf.now) (g.F.Shelf.faults c.run_words.new.shelf) (bytes_of c.args.words.now) (g.S.Sink.written c.args.sink.now) (g.S.Sink.written c.run_words.new.sink) (g.S.Sink.faults c.args.sink.now) (g.S.Sink.faults c.run_words.new.sink) c.run_words.result c.run_words.ensures e)
+
+pub returns-clause-assembled : goal.returns-clause-assembled
+returns-clause-assembled g c = λ e. assembled (g.F.Shelf.files c.args.shelf.now) (bytes_of c.args.words.now) (g.S.Sink.written c.args.sink.now) (g.S.Sink.written c.run_words.new.sink) (output (g.F.Shelf.files c.args.shelf.now) (g.F.Shelf.faults c.args.shelf.now) (g.F.Shelf.faults c.run_words.new.shelf) (bytes_of c.args.words.now) (g.S.Sink.written c.args.sink.now) (g.S.Sink.written c.run_words.new.sink) (g.S.Sink.faults c.args.sink.now) (g.S.Sink.faults c.run_words.new.sink) c.run_words.result c.run_words.ensures e)
 
 pub returns-clause-certified : goal.returns-clause-certified
 returns-clause-certified g c = λ e. certified (g.F.Shelf.files c.args.shelf.now) (bytes_of c.args.words.now) (g.S.Sink.written c.args.sink.now) (g.S.Sink.written c.run_words.new.sink) (output (g.F.Shelf.files c.args.shelf.now) (g.F.Shelf.faults c.args.shelf.now) (g.F.Shelf.faults c.run_words.new.shelf) (bytes_of c.args.words.now) (g.S.Sink.written c.args.sink.now) (g.S.Sink.written c.run_words.new.sink) (g.S.Sink.faults c.args.sink.now) (g.S.Sink.faults c.run_words.new.sink) c.run_words.result c.run_words.ensures e)
@@ -29,6 +32,9 @@ returns-clause-too_long g c = too_long_answer (g.F.Shelf.files c.args.shelf.now)
 
 pub returns-clause-image : goal.returns-clause-image
 returns-clause-image g c = image (g.F.Shelf.files c.args.shelf.now) (g.F.Shelf.faults c.args.shelf.now) (g.F.Shelf.faults c.run_words.new.shelf) (bytes_of c.args.words.now) (g.S.Sink.written c.args.sink.now) (g.S.Sink.written c.run_words.new.sink) (g.S.Sink.faults c.args.sink.now) (g.S.Sink.faults c.run_words.new.sink) c.run_words.result c.run_words.ensures
+
+pub returns-clause-source : goal.returns-clause-source
+returns-clause-source g c = source (g.F.Shelf.files c.args.shelf.now) (g.F.Shelf.faults c.args.shelf.now) (g.F.Shelf.faults c.run_words.new.shelf) (bytes_of c.args.words.now) (g.S.Sink.written c.args.sink.now) (g.S.Sink.written c.run_words.new.sink) (g.S.Sink.faults c.args.sink.now) (g.S.Sink.faults c.run_words.new.sink) c.run_words.result c.run_words.ensures
 
 pub returns-clause-extension : goal.returns-clause-extension
 returns-clause-extension g c = extension (g.F.Shelf.files c.args.shelf.now) (g.F.Shelf.faults c.args.shelf.now) (g.F.Shelf.faults c.run_words.new.shelf) (bytes_of c.args.words.now) (g.S.Sink.written c.args.sink.now) (g.S.Sink.written c.run_words.new.sink) (g.S.Sink.faults c.args.sink.now) (g.S.Sink.faults c.run_words.new.sink) c.run_words.result c.run_words.ensures

@@ -1,0 +1,12 @@
+use Rattle.std.proofs.Common.{◌≡◌, ◌∙◌, ◌++◌, ap, subst, inr}
+use Rattle.std.specs.Prelude.{codes, decimal}
+use Rattle.ix_tool.specs.declared.status.Status.TheVariants.{Source}
+use Rattle.ix_tool.specs.CommandOutput.{Writes, source_text}
+use Rattle.ix_tool.proofs.Judging.{line_joined}
+use Rattle.ix_tool.proofs.assembling.refuse_line.Goals as goal
+
+pub returns-in-Ok : goal.returns-in-Ok
+returns-in-Ok g c =
+    let text : c.as_bytes.result.now ≡ source_text c.args.kind.now c.args.at =
+    c.as_bytes.ensures.value ∙ c.in-Ok.ensures.ok ∙ ap (λ l. codes "refused Source " ++ l) (line_joined c.args.kind.now (decimal c.args.at)) in
+    inr (subst (λ t. Writes Source t (g.S.Sink.written c.args.sink.now) (g.S.Sink.written c.finish.new.sink) (g.S.Sink.faults c.args.sink.now) (g.S.Sink.faults c.finish.new.sink) c.finish.result) text c.finish.ensures)
