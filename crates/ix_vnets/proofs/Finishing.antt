@@ -17,10 +17,10 @@ use Rattle.ix_verilog.specs.Subset.{State, start, Leads, MayStandIn, MayStand, a
 use Rattle.ix_vnets.specs.Finished.{IsFinished}
 
 -- what a line says of the module that it stands in
-abbrev MayDeclareNext : Source → Port → Type 0
+abbrev pub MayDeclareNext : Source → Port → Type 0
 MayDeclareNext s p = IsNext s p.name × IsWidth p.width
 
-abbrev Says : Source → Line → Type 0
+abbrev pub Says : Source → Line → Type 0
 Says s (head n) = Unit {0}
 Says s (port n) = IsShortName n
 Says s heading = Unit {0}
@@ -34,7 +34,7 @@ Says s (update u) = Names s.registers u.target
 Says s done = Unit {0}
 Says s finish = IsDriven s
 
-says : (s : Source) (t : Stage) (l : Line) → MayStandIn s t l → Says s l
+pub says : (s : Source) (t : Stage) (l : Line) → MayStandIn s t l → Says s l
 says s t (head n) h = tt
 says s Ports (port n) h = h
 says s Lines (port n) h = absurd h
@@ -73,7 +73,7 @@ says s Clocked finish h = absurd h
 says s Ended finish h = h
 
 -- what holds of a module that has not ended
-record IsGoing (s : Source) : Type 0 where
+pub record IsGoing (s : Source) : Type 0 where
   pub named : IsShortName s.name
   pub ports : All IsShortName s.ports
   pub inputs : All MayDeclare s.inputs
@@ -84,7 +84,7 @@ record IsGoing (s : Source) : Type 0 where
   pub updates : All (λ (u : Update). Names s.registers u.target) s.updates
 
 -- a port has one of the names in the list of ports
-next_may : (s : Source) → All IsShortName s.ports → (p : Port) → MayDeclareNext s p → MayDeclare p
+pub next_may : (s : Source) → All IsShortName s.ports → (p : Port) → MayDeclareNext s p → MayDeclare p
 next_may s h p n =
     let k = length s.inputs + length s.outputs in
     let c : Contains s.ports p.name = (k, slice_get_within s.ports k p.name n.0, get_or_from_slice_get s.ports k p.name p.name n.0) in
@@ -103,7 +103,7 @@ names_middle ps qs rs n c = elim (Contains-append_cases (names ps) (names qs) n 
 names_last : (ps qs rs : List Port) (n : Word) → Names (ps ++ qs) n → Names (ps ++ (qs ++ rs)) n
 names_last ps qs rs n c = subst (λ z. Names z n) (append_assoc ps qs rs) (names_left (ps ++ qs) rs n c)
 
-keep : (s : Source) (l : Line) → IsGoing s → Says s l → IsGoing (with_line s l)
+pub keep : (s : Source) (l : Line) → IsGoing s → Says s l → IsGoing (with_line s l)
 keep s (head n) g h = g
 keep s (port n) g h = record { named = g.named; ports = All-push IsShortName s.ports n g.ports h; inputs = g.inputs; outputs = g.outputs; wires = g.wires; registers = g.registers; assigns = g.assigns; updates = g.updates }
 keep s heading g h = record { named = g.named; ports = g.ports; inputs = g.inputs; outputs = g.outputs; wires = g.wires; registers = g.registers; assigns = g.assigns; updates = g.updates }
@@ -139,14 +139,14 @@ finished s g d = record {
 }
 
 -- ---- texts
-abbrev IsOpen : Option Source → Type 0
+abbrev pub IsOpen : Option Source → Type 0
 IsOpen None = Unit {0}
 IsOpen (Some s) = IsGoing s
 
-abbrev IsFine : State → Type 0
+abbrev pub IsFine : State → Type 0
 IsFine st = All IsFinished st.modules × IsOpen st.open_module
 
-step : (modules : List Source) (o : Option Source) (l : Line) → All IsFinished modules → IsOpen o → MayStand o l → IsFine (after_in modules o l)
+pub step : (modules : List Source) (o : Option Source) (l : Line) → All IsFinished modules → IsOpen o → MayStand o l → IsFine (after_in modules o l)
 step modules None (head n) m g h = (m, starts n h)
 step modules None (port n) m g h = absurd h
 step modules None heading m g h = absurd h
@@ -176,6 +176,9 @@ walk : (lines : List Line) (st end : State) → Leads st lines end → IsFine st
 walk [] st end h f = subst IsFine h f
 walk (l ∷ lines) st end h f = walk lines (after_in st.modules st.open_module l) end h.1 (step st.modules st.open_module l f.0 f.1 h.0)
 
+pub fine_start : IsFine start
+fine_start = (All-nil IsFinished, tt)
+
 -- each module of a text is as its lines say
 pub modules_finished : (words : List Word) (modules : List Source) → AreModules words modules → All IsFinished modules
-modules_finished words modules a = (walk a.lines start (record { modules = modules; open_module = None }) a.leads (All-nil IsFinished, tt)).0
+modules_finished words modules a = (walk a.lines start (record { modules = modules; open_module = None }) a.leads fine_start).0

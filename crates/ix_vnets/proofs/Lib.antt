@@ -4,3 +4,4 @@ mod Modules
 mod Once
 pub mod Finishing
 pub mod Denoting
+mod Numbered

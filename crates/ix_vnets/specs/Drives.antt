@@ -1,11 +1,13 @@
 -- The lines of modules whose widths have to agree, `assign` and `if`, in the order of the text.
-use Rattle.std.specs.Prelude.{◌≡◌, ℕ, List, ◌∷◌, ◌++◌, map, length}
+use Rattle.std.specs.Prelude.{◌≡◌, ℕ, List, ◌∷◌, ◌++◌, map, length, codes, Bool, ◌||◌}
+use Rattle.std.specs.Str.{bytes_eq}
 use Rattle.std.specs.List.{AllByRecursion, flat_map}
 use Rattle.ix_net.specs.declared.netlist.Cell.{Cell}
 use Rattle.ix_net.specs.declared.netlist.Bank.{Bank}
 use Rattle.ix_verilog.specs.declared.source.Source.{Source}
 use Rattle.ix_verilog.specs.declared.source.Assign.{Assign}
 use Rattle.ix_verilog.specs.declared.source.Update.{Update}
+use Rattle.ix_verilog.specs.Words.{Word}
 use Rattle.ix_vnets.specs.declared.error.NetErr.{NetErr}
 use Rattle.ix_vnets.specs.declared.error.NetErr.TheVariants.{Misfit, Memory}
 use Rattle.ix_vnets.specs.Nets.{IsCellOf, IsBankOf}
@@ -24,6 +26,10 @@ drives ss = flat_map drives_in ss
 abbrev pub DriveFits : Drive → Type 0
 DriveFits (assigning s a) = (c : Cell) × IsCellOf s a c
 DriveFits (updating s u) = (b : Bank) × IsBankOf s u b
+
+-- the word is one with which such a line begins
+abbrev pub is_drive : Word → Bool
+is_drive w = bytes_eq w (codes "assign") || bytes_eq w (codes "if")
 
 -- the element with this number, from 0, is the first that has not the property
 pub record IsFirstNot {X : Type 0} (P : X → Type 0) (xs : List X) (k : ℕ) : Type 0 where

@@ -1,5 +1,5 @@
 -- What follows from the definitions: a module and its net, line by line and as a whole.
-use Rattle.std.specs.Prelude.{◌≡◌, ℕ, ◌+◌, List, All, length, take}
+use Rattle.std.specs.Prelude.{◌≡◌, ℕ, ◌+◌, List, All, length, take, filter}
 use Rattle.std.specs.List.{AllZip}
 use Rattle.ix_net.specs.declared.netlist.Net.{Net}
 use Rattle.ix_net.specs.Valid.{DependsOn}
@@ -9,7 +9,7 @@ use Rattle.ix_verilog.specs.Subset.{AreModules, IsNetOf}
 use Rattle.ix_vonce.specs.Names.{AllOnce, said_in}
 use Rattle.ix_vnets.specs.Finished.{IsFinished}
 use Rattle.ix_vnets.specs.Nets.{IsMadeOf}
-use Rattle.ix_vnets.specs.Drives.{drives, DriveFits, IsFirstNot, IsMisfit}
+use Rattle.ix_vnets.specs.Drives.{is_drive, drives, DriveFits, IsFirstNot, IsMisfit}
 
 -- the modules of a text are finished
 abbrev pub ModulesAreFinished : Type 0
@@ -34,3 +34,7 @@ MisfitIsFirst = (modules : List Source) (m d : ℕ) → IsMisfit modules m d →
 -- where there are nets, each line fits
 abbrev pub MadeFits : Type 0
 MadeFits = (modules : List Source) (nets : List Net) (number : ℕ) → AllZip IsMadeOf modules nets → IsFirstNot DriveFits (drives modules) number → ⊥
+
+-- the text of modules has as many words `assign` and `if` as lines of widths
+abbrev pub DrivesAreNumbered : Type 0
+DrivesAreNumbered = (words : List Word) (modules : List Source) → AreModules words modules → length (filter is_drive words) ≡ length (drives modules)

@@ -1,4 +1,4 @@
-ghost use Rattle.ix_vnets.specs.Laws.{ModulesAreFinished, MadeIsNet, NetIsMade, OneIsMade, MisfitIsFirst, MadeFits};
+ghost use Rattle.ix_vnets.specs.Laws.{ModulesAreFinished, MadeIsNet, NetIsMade, OneIsMade, MisfitIsFirst, MadeFits, DrivesAreNumbered};
 
 use ix_vright::right_laws;
 
@@ -10,6 +10,7 @@ pub fn nets_laws()
     ensures once { OneIsMade }
     ensures misfit { MisfitIsFirst }
     ensures fits { MadeFits }
+    ensures numbered { DrivesAreNumbered }
 {
     right_laws();
 }

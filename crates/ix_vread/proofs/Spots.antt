@@ -1,15 +1,16 @@
 -- Places and lines.
-use Rattle.std.proofs.Common.{◌≡◌, ◌⊎◌, inl, inr, ℕ, zero, suc, ◌+◌, ◌<◌, ◌^◌, List, [], ◌∷◌, ◌++◌, Bool, true, false, cond, length, take, drop, get_or, map, filter, refl, ap, sym, ◌∙◌, subst, arith}
+use Rattle.std.proofs.Common.{Some, ◌≡◌, ◌⊎◌, inl, inr, ℕ, zero, suc, ◌+◌, ◌<◌, ◌^◌, List, [], ◌∷◌, ◌++◌, Bool, true, false, cond, length, take, drop, get_or, map, filter, refl, ap, sym, ◌∙◌, subst, arith}
+use Rattle.std.specs.Prelude.{slice_get}
 use Rattle.std.specs.List.{AllByRecursion}
 use Rattle.std.proofs.lemmas.List.{length-map, length-append, take_more, drop-drop, get_or-drop}
 use Rattle.ix_verilog.specs.declared.source.Source.{Source}
 use Rattle.ix_verilog.specs.declared.token.Token.{Token}
-use Rattle.ix_verilog.specs.Words.{Spells}
-use Rattle.ix_verilog.specs.Subset.{place_of_token}
+use Rattle.ix_verilog.specs.Words.{Spells, words_of}
+use Rattle.ix_verilog.specs.Subset.{IsWritten, place_of_token}
 use Rattle.ix_verilog.proofs.OneSpelling.{one_spelling}
-use Rattle.ix_vnets.specs.Drives.{assigning, updating, drives, drives_in}
-use Rattle.ix_vread.specs.Told.{begins_drive, drive_place}
-use Rattle.ix_vread.specs.Spots.{IsDrivePlace}
+use Rattle.ix_vnets.specs.Drives.{is_drive, DriveFits, IsFirstNot, assigning, updating, drives, drives_in}
+use Rattle.ix_vread.specs.Told.{begins_drive}
+use Rattle.ix_vread.specs.Spots.{drive_place, IsDrivePlace}
 use Rattle.ix_vread.proofs.Places.{spelled_within}
 
 -- ---- lists
@@ -83,3 +84,21 @@ place_found text tokens places rest n drive place small s e r p =
         | inr z ↦ omega (arith, z, small)
       ];
     }
+
+-- the word with which a line begins
+same_count : (ts : List Token) → length (filter is_drive (words_of ts)) ≡ length (filter begins_drive ts)
+same_count [] = refl
+same_count (t ∷ ts) = go (is_drive t.word) (same_count ts)
+  where
+    go : (b : Bool) → length (filter is_drive (words_of ts)) ≡ length (filter begins_drive ts) → length (cond b (t.word ∷ filter is_drive (words_of ts)) (filter is_drive (words_of ts))) ≡ length (cond b (t ∷ filter begins_drive ts) (filter begins_drive ts))
+    go true h = ap suc h
+    go false h = h
+
+stands_at : (ts : List Token) (k : ℕ) → k < length ts → (t : Token) × (slice_get ts k ≡ Some t) × (place_of_token 0 k ts ≡ t.place)
+stands_at [] k l = absurd (omega (arith, l))
+stands_at (t ∷ ts) zero l = (t, refl, refl)
+stands_at (t ∷ ts) (suc k) l = stands_at ts k (omega (arith, l))
+
+pub drive_stands : (text : List ℕ) (ss : List Source) (w : IsWritten text ss) (k : ℕ) → length (filter is_drive (words_of w.tokens)) ≡ length (drives ss) → IsFirstNot DriveFits (drives ss) k
+    → (t : Token) × (slice_get (filter begins_drive w.tokens) k ≡ Some t) × (drive_place w.tokens k ≡ t.place)
+drive_stands text ss w k e f = stands_at (filter begins_drive w.tokens) k (omega (arith, sym (same_count w.tokens) ∙ e, f.number, ap length f.are, length-append f.front (f.item ∷ f.rest)))

@@ -1,14 +1,13 @@
 -- What a refusal says of a text.
-use Rattle.std.specs.Prelude.{◌≡◌, ℕ, ◌+◌, List, [], length, take, filter, codes, Bool, ◌||◌, nat_eq}
+use Rattle.std.specs.Prelude.{◌≡◌, ℕ, ◌+◌, List, [], length, take, filter, Bool, nat_eq, slice_get, Some}
 use Rattle.std.specs.List.{AllZip}
-use Rattle.std.specs.Str.{bytes_eq}
 use Rattle.ix_net.specs.declared.netlist.Net.{Net}
 use Rattle.ix_verilog.specs.declared.source.Source.{Source}
 use Rattle.ix_verilog.specs.declared.token.Token.{Token}
-use Rattle.ix_verilog.specs.Subset.{IsWritten, LeavesAt, place_of_token}
+use Rattle.ix_verilog.specs.Subset.{IsWritten, LeavesAt}
 use Rattle.ix_vonce.specs.Names.{AllOnce, FirstTwice, said}
 use Rattle.ix_vnets.specs.Nets.{IsMadeOf}
-use Rattle.ix_vnets.specs.Drives.{DriveFits, drives, IsFirstNot}
+use Rattle.ix_vnets.specs.Drives.{is_drive, DriveFits, drives, IsFirstNot}
 use Rattle.ix_vloop.specs.Loops.{FirstLoop}
 use Rattle.ix_vread.specs.declared.error.VErr.{VErr}
 use Rattle.ix_vread.specs.declared.error.VErr.TheVariants.{At, Width, Loop, Twice, Memory}
@@ -17,13 +16,9 @@ use Rattle.ix_vread.specs.declared.error.VErr.TheVariants.{At, Width, Loop, Twic
 abbrev pub line_at : List ℕ → ℕ → ℕ
 line_at text place = 1 + length (filter (λ b. nat_eq b 10) (take place text))
 
--- the word is one with which a line of widths begins; no name is such a word
+-- the token is a word with which a line of widths begins: there are as many of them as such lines
 abbrev pub begins_drive : Token → Bool
-begins_drive t = bytes_eq t.word (codes "assign") || bytes_eq t.word (codes "if")
-
--- where the line of widths with this number, from 0, begins
-abbrev pub drive_place : List Token → ℕ → ℕ
-drive_place tokens number = place_of_token 0 number (filter begins_drive tokens)
+begins_drive t = is_drive t.word
 
 -- the text is of modules in which no name stands twice, and the first of its lines of widths that does not fit begins on this line
 pub record HasMisfit (text : List ℕ) (line : ℕ) : Type 0 where
@@ -32,7 +27,10 @@ pub record HasMisfit (text : List ℕ) (line : ℕ) : Type 0 where
   pub once : AllOnce (said [] modules)
   pub number : ℕ
   pub misfit : IsFirstNot DriveFits (drives modules) number
-  pub is : line ≡ line_at text (drive_place written.tokens number)
+  -- the word with which that line begins
+  pub word : Token
+  pub begins : slice_get (filter begins_drive written.tokens) number ≡ Some word
+  pub is : line ≡ line_at text word.place
 
 -- the text is of modules in which no name stands twice and all widths agree, and the name is the first that depends on itself
 pub record HasLoop (text : List ℕ) (name : List ℕ) : Type 0 where

@@ -2,6 +2,7 @@ use Rattle.ix_vnets.proofs.Finishing.{modules_finished}
 use Rattle.ix_vnets.proofs.Denoting.{net_from, made_from}
 use Rattle.ix_vnets.proofs.Once.{one_made}
 use Rattle.ix_vnets.proofs.Modules.{first_of_all, no_misfit}
+use Rattle.ix_vnets.proofs.Numbered.{drives_numbered}
 use Rattle.ix_vnets.proofs.laws.nets_laws.Goals as goal
 
 pub returns-clause-finished : goal.returns-clause-finished
@@ -21,3 +22,6 @@ returns-clause-misfit c = first_of_all
 
 pub returns-clause-fits : goal.returns-clause-fits
 returns-clause-fits c = no_misfit
+
+pub returns-clause-numbered : goal.returns-clause-numbered
+returns-clause-numbered c = drives_numbered
