@@ -28,7 +28,7 @@ abbrev pub initials : List Register → List Bits
 initials rs = table (initial_of rs) 16
 
 -- the first state: the pc, each x register and each byte of the memory are 0, and custom registers have their initial values
-abbrev pub first : ExtensionTree → Arch
+unfoldable pub first : ExtensionTree → Arch
 first x = record { pc = 0; x = replicate 32 0; custom = initials x.registers; mem = replicate size 0 }
 
 -- what the instruction of a word sees of a state: its word, its operands, the pc, the custom registers and the memory

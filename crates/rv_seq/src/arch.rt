@@ -43,6 +43,7 @@ fn initials_of(registers: &[Register]) -> [Bits; 16]
 
 impl Arch {
     /// The first state of a core with a well-formed extension.
+    #[tactic(auto, unfolding(crate::specs::States::first))]
     pub fn new(alloc: Global, ext: &Extension) -> Result<Arch, Memory>
         requires { IsWellFormed ext.now }
         ensures first { IfOk result (λ arch. arch ≡ first (view_extension ext.now)) }

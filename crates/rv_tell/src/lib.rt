@@ -1,0 +1,7 @@
+//! Sequential runs that are told to a sink, step by step.
+#![tactic(auto)]
+
+mod running;
+mod writing;
+
+pub use running::{RunErr, write_run};
