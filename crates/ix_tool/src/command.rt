@@ -10,13 +10,17 @@ pub enum Command {
     Check,
     /// `certify REPORT`.
     Certify,
+    /// `seq EXT IMAGE STEPS`, with 0 to 200,000 steps.
+    Seq,
 }
 
 /// What a file is read as.
 #[derive(Clone, Copy, Debug, PartialEq, Eq)]
 pub enum FileKind {
-    /// The words of a program.
+    /// The words of a program, each a built instruction of the pipeline.
     Image,
+    /// The words of a program.
+    Program,
     /// A report of schedules.
     Report,
     /// The text of an extension.
@@ -33,7 +37,12 @@ pub enum Slot {
 }
 
 /// The commands, in the order in which words are tried.
-const COMMANDS: [Command; 3] = [Command::RunImage, Command::Check, Command::Certify];
+const COMMANDS: [Command; 4] = [
+    Command::RunImage,
+    Command::Check,
+    Command::Certify,
+    Command::Seq,
+];
 
 /// What stands behind `run` for an image alone.
 const RUN_IMAGE: [Slot; 2] = [Slot::File(FileKind::Image), Slot::Number(200_000)];
@@ -44,6 +53,13 @@ const CHECK: [Slot; 1] = [Slot::File(FileKind::Extension)];
 /// What stands behind `certify`.
 const CERTIFY: [Slot; 1] = [Slot::File(FileKind::Report)];
 
+/// What stands behind `seq`.
+const SEQ: [Slot; 3] = [
+    Slot::File(FileKind::Extension),
+    Slot::File(FileKind::Program),
+    Slot::Number(200_000),
+];
+
 impl Command {
     /// The first word.
     fn word(self) -> &'static str
@@ -53,6 +69,7 @@ impl Command {
             Command::RunImage => "run",
             Command::Check => "check",
             Command::Certify => "certify",
+            Command::Seq => "seq",
         }
     }
 
@@ -64,6 +81,7 @@ impl Command {
             Command::RunImage => &RUN_IMAGE,
             Command::Check => &CHECK,
             Command::Certify => &CERTIFY,
+            Command::Seq => &SEQ,
         }
     }
 }
