@@ -9,7 +9,7 @@ use Rattle.ix_tool.specs.declared.status.Status.TheVariants.{Ok as ok_status, Us
 use Rattle.ix_tool.specs.declared.command.Command.TheVariants.{Assemble}
 use Rattle.ix_tool.specs.declared.command.Command.{Command}
 use Rattle.ix_tool.specs.declared.command.FileKind.{FileKind}
-use Rattle.ix_tool.specs.declared.command.FileKind.TheVariants.{Image, Report, Extension, Source as source_kind}
+use Rattle.ix_tool.specs.declared.command.FileKind.TheVariants.{Image, Program, Report, Extension, Source as source_kind}
 use Rattle.ix_tool.specs.Readings.{Reading}
 use Rattle.ix_tool.specs.CommandLine.{command_of, slots_of, behind}
 use Rattle.ix_tool.specs.CommandOutput.{Outcome, RoseIn, NoneRises, file_line, refusal_status, IsRefusedText, IsRefusedFile, not_read, too_long, bad_text, IsFirstRefused, IsAnswer, IsDue, due_usage, due_file, due_answer, UsageAnswer, ReadFaultAnswer, WriteFaultAnswer, TooLongAnswer, IsFileOf, TextAnswer, OutputAnswer, SourceAnswer, AreRead, IsBuiltAnswer, IsStatusOr, Premises, Completes}
@@ -20,6 +20,7 @@ use Rattle.ix_tool.proofs.Due.{all_one, not_refused, own_status, commanded, usag
 -- a status that refuses a text is none of these
 no_text : (s : Status) → (image_status ≡ s → ⊥) → (Certificate ≡ s → ⊥) → (extension_status ≡ s → ⊥) → (Source ≡ s → ⊥) → (kind : FileKind) → refusal_status kind ≡ s → ⊥
 no_text s i r x o Image e = i e
+no_text s i r x o Program e = i e
 no_text s i r x o Report e = r e
 no_text s i r x o Extension e = x e
 no_text s i r x o source_kind e = o e
@@ -44,27 +45,10 @@ text_no_memory = no_text Memory (λ q. cc) (λ q. cc) (λ q. cc) (λ q. cc)
 
 text_is_built : (kind : FileKind) → IsBuiltAnswer (refusal_status kind)
 text_is_built Image = tt
+text_is_built Program = tt
 text_is_built Report = tt
 text_is_built Extension = tt
 text_is_built source_kind = tt
-
-one_kind : (found kind : FileKind) → refusal_status found ≡ refusal_status kind → found ≡ kind
-one_kind Image Image e = refl
-one_kind Image Report e = cc
-one_kind Image Extension e = cc
-one_kind Image source_kind e = cc
-one_kind Report Image e = cc
-one_kind Report Report e = refl
-one_kind Report Extension e = cc
-one_kind Report source_kind e = cc
-one_kind Extension Image e = cc
-one_kind Extension Report e = cc
-one_kind Extension Extension e = refl
-one_kind Extension source_kind e = cc
-one_kind source_kind Image e = cc
-one_kind source_kind Report e = cc
-one_kind source_kind Extension e = cc
-one_kind source_kind source_kind e = refl
 
 -- the status of a file's refusal, by what is so of each
 of_refusal : (P : Status → Type 0) → P ReadFault → P TooLong → ((kind : FileKind) → P (refusal_status kind)) → (files : Option NamedFiles) (R : List ℕ → Type 0) (kind : FileKind) (name : List ℕ) (status : Status) (line : List ℕ) → IsRefusedFile files R kind name status line → P status
@@ -129,29 +113,30 @@ too_long_of files R words before now _ _ (due_file command status line is first)
     record { command = command; kind = found.0; name = found.1; command_is = is; file = found.3; long = cause.0; line = cause.1 }
 too_long_of files R words before now _ _ (due_answer command vs status bytes is read answer) e a = absurd (of_answer (λ s. s ≡ TooLong → ⊥) (λ q. cc) (λ q. cc) command vs status bytes answer e)
 
-bad_of : (files : Option NamedFiles) (R : List ℕ → Type 0) (words : List (List ℕ)) (kind : FileKind) (before now : Option (List ℕ)) (command : Command) (found : FileKind) (name : List ℕ) (status : Status) (line : List ℕ) → command_of words ≡ Some command → IsRefusedFile files R found name status line
-    → IsFileOf files found name (slots_of command) (behind words) → status ≡ refusal_status kind → Appends before now line → TextAnswer files words kind before now
-bad_of files R words kind before now command found name _ _ is (not_read rose) at e a = absurd (text_no_read_fault kind (sym e))
-bad_of files R words kind before now command found name _ _ is (too_long long) at e a = absurd (text_not_long kind (sym e))
-bad_of files R words kind before now command found name _ _ is (bad_text bytes line content bad) at e a =
-    let same = one_kind found kind e in
+bad_of : (files : Option NamedFiles) (R : List ℕ → Type 0) (words : List (List ℕ)) (wanted : Status) (before now : Option (List ℕ)) (command : Command) (found : FileKind) (name : List ℕ) (status : Status) (line : List ℕ) → command_of words ≡ Some command → IsRefusedFile files R found name status line
+    → IsFileOf files found name (slots_of command) (behind words) → status ≡ wanted → (ReadFault ≡ wanted → ⊥) → (TooLong ≡ wanted → ⊥) → Appends before now line → TextAnswer files words wanted before now
+bad_of files R words wanted before now command found name _ _ is (not_read rose) at e no_fault not_long a = absurd (no_fault e)
+bad_of files R words wanted before now command found name _ _ is (too_long long) at e no_fault not_long a = absurd (not_long e)
+bad_of files R words wanted before now command found name _ _ is (bad_text bytes line content bad) at e no_fault not_long a =
     record {
       command = command;
+      kind = found;
+      kind_is = e;
       name = name;
       bytes = bytes;
       line = line;
       command_is = is;
-      file = subst (λ k. IsFileOf files k name (slots_of command) (behind words)) same at;
+      file = at;
       content = content;
-      refused = subst (λ k. IsRefusedText k bytes line) same bad;
+      refused = bad;
       written = a;
     }
 
-text_of_kind : (files : Option NamedFiles) (R : List ℕ → Type 0) (words : List (List ℕ)) (kind : FileKind) → (refusal_status kind ≡ Source → ⊥) → (before now : Option (List ℕ)) (status : Status) (bytes : List ℕ) → IsDue files R words status bytes → status ≡ refusal_status kind → Appends before now bytes → TextAnswer files words kind before now
+text_of_kind : (files : Option NamedFiles) (R : List ℕ → Type 0) (words : List (List ℕ)) (kind : FileKind) (before now : Option (List ℕ)) (status : Status) (bytes : List ℕ) → IsDue files R words status bytes → status ≡ refusal_status kind → Appends before now bytes → TextAnswer files words (refusal_status kind) before now
 text_of_kind files R words kind apart before now _ _ (due_usage none) e a = absurd (text_no_usage kind (sym e))
 text_of_kind files R words kind apart before now _ _ (due_file command status line is first) e a =
     let found = at_found files (λ other name. IsRefusedFile files R other name status line) (slots_of command) (behind words) first in
-    bad_of files R words kind before now command found.0 found.1 status line is found.2 found.3 e a
+    bad_of files R words (refusal_status kind) before now command found.0 found.1 status line is found.2 found.3 e (λ q. text_no_read_fault kind (sym q)) (λ q. text_not_long kind (sym q)) a
 text_of_kind files R words kind apart before now _ _ (due_answer command vs status bytes is read answer) e a =
     absurd (of_answer (λ s. s ≡ refusal_status kind → ⊥) (λ q. text_not_ok kind (sym q)) (λ q. apart (sym q)) command vs status bytes answer e)
 
@@ -213,13 +198,13 @@ module _ (files : Option NamedFiles) (counts counts_now : List ℕ → ℕ) (wor
   pub too_long_answer : result ≡ TooLong → TooLongAnswer files words before now
   too_long_answer e = let w = written (λ q. grind (arith, e, q)) (λ q. grind (arith, e, q)) in too_long_of files (RoseIn counts counts_now) words before now result w.0 w.1 e w.2
 
-  pub image : result ≡ image_status → TextAnswer files words Image before now
+  pub image : result ≡ image_status → TextAnswer files words image_status before now
   image e = let w = written (λ q. grind (arith, e, q)) (λ q. grind (arith, e, q)) in text_of_kind files (RoseIn counts counts_now) words Image (λ q. cc) before now result w.0 w.1 e w.2
 
-  pub certificate : result ≡ Certificate → TextAnswer files words Report before now
+  pub certificate : result ≡ Certificate → TextAnswer files words Certificate before now
   certificate e = let w = written (λ q. grind (arith, e, q)) (λ q. grind (arith, e, q)) in text_of_kind files (RoseIn counts counts_now) words Report (λ q. cc) before now result w.0 w.1 e w.2
 
-  pub extension : result ≡ extension_status → TextAnswer files words Extension before now
+  pub extension : result ≡ extension_status → TextAnswer files words extension_status before now
   extension e = let w = written (λ q. grind (arith, e, q)) (λ q. grind (arith, e, q)) in text_of_kind files (RoseIn counts counts_now) words Extension (λ q. cc) before now result w.0 w.1 e w.2
 
   pub source : result ≡ Source → SourceAnswer files words before now

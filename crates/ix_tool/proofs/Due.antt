@@ -9,7 +9,7 @@ use Rattle.ix_tool.specs.declared.status.Status.TheVariants.{Usage, ReadFault, S
 use Rattle.ix_tool.specs.declared.command.Command.TheVariants.{Assemble}
 use Rattle.ix_tool.specs.declared.command.Command.{Command}
 use Rattle.ix_tool.specs.declared.command.FileKind.{FileKind}
-use Rattle.ix_tool.specs.declared.command.FileKind.TheVariants.{Image, Report, Extension, Source as source_kind}
+use Rattle.ix_tool.specs.declared.command.FileKind.TheVariants.{Image, Program, Report, Extension, Source as source_kind}
 use Rattle.ix_tool.specs.declared.command.Slot.{Slot}
 use Rattle.ix_tool.specs.declared.command.Slot.TheVariants.{Number, File}
 use Rattle.ix_tool.specs.Readings.{Reading, number_read, image_read, report_read, extension_read, source_read}
@@ -41,6 +41,11 @@ text_apart Image bytes line (number_read n) r bad = r
 text_apart Image bytes line report_read r bad = r
 text_apart Image bytes line (extension_read x) r bad = r
 text_apart Image bytes line (source_read x) r bad = r
+text_apart Program bytes line (image_read image) r bad = image_not_refused bytes image bad.0 r bad.1
+text_apart Program bytes line (number_read n) r bad = r
+text_apart Program bytes line report_read r bad = r
+text_apart Program bytes line (extension_read x) r bad = r
+text_apart Program bytes line (source_read x) r bad = r
 text_apart Report bytes line report_read r bad = faultless_not_refused bytes bad.0 r bad.1
 text_apart Report bytes line (image_read image) r bad = r
 text_apart Report bytes line (number_read n) r bad = r
@@ -63,6 +68,15 @@ text_one Image bytes (number_read n) u r s = absurd r
 text_one Image bytes report_read u r s = absurd r
 text_one Image bytes (extension_read x) u r s = absurd r
 text_one Image bytes (source_read x) u r s = absurd r
+text_one Program bytes (image_read i) (image_read j) r s = ap (λ x. image_read x) (r.words_are ∙ sym s.words_are)
+text_one Program bytes (image_read i) (number_read n) r s = absurd s
+text_one Program bytes (image_read i) report_read r s = absurd s
+text_one Program bytes (image_read i) (extension_read y) r s = absurd s
+text_one Program bytes (image_read i) (source_read y) r s = absurd s
+text_one Program bytes (number_read n) u r s = absurd r
+text_one Program bytes report_read u r s = absurd r
+text_one Program bytes (extension_read x) u r s = absurd r
+text_one Program bytes (source_read x) u r s = absurd r
 text_one Report bytes report_read report_read r s = refl
 text_one Report bytes report_read (image_read i) r s = absurd s
 text_one Report bytes report_read (number_read n) r s = absurd s

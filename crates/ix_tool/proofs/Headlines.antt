@@ -9,8 +9,8 @@ use Rattle.ix_io.specs.Sink.{Appends}
 use Rattle.ix_cert.specs.Certificates.{IsFaultless}
 use Rattle.ix_cert.proofs.Verdicts.{faultless_certified}
 use Rattle.ix_tool.specs.declared.command.Command.{Command}
-use Rattle.ix_tool.specs.declared.command.Command.TheVariants.{RunImage, Check, Certify, Assemble}
-use Rattle.ix_tool.specs.declared.command.FileKind.TheVariants.{Image, Report, Extension, Source as source_kind}
+use Rattle.ix_tool.specs.declared.command.Command.TheVariants.{RunImage, Check, Certify, Seq, Assemble}
+use Rattle.ix_tool.specs.declared.command.FileKind.TheVariants.{Image, Program, Report, Extension, Source as source_kind}
 use Rattle.ix_tool.specs.Readings.{Reading, number_read, image_read, report_read, extension_read, source_read}
 use Rattle.rv_asm.specs.ImageText.{IsImageText, image_text}
 use Rattle.rv_asm.specs.Sources.{Assembles}
@@ -18,10 +18,11 @@ use Rattle.ix_io.specs.Limits.{most_bytes}
 use Rattle.ix_extension.specs.Extensions.{ExtensionTree}
 use Rattle.ix_elab.specs.Elaborating.{Elaborates}
 use Rattle.ix_listing.specs.Listing.{listing_text}
+use Rattle.rv_record.specs.RunText.{run_text}
 use Rattle.ix_listing.proofs.OneExtension.{is_well_formed}
 use Rattle.ix_tool.specs.BuiltImages.{AllBuilt}
-use Rattle.ix_tool.specs.CommandLine.{command_of, commands, first_command, is_command, slots_of, fits_slots, behind, number_within, run_of, run_command, AsmCommand, extension_of, report_of, source_of}
-use Rattle.ix_tool.specs.CommandOutput.{IsReadAs, IsFile, AreRead, IsOutput, Takes, OutputAnswer, RunAnswer, ListedAnswer, CertifiedAnswer, AssembledAnswer, image_of_run, told_of}
+use Rattle.ix_tool.specs.CommandLine.{command_of, commands, first_command, is_command, slots_of, fits_slots, behind, number_within, run_of, run_command, SeqCommand, seq_command, seq_of, AsmCommand, extension_of, report_of, source_of}
+use Rattle.ix_tool.specs.CommandOutput.{IsReadAs, IsFile, AreRead, IsOutput, Takes, OutputAnswer, RunAnswer, ListedAnswer, CertifiedAnswer, SteppedAnswer, AssembledAnswer, image_of_run, told_of}
 use Rattle.ix_tool.proofs.Due.{both, one}
 
 -- ---- the words of a command
@@ -52,6 +53,13 @@ image_of bytes (number_read n) r = absurd r
 image_of bytes report_read r = absurd r
 image_of bytes (extension_read x) r = absurd r
 image_of bytes (source_read x) r = absurd r
+
+program_of : (bytes : List ℕ) (v : Reading) → IsReadAs Program bytes v → (image : List ℕ) × (v ≡ image_read image) × IsImageText bytes image
+program_of bytes (image_read image) r = (image, refl, r)
+program_of bytes (number_read n) r = absurd r
+program_of bytes report_read r = absurd r
+program_of bytes (extension_read x) r = absurd r
+program_of bytes (source_read x) r = absurd r
 
 report_in : (bytes : List ℕ) (v : Reading) → IsReadAs Report bytes v → (v ≡ report_read) × IsFaultless bytes
 report_in bytes report_read r = (refl, r)
@@ -179,12 +187,62 @@ source_is_read files (a ∷ b ∷ []) (v ∷ u ∷ []) h =
       source_file = h.1.0.1;
     }
 
+pub record IsSeqRead (files : Option NamedFiles) (rest : List (List ℕ)) (vs : List Reading) : Type 0 where
+  pub name : List ℕ
+  pub other : List ℕ
+  pub number : List ℕ
+  pub bytes : List ℕ
+  pub extension : ExtensionTree
+  pub program : List ℕ
+  pub image : List ℕ
+  pub steps : ℕ
+  pub words : rest ≡ name ∷ other ∷ number ∷ []
+  pub values : vs ≡ extension_read extension ∷ image_read image ∷ number_read steps ∷ []
+  pub file : IsFile files name bytes
+  pub elaborates : Elaborates bytes extension
+  pub program_file : IsFile files other program
+  pub text : IsImageText program image
+  pub within : number_within 200000 number ≡ Some steps
+
+seq_read : (files : Option NamedFiles) (rest : List (List ℕ)) (vs : List Reading) → AreRead files (slots_of Seq) rest vs → IsSeqRead files rest vs
+seq_read files [] vs h = absurd h
+seq_read files (a ∷ rest) [] h = absurd h
+seq_read files (a ∷ []) (v ∷ vs) h = absurd h.1
+seq_read files (a ∷ b ∷ rest) (v ∷ []) h = absurd h.1
+seq_read files (a ∷ b ∷ []) (v ∷ u ∷ vs) h = absurd h.1.1
+seq_read files (a ∷ b ∷ c ∷ rest) (v ∷ u ∷ []) h = absurd h.1.1
+seq_read files (a ∷ b ∷ c ∷ d ∷ rest) (v ∷ u ∷ w ∷ vs) h = absurd h.1.1.1
+seq_read files (a ∷ b ∷ c ∷ []) (v ∷ u ∷ w ∷ z ∷ vs) h = absurd h.1.1.1
+seq_read files (a ∷ b ∷ c ∷ []) (v ∷ u ∷ w ∷ []) h =
+    let x = extension_in h.0.0 v h.0.2 in
+    let i = program_of h.1.0.0 u h.1.0.2 in
+    record {
+      name = a;
+      other = b;
+      number = c;
+      bytes = h.0.0;
+      extension = x.0;
+      program = h.1.0.0;
+      image = i.0;
+      steps = h.1.1.0.0;
+      words = refl;
+      values = ap (λ y. y ∷ u ∷ w ∷ []) x.1 ∙ ap (λ y. extension_read x.0 ∷ y ∷ w ∷ []) i.1 ∙ ap (λ y. extension_read x.0 ∷ image_read i.0 ∷ y ∷ []) h.1.1.0.2;
+      file = h.0.1;
+      elaborates = x.2;
+      program_file = h.1.0.1;
+      text = i.2;
+      within = h.1.1.0.1;
+    }
+
 -- the values of the words are those that the command takes
 pub takes : (files : Option NamedFiles) (command : Command) (rest : List (List ℕ)) (vs : List Reading) → AreRead files (slots_of command) rest vs → Takes command vs
 takes files RunImage rest vs h = subst (λ x. Takes RunImage x) (sym (run_read files rest vs h).values) tt
 takes files Check rest vs h = subst (λ x. Takes Check x) (sym (extension_is_read files rest vs h).values) tt
 takes files Certify rest vs h = subst (λ x. Takes Certify x) (sym (report_is_read files rest vs h).values) tt
 takes files Assemble rest vs h = let r = source_is_read files rest vs h in subst (λ x. Takes Assemble x) (sym r.values) r.source_file.within
+takes files Seq rest vs h =
+    let r = seq_read files rest vs h in
+    subst (λ x. Takes Seq x) (sym r.values) (is_well_formed r.bytes r.extension r.elaborates)
 
 -- ---- the headline
 -- the words of a run
@@ -203,6 +261,20 @@ two_no_run (word ∷ rest) name command is e = ap (λ r. run_of (word ∷ r)) e
 three_no_file : (words : List (List ℕ)) (name number : List ℕ) (command : Command) → is_command command words ≡ true → behind words ≡ name ∷ number ∷ [] → (extension_of words ≡ None) × (report_of words ≡ None)
 three_no_file [] name number command is e = absurd (true≢false (sym is))
 three_no_file (word ∷ rest) name number command is e = (ap (λ r. extension_of (word ∷ r)) e, ap (λ r. report_of (word ∷ r)) e)
+
+-- and four are none of the others
+four_no_other : (words : List (List ℕ)) (a b c : List ℕ) → is_command Seq words ≡ true → behind words ≡ a ∷ b ∷ c ∷ [] → (run_of words ≡ None) × (extension_of words ≡ None) × (report_of words ≡ None)
+four_no_other [] a b c is e = absurd (true≢false (sym is))
+four_no_other (word ∷ rest) a b c is e = (ap (λ r. run_of (word ∷ r)) e, ap (λ r. extension_of (word ∷ r)) e, ap (λ r. report_of (word ∷ r)) e)
+
+-- fewer words are no sequential run
+one_no_seq : (words : List (List ℕ)) (name : List ℕ) (command : Command) → is_command command words ≡ true → behind words ≡ name ∷ [] → seq_of words ≡ None
+one_no_seq [] name command is e = absurd (true≢false (sym is))
+one_no_seq (word ∷ rest) name command is e = ap (λ r. seq_of (word ∷ r)) e
+
+two_no_seq : (words : List (List ℕ)) (name number : List ℕ) (command : Command) → is_command command words ≡ true → behind words ≡ name ∷ number ∷ [] → seq_of words ≡ None
+two_no_seq [] name number command is e = absurd (true≢false (sym is))
+two_no_seq (word ∷ rest) name number command is e = ap (λ r. seq_of (word ∷ r)) e
 
 -- the word of one command is none of another
 not_its_word : (a b c : List ℕ) → bytes_eq b c ≡ false → bytes_eq a b ≡ true → bytes_eq a c ≡ false
@@ -239,6 +311,9 @@ headline_of files words before now Check vs text is read out a told =
 headline_of files words before now Assemble vs text is read out a told =
     let r = source_is_read files (behind words) vs read in
     absurd (told (ap (λ o. image_of_run files o) (asm_no_run words r.name r.other is r.words)))
+headline_of files words before now Seq vs text is read out a told =
+    let r = seq_read files (behind words) vs read in
+    absurd (told (ap (λ o. image_of_run files o) (four_no_other words r.name r.other r.number is r.words).0))
 headline_of files words before now RunImage vs text is read out a told =
     let r = run_read files (behind words) vs read in
     let run = run_words_are words r.name r.number r.cycles is r.words r.within in
@@ -283,6 +358,9 @@ certified_of files words before now Check vs text report is read out a e =
 certified_of files words before now Assemble vs text report is read out a e =
     let r = source_is_read files (behind words) vs read in
     absurd (both (report_of words) report e (three_no_file words r.name r.other Assemble is r.words).1)
+certified_of files words before now Seq vs text report is read out a e =
+    let r = seq_read files (behind words) vs read in
+    absurd (both (report_of words) report e (four_no_other words r.name r.other r.number is r.words).2)
 certified_of files words before now Certify vs text report is read out a e =
     let r = report_is_read files (behind words) vs read in
     let within = r.file.within in
@@ -324,6 +402,9 @@ listed_of files words before now Certify vs text name is read out a e =
 listed_of files words before now Assemble vs text name is read out a e =
     let r = source_is_read files (behind words) vs read in
     absurd (both (extension_of words) name e (three_no_file words r.name r.other Assemble is r.words).0)
+listed_of files words before now Seq vs text name is read out a e =
+    let r = seq_read files (behind words) vs read in
+    absurd (both (extension_of words) name e (four_no_other words r.name r.other r.number is r.words).1)
 listed_of files words before now Check vs text name is read out a e =
     let r = extension_is_read files (behind words) vs read in
     let listing : text ≡ listing_text r.extension = subst (λ x. IsOutput Check x text) r.values out in
@@ -338,6 +419,50 @@ listed_of files words before now Check vs text name is read out a e =
 
 pub listed : (files : Option NamedFiles) (words : List (List ℕ)) (before now : Option (List ℕ)) → OutputAnswer files words before now → (name : List ℕ) → extension_of words ≡ Some name → ListedAnswer files name before now
 listed files words before now o name e = listed_of files words before now o.command o.values o.text name (is_of words o.command o.command_is) o.read o.output o.written e
+
+-- ---- a sequential run
+seq_words_are : (words : List (List ℕ)) (a b c : List ℕ) (steps : ℕ) (command : SeqCommand) → is_command Seq words ≡ true → behind words ≡ a ∷ b ∷ c ∷ [] → number_within 200000 c ≡ Some steps → seq_of words ≡ Some command
+    → let named : SeqCommand = record { extension = a; image = b; steps = steps } in named ≡ command
+seq_words_are [] a b c steps command is e w h = absurd (true≢false (sym is))
+seq_words_are (word ∷ rest) a b c steps command is e w h =
+    let first = (and_parts _ _ is).0 in
+    let named : seq_of (word ∷ rest) ≡ Some (record { extension = a; image = b; steps = steps }) =
+    ap (λ r. seq_of (word ∷ r)) e ∙ ap (λ n. seq_command (bytes_eq word (codes "seq")) a b n) w ∙ ap (λ p. seq_command p a b (Some steps)) first in
+    one (seq_of (word ∷ rest)) (record { extension = a; image = b; steps = steps }) command named h
+
+stepped_of : (files : Option NamedFiles) (words : List (List ℕ)) (before now : Option (List ℕ)) (command : Command) (vs : List Reading) (text : List ℕ) (asked : SeqCommand) → is_command command words ≡ true → AreRead files (slots_of command) (behind words) vs → IsOutput command vs text → Appends before now text
+    → seq_of words ≡ Some asked → SteppedAnswer files asked before now
+stepped_of files words before now RunImage vs text asked is read out a e =
+    let r = run_read files (behind words) vs read in
+    absurd (both (seq_of words) asked e (two_no_seq words r.name r.number RunImage is r.words))
+stepped_of files words before now Certify vs text asked is read out a e =
+    let r = report_is_read files (behind words) vs read in
+    absurd (both (seq_of words) asked e (one_no_seq words r.name Certify is r.words))
+stepped_of files words before now Check vs text asked is read out a e =
+    let r = extension_is_read files (behind words) vs read in
+    absurd (both (seq_of words) asked e (one_no_seq words r.name Check is r.words))
+stepped_of files words before now Assemble vs text asked is read out a e =
+    let r = source_is_read files (behind words) vs read in
+    absurd (both (seq_of words) asked e (two_no_seq words r.name r.other Assemble is r.words))
+stepped_of files words before now Seq vs text asked is read out a e =
+    let r = seq_read files (behind words) vs read in
+    let run : text ≡ run_text r.extension r.image r.steps = subst (λ x. IsOutput Seq x text) r.values out in
+    subst (λ k. SteppedAnswer files k before now) (seq_words_are words r.name r.other r.number r.steps asked is r.words r.within e)
+    (record {
+      bytes = r.bytes;
+      extension = r.extension;
+      file = r.file;
+      elaborates = r.elaborates;
+      well_formed = is_well_formed r.bytes r.extension r.elaborates;
+      program = r.program;
+      image = r.image;
+      program_file = r.program_file;
+      read = r.text;
+      written = subst (λ t. Appends before now t) run a;
+    })
+
+pub stepped : (files : Option NamedFiles) (words : List (List ℕ)) (before now : Option (List ℕ)) → OutputAnswer files words before now → (asked : SeqCommand) → seq_of words ≡ Some asked → SteppedAnswer files asked before now
+stepped files words before now o asked e = stepped_of files words before now o.command o.values o.text asked (is_of words o.command o.command_is) o.read o.output o.written e
 
 -- ---- a source that is assembled
 none_asm : (b : Bool) (o : AsmCommand) → b ≡ false → (if b then Some o else None) ≡ None
@@ -357,6 +482,10 @@ two_no_asm : (words : List (List ℕ)) (name : List ℕ) (command : Command) →
 two_no_asm [] name command is e = absurd (true≢false (sym is))
 two_no_asm (word ∷ rest) name command is e = ap (λ r. source_of (word ∷ r)) e
 
+three_no_asm : (words : List (List ℕ)) (a b c : List ℕ) (command : Command) → is_command command words ≡ true → behind words ≡ a ∷ b ∷ c ∷ [] → source_of words ≡ None
+three_no_asm [] a b c command is e = absurd (true≢false (sym is))
+three_no_asm (word ∷ rest) a b c command is e = ap (λ r. source_of (word ∷ r)) e
+
 run_no_asm : (words : List (List ℕ)) (name number : List ℕ) → is_command RunImage words ≡ true → behind words ≡ name ∷ number ∷ [] → source_of words ≡ None
 run_no_asm [] name number is e = absurd (true≢false (sym is))
 run_no_asm (word ∷ rest) name number is e =
@@ -374,6 +503,9 @@ assembled_of files words before now Check vs text asked is read out a e =
 assembled_of files words before now Certify vs text asked is read out a e =
     let r = report_is_read files (behind words) vs read in
     absurd (both (source_of words) asked e (two_no_asm words r.name Certify is r.words))
+assembled_of files words before now Seq vs text asked is read out a e =
+    let r = seq_read files (behind words) vs read in
+    absurd (both (source_of words) asked e (three_no_asm words r.name r.other r.number Seq is r.words))
 assembled_of files words before now Assemble vs text asked is read out a e =
     let r = source_is_read files (behind words) vs read in
     let there : IsOutput Assemble (extension_read r.extension ∷ source_read r.source ∷ []) text = subst (λ x. IsOutput Assemble x text) r.values out in

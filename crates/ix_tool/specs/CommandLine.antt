@@ -4,8 +4,8 @@ use Rattle.std.specs.Option.{option_and_then}
 use Rattle.std.specs.Str.{bytes_eq}
 use Rattle.std.specs.declared.alloc.Global.{Global}
 use Rattle.ix_tool.specs.declared.command.Command.{Command}
-use Rattle.ix_tool.specs.declared.command.Command.TheVariants.{RunImage, Check, Certify, Assemble}
-use Rattle.ix_tool.specs.declared.command.FileKind.TheVariants.{Image, Report, Extension, Source}
+use Rattle.ix_tool.specs.declared.command.Command.TheVariants.{RunImage, Check, Certify, Seq, Assemble}
+use Rattle.ix_tool.specs.declared.command.FileKind.TheVariants.{Image, Program, Report, Extension, Source}
 use Rattle.ix_tool.specs.declared.command.Slot.{Slot}
 use Rattle.ix_tool.specs.declared.command.Slot.TheVariants.{Number, File}
 
@@ -36,17 +36,19 @@ word_of RunImage = codes "run"
 word_of Check = codes "check"
 word_of Certify = codes "certify"
 word_of Assemble = codes "asm"
+word_of Seq = codes "seq"
 
 -- numbers and files, in the order of the words
 abbrev pub slots_of : Command → List Slot
 slots_of RunImage = File Image ∷ Number 200000 ∷ []
 slots_of Check = File Extension ∷ []
 slots_of Certify = File Report ∷ []
+slots_of Seq = File Extension ∷ File Program ∷ Number 200000 ∷ []
 slots_of Assemble = File Extension ∷ File Source ∷ []
 
 -- the commands, in the order in which words are tried
 abbrev pub commands : List Command
-commands = RunImage ∷ Check ∷ Certify ∷ Assemble ∷ []
+commands = RunImage ∷ Check ∷ Certify ∷ Seq ∷ Assemble ∷ []
 
 -- ---- which command words are
 -- any word names a file; a number is at most the given one
@@ -125,6 +127,25 @@ source_of (command ∷ []) = None
 source_of (command ∷ extension ∷ []) = None
 source_of (command ∷ extension ∷ source ∷ []) = if bytes_eq command (codes "asm") then Some (record { extension = extension; source = source }) else None
 source_of (command ∷ extension ∷ source ∷ more ∷ rest) = None
+
+-- ---- seq EXT IMAGE STEPS, with 0 to 200,000 steps
+pub record SeqCommand : Type 0 where
+  pub extension : List ℕ
+  pub image : List ℕ
+  pub steps : ℕ
+
+abbrev pub seq_command : Bool → List ℕ → List ℕ → Option ℕ → Option SeqCommand
+seq_command is_seq extension image None = None
+seq_command is_seq extension image (Some n) = if is_seq then Some (record { extension = extension; image = image; steps = n }) else None
+
+-- the sequential run that these words ask for, if they do
+abbrev pub seq_of : List (List ℕ) → Option SeqCommand
+seq_of [] = None
+seq_of (command ∷ []) = None
+seq_of (command ∷ extension ∷ []) = None
+seq_of (command ∷ extension ∷ image ∷ []) = None
+seq_of (command ∷ extension ∷ image ∷ steps ∷ []) = seq_command (bytes_eq command (codes "seq")) extension image (number_within 200000 steps)
+seq_of (command ∷ extension ∷ image ∷ steps ∷ more ∷ rest) = None
 
 -- the bytes of the words
 abbrev pub bytes_of : List (String Global) → List (List ℕ)

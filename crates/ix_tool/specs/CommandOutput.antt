@@ -4,9 +4,9 @@ use Rattle.rv_trace.specs.declared.row.Row.{Row}
 use Rattle.ix_tool.specs.declared.status.Status.{Status}
 use Rattle.ix_tool.specs.declared.status.Status.TheVariants.{Ok as ok_status, Usage, ReadFault, WriteFault, TooLong, Extension as extension_status, Sheet, Image as image_status, NoSchedule, Certificate, Memory, Source, Waits}
 use Rattle.ix_tool.specs.declared.command.Command.{Command}
-use Rattle.ix_tool.specs.declared.command.Command.TheVariants.{RunImage, Check, Certify, Assemble}
+use Rattle.ix_tool.specs.declared.command.Command.TheVariants.{RunImage, Check, Certify, Seq, Assemble}
 use Rattle.ix_tool.specs.declared.command.FileKind.{FileKind}
-use Rattle.ix_tool.specs.declared.command.FileKind.TheVariants.{Image, Report, Extension, Source as source_kind}
+use Rattle.ix_tool.specs.declared.command.FileKind.TheVariants.{Image, Program, Report, Extension, Source as source_kind}
 use Rattle.ix_tool.specs.declared.command.Slot.{Slot}
 use Rattle.ix_tool.specs.declared.command.Slot.TheVariants.{Number, File}
 use Rattle.ix_tool.specs.declared.value.Value.{Value}
@@ -18,6 +18,7 @@ use Rattle.rv_core.specs.Kinds.{IsShapeOf}
 use Rattle.rv_trace.specs.Trace.{newest, architecture}
 use Rattle.rv_trace.specs.Headline.{Headline}
 use Rattle.rv_trace.specs.TraceText.{trace_text, state_text}
+use Rattle.rv_record.specs.RunText.{run_text}
 use Rattle.rv_asm.specs.ImageText.{IsImageText, IsBadLine, image_text}
 use Rattle.rv_asm.specs.Sources.{Assembles, IsRefusedAs}
 use Rattle.rv_asm.specs.declared.source.AsmErr.{AsmErr}
@@ -32,7 +33,7 @@ use Rattle.ix_listing.specs.Listing.{listing_text}
 use Rattle.ix_listing.specs.RefusalLine.{refusal_line}
 use Rattle.ix_tool.specs.BuiltImages.{AllBuilt, IsUnbuiltLine}
 use Rattle.ix_tool.specs.Readings.{Reading, number_read, image_read, report_read, extension_read, source_read, reading_of}
-use Rattle.ix_tool.specs.CommandLine.{RunCommand, AsmCommand, run_of, report_of, command_of, slots_of, behind, number_within}
+use Rattle.ix_tool.specs.CommandLine.{RunCommand, SeqCommand, AsmCommand, run_of, report_of, command_of, slots_of, behind, number_within}
 use Rattle.ix_cert.specs.declared.report.CertErr.{CertErr}
 use Rattle.ix_cert.specs.Certificates.{IsCertifiedText, IsFaultless, IsRefused as IsRefusedReport}
 use Rattle.ix_cert.specs.Words.{line_number, kind_word}
@@ -85,6 +86,7 @@ pub data IsRefusedImage (bytes : List ℕ) : ℕ → Type 0 where
 -- the text of a file of this kind is refused with this line
 abbrev pub IsRefusedText : FileKind → List ℕ → List ℕ → Type 0
 IsRefusedText Image bytes line = (number : ℕ) × IsRefusedImage bytes number × (line ≡ image_line number)
+IsRefusedText Program bytes line = (number : ℕ) × IsBadLine bytes number × (line ≡ image_line number)
 IsRefusedText Report bytes line = (e : CertErr) × IsRefusedReport bytes e × (line ≡ certificate_line e)
 IsRefusedText Extension bytes line = (e : FrontErr) × IsRefusedExtension bytes e × (line ≡ refusal_line e)
 IsRefusedText source_kind bytes line = ⊥
@@ -92,6 +94,7 @@ IsRefusedText source_kind bytes line = ⊥
 -- the status of that refusal
 abbrev pub refusal_status : FileKind → Status
 refusal_status Image = image_status
+refusal_status Program = image_status
 refusal_status Report = Certificate
 refusal_status Extension = extension_status
 refusal_status source_kind = Source
@@ -100,6 +103,8 @@ refusal_status source_kind = Source
 abbrev pub IsReadAs : FileKind → List ℕ → Reading → Type 0
 IsReadAs Image bytes (image_read image) = IsImageText bytes image × AllBuilt image
 IsReadAs Image bytes v = ⊥
+IsReadAs Program bytes (image_read image) = IsImageText bytes image
+IsReadAs Program bytes v = ⊥
 IsReadAs Report bytes report_read = IsFaultless bytes
 IsReadAs Report bytes v = ⊥
 IsReadAs Extension bytes (extension_read x) = Elaborates bytes x
@@ -147,6 +152,7 @@ IsOutput RunImage (image_read image ∷ number_read cycles ∷ []) text = IsRunO
 IsOutput Check (extension_read x ∷ []) text = text ≡ listing_text x
 IsOutput Certify (report_read ∷ []) text = text ≡ codes "yes\n"
 IsOutput Assemble (extension_read x ∷ source_read bytes ∷ []) text = (words : List ℕ) × Assembles x bytes words × (text ≡ image_text words)
+IsOutput Seq (extension_read x ∷ image_read image ∷ number_read steps ∷ []) text = text ≡ run_text x image steps
 IsOutput command values text = ⊥
 
 -- a refusal of the command's own, behind those of its files: of a source with the extension before it
@@ -228,6 +234,7 @@ Takes RunImage (image_read image ∷ number_read cycles ∷ []) = Unit {0}
 Takes Check (extension_read x ∷ []) = Unit {0}
 Takes Certify (report_read ∷ []) = Unit {0}
 Takes Assemble (extension_read x ∷ source_read bytes ∷ []) = length bytes ≤ most_bytes
+Takes Seq (extension_read x ∷ image_read image ∷ number_read steps ∷ []) = (text : TypedTextTree) × IsOf text x
 Takes command values = ⊥
 
 -- what a command with these values did
@@ -296,9 +303,11 @@ pub record TooLongAnswer (files : Option NamedFiles) (words : List (List ℕ)) (
   pub long : IfSome (told_file files name) (λ bytes. most_bytes < length bytes)
   pub line : Appends before now (file_line (codes "TooLong") name)
 
--- the text of one of the command's files of this kind is refused with a line, which was written
-pub record TextAnswer (files : Option NamedFiles) (words : List (List ℕ)) (kind : FileKind) (before now : Option (List ℕ)) : Type 0 where
+-- the text of one of the command's files, of a kind that is refused with this status, is refused with a line, which was written
+pub record TextAnswer (files : Option NamedFiles) (words : List (List ℕ)) (status : Status) (before now : Option (List ℕ)) : Type 0 where
   pub command : Command
+  pub kind : FileKind
+  pub kind_is : refusal_status kind ≡ status
   pub name : List ℕ
   pub bytes : List ℕ
   pub line : List ℕ
@@ -371,6 +380,20 @@ pub record SourceAnswer (files : Option NamedFiles) (words : List (List ℕ)) (b
   pub no_memory : error ≢ A.Memory
   pub refused : IsRefusedAs extension source error
   pub written : Appends before now (source_line error)
+
+-- the files are the texts of this extension, which is well formed, and of this image, whatever its words; and the text of the image's run on a core with
+-- the extension, one instruction at a time, was written whole
+pub record SteppedAnswer (files : Option NamedFiles) (command : SeqCommand) (before now : Option (List ℕ)) : Type 0 where
+  pub bytes : List ℕ
+  pub extension : ExtensionTree
+  pub file : IsFile files command.extension bytes
+  pub elaborates : Elaborates bytes extension
+  pub well_formed : (text : TypedTextTree) × IsOf text extension
+  pub program : List ℕ
+  pub image : List ℕ
+  pub program_file : IsFile files command.image program
+  pub read : IsImageText program image
+  pub written : Appends before now (run_text extension image command.steps)
 
 -- one of the answers that are built
 abbrev pub IsBuiltAnswer : Status → Type 0

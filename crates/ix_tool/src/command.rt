@@ -12,13 +12,17 @@ pub enum Command {
     Certify,
     /// `asm EXT SOURCE`.
     Assemble,
+    /// `seq EXT IMAGE STEPS`, with 0 to 200,000 steps.
+    Seq,
 }
 
 /// What a file is read as.
 #[derive(Clone, Copy, Debug, PartialEq, Eq)]
 pub enum FileKind {
-    /// The words of a program.
+    /// The words of a program, each a built instruction of the pipeline.
     Image,
+    /// The words of a program.
+    Program,
     /// A report of schedules.
     Report,
     /// The text of an extension.
@@ -42,6 +46,7 @@ const COMMANDS: [Command; 4] = [
     Command::Check,
     Command::Certify,
     Command::Assemble,
+    Command::Seq,
 ];
 
 /// What stands behind `run` for an image alone.
@@ -52,6 +57,13 @@ const CHECK: [Slot; 1] = [Slot::File(FileKind::Extension)];
 
 /// What stands behind `certify`.
 const CERTIFY: [Slot; 1] = [Slot::File(FileKind::Report)];
+
+/// What stands behind `seq`.
+const SEQ: [Slot; 3] = [
+    Slot::File(FileKind::Extension),
+    Slot::File(FileKind::Program),
+    Slot::Number(200_000),
+];
 
 /// What stands behind `asm`.
 const ASSEMBLE: [Slot; 2] = [
@@ -69,6 +81,7 @@ impl Command {
             Command::Check => "check",
             Command::Certify => "certify",
             Command::Assemble => "asm",
+            Command::Seq => "seq",
         }
     }
 
@@ -81,6 +94,7 @@ impl Command {
             Command::Check => &CHECK,
             Command::Certify => &CERTIFY,
             Command::Assemble => &ASSEMBLE,
+            Command::Seq => &SEQ,
         }
     }
 }

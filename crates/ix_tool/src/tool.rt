@@ -1,12 +1,13 @@
 ghost use Rattle.std.specs.Prelude.{◌≡◌, ◌≢◌, ℕ, List, map, Some, None, ◌⊎◌};
 ghost use Rattle.ix_tool.specs.declared.status.Status.{Status};
 ghost use Rattle.ix_tool.specs.declared.command.Command.{Command as TheCommand};
-ghost use Rattle.ix_tool.specs.declared.command.FileKind.TheVariants.{Image as image_kind, Report as report_kind, Extension as extension_kind};
-ghost use Rattle.ix_tool.specs.CommandLine.{AsmCommand, command_of as specified_command_of, extension_of, report_of, source_of, bytes_of};
+ghost use Rattle.ix_tool.specs.CommandLine.{SeqCommand, AsmCommand, command_of as specified_command_of, extension_of, report_of, seq_of, source_of, bytes_of};
 ghost use Rattle.ix_extension.specs.Extensions.{view_extension};
+ghost use Rattle.ix_extension.specs.WellFormed.{IsWellFormed};
 ghost use Rattle.ix_listing.specs.Listing.{listing_text};
+ghost use Rattle.rv_record.specs.RunText.{run_text};
 ghost use Rattle.ix_tool.specs.Readings.{Reading, reading_of};
-ghost use Rattle.ix_tool.specs.CommandOutput.{Writes, Takes, Answered, Outcome, RoseIn, NoneRises, IsDue, UsageAnswer, ReadFaultAnswer, WriteFaultAnswer, TooLongAnswer, TextAnswer, OutputAnswer, RunAnswer, ListedAnswer, CertifiedAnswer, AssembledAnswer, SourceAnswer, IsBuiltAnswer, IsStatusOr, Premises, Completes, told_of};
+ghost use Rattle.ix_tool.specs.CommandOutput.{Writes, Takes, Answered, Outcome, RoseIn, NoneRises, IsDue, UsageAnswer, ReadFaultAnswer, WriteFaultAnswer, TooLongAnswer, TextAnswer, OutputAnswer, RunAnswer, ListedAnswer, CertifiedAnswer, SteppedAnswer, AssembledAnswer, SourceAnswer, IsBuiltAnswer, IsStatusOr, Premises, Completes, told_of};
 
 use crate::assembling::assemble_source;
 use crate::command::{Command, command_of};
@@ -16,6 +17,8 @@ use crate::value::{Refusal, Value, read_words};
 use ix_io::{Shelf, Sink, write_all};
 use ix_listing::listing;
 use ix_tree::Extension;
+use rv_isa::Image;
+use rv_tell::{RunErr, write_run};
 use std::alloc::Global;
 
 /// Writes these bytes and answers the status, or that they could not be written.
@@ -39,6 +42,40 @@ fn list_extension<S: Sink>(alloc: Global, extension: &Extension, sink: &mut S) -
     }
 }
 
+/// Writes the sequential run of an image on a core with an extension.
+fn run_steps<S: Sink>(
+    alloc: Global,
+    extension: &Extension,
+    image: &Image,
+    steps: u32,
+    sink: &mut S,
+) -> Status
+    requires { IsWellFormed extension.now }
+    ensures { ((result ≡ Status.Memory) × (S.written sink.new ≡ S.written sink.old))
+        ⊎ Writes Status.Ok (run_text (view_extension extension.now) image.now steps) (S.written sink.old) (S.written sink.new) (S.faults sink.old) (S.faults sink.new) result }
+{
+    match write_run(alloc, extension, image, steps, sink) {
+        Ok(()) => Status::Ok,
+        Err(RunErr::Memory) => Status::Memory,
+        Err(RunErr::Fault) => Status::WriteFault,
+    }
+}
+
+/// Writes the sequential run that these values ask for.
+fn answer_seq<S: Sink>(alloc: Global, values: &[Value], sink: &mut S) -> Status
+    requires { Takes Command.Seq (map reading_of values.now) }
+    ensures { Answered Command.Seq (map reading_of values.now) (S.written sink.old) (S.written sink.new) (S.faults sink.old) (S.faults sink.new) result }
+{
+    match values {
+        [
+            Value::Extension(extension),
+            Value::Image(image),
+            Value::Number(steps),
+        ] => { run_steps(alloc, extension, image, *steps, sink) }
+        _ => unreachable!(),
+    }
+}
+
 /// Writes what is due of the values of a command.
 fn answer<S: Sink>(alloc: Global, command: Command, values: &[Value], sink: &mut S) -> Status
     requires { Takes command (map reading_of values.now) }
@@ -50,6 +87,7 @@ fn answer<S: Sink>(alloc: Global, command: Command, values: &[Value], sink: &mut
         }
         (Command::Check, [Value::Extension(extension)]) => list_extension(alloc, extension, sink),
         (Command::Certify, [Value::Report]) => finish(sink, Status::Ok, b"yes\n"),
+        (Command::Seq, _) => answer_seq(alloc, values, sink),
         (Command::Assemble, [Value::Extension(extension), Value::Source(source)]) => {
             assemble_source(alloc, extension, source, sink)
         }
@@ -81,7 +119,7 @@ fn run_words<F: Shelf, S: Sink>(
 /// `run IMAGE CYCLES` writes the trace and the state of a run on the core of three stages: at most 200,000 cycles over an
 /// image of at most 1,048,576 bytes and 65,536 words. `check EXT` writes the listing of an extension: its registers, tables,
 /// encodings and blocks. `certify REPORT` writes `yes` where the check of a report finds no
-/// fault. `asm EXT SOURCE` writes the image of a source with the instructions of an extension. The files are read whole and judged one after another, in the order of the words. A refusal writes its one line
+/// fault. `seq EXT IMAGE STEPS` writes the run of an image one instruction at a time, at most 200,000 of them, on a core with an extension. `asm EXT SOURCE` writes the image of a source with the instructions of an extension. The files are read whole and judged one after another, in the order of the words. A refusal writes its one line
 /// alone; want of memory writes nothing, and comes before the first cycle.
 pub fn run_tool<F: Shelf, S: Sink>(
     alloc: Global,
@@ -106,6 +144,10 @@ pub fn run_tool<F: Shelf, S: Sink>(
     ensures assembled { result ≡ Status.Ok → (command : AsmCommand) → source_of (bytes_of words.now) ≡ Some command
         → AssembledAnswer (F.files shelf.old) command (S.written sink.old) (S.written sink.new) }
 
+    // A sequential run is that of the image, step by step, on a core with the extension which the file is the text of.
+    ensures stepped { result ≡ Status.Ok → (command : SeqCommand) → seq_of (bytes_of words.now) ≡ Some command
+        → SteppedAnswer (F.files shelf.old) command (S.written sink.old) (S.written sink.new) }
+
     // For every command: the status and the bytes that were written are due, by the words and the bytes of the files. Of a
     // file of which nothing is told, they are some bytes of at most the greatest length.
     ensures outcome { Outcome (F.files shelf.old) (RoseIn (F.faults shelf.old) (F.faults shelf.new)) (bytes_of words.now)
@@ -123,11 +165,11 @@ pub fn run_tool<F: Shelf, S: Sink>(
     ensures too_long { result ≡ Status.TooLong
         → TooLongAnswer (F.files shelf.old) (bytes_of words.now) (S.written sink.old) (S.written sink.new) }
     ensures image { result ≡ Status.Image
-        → TextAnswer (F.files shelf.old) (bytes_of words.now) image_kind (S.written sink.old) (S.written sink.new) }
+        → TextAnswer (F.files shelf.old) (bytes_of words.now) Status.Image (S.written sink.old) (S.written sink.new) }
     ensures extension { result ≡ Status.Extension
-        → TextAnswer (F.files shelf.old) (bytes_of words.now) extension_kind (S.written sink.old) (S.written sink.new) }
+        → TextAnswer (F.files shelf.old) (bytes_of words.now) Status.Extension (S.written sink.old) (S.written sink.new) }
     ensures certificate { result ≡ Status.Certificate
-        → TextAnswer (F.files shelf.old) (bytes_of words.now) report_kind (S.written sink.old) (S.written sink.new) }
+        → TextAnswer (F.files shelf.old) (bytes_of words.now) Status.Certificate (S.written sink.old) (S.written sink.new) }
     ensures source { result ≡ Status.Source
         → SourceAnswer (F.files shelf.old) (bytes_of words.now) (S.written sink.old) (S.written sink.new) }
     ensures memory { result ≡ Status.Memory → S.written sink.new ≡ S.written sink.old }

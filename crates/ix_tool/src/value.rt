@@ -10,7 +10,7 @@ ghost use Rattle.ix_tool.specs.CommandLine.{fits_slot, fits_slots, bytes_of};
 ghost use Rattle.ix_tool.specs.CommandOutput.{image_line, file_line, certificate_line, Refuses, Judged, WordRead, WordsRefused, AreRead, RoseIn};
 ghost use Rattle.ix_tool.specs.Readings.{reading_of};
 ghost use Rattle.ix_tool.specs.declared.command.FileKind.{FileKind as Kind};
-ghost use Rattle.ix_tool.specs.declared.command.FileKind.TheVariants.{Image as image_kind, Report as report_kind, Extension as extension_kind, Source as source_kind};
+ghost use Rattle.ix_tool.specs.declared.command.FileKind.TheVariants.{Image as image_kind, Program as program_kind, Report as report_kind, Extension as extension_kind, Source as source_kind};
 
 use crate::command::{FileKind, Slot, number_within};
 use crate::status::Status;
@@ -136,6 +136,17 @@ fn judge_image(alloc: Global, bytes: &[u8]) -> Result<Value, Refusal>
     }
 }
 
+fn judge_program(alloc: Global, bytes: &[u8]) -> Result<Value, Refusal>
+    requires { length bytes.now ≤ most_bytes }
+    ensures { Judged program_kind bytes.now result }
+{
+    match read_image(alloc, bytes) {
+        Err(TextErr::At(number)) => Err(image_refusal(alloc, number)),
+        Err(TextErr::Memory) => Err(Refusal::Memory),
+        Ok(image) => Ok(Value::Image(image)),
+    }
+}
+
 fn judge_report(alloc: Global, bytes: &[u8]) -> Result<Value, Refusal>
     requires { length bytes.now ≤ most_bytes }
     ensures { Judged report_kind bytes.now result }
@@ -173,6 +184,7 @@ fn judge(alloc: Global, kind: FileKind, bytes: &[u8]) -> Result<Value, Refusal>
 {
     match kind {
         FileKind::Image => judge_image(alloc, bytes),
+        FileKind::Program => judge_program(alloc, bytes),
         FileKind::Report => judge_report(alloc, bytes),
         FileKind::Extension => judge_extension(alloc, bytes),
         FileKind::Source => judge_source(alloc, bytes),

@@ -1,6 +1,6 @@
 use Rattle.ix_tool.specs.CommandLine.{bytes_of}
 use Rattle.ix_tool.proofs.Clauses.{usage, read_fault, too_long_answer, image, extension, certificate, source, output, write_fault, memory_alone, built, no_command, due_status, complete}
-use Rattle.ix_tool.proofs.Headlines.{headline, listed, certified, assembled}
+use Rattle.ix_tool.proofs.Headlines.{headline, listed, certified, stepped, assembled}
 use Rattle.ix_tool.proofs.tool.run_tool.Goals as goal
 
 pub returns-clause-headline : goal.returns-clause-headline
@@ -14,6 +14,9 @@ returns-clause-assembled g c = λ e. assembled (g.F.Shelf.files c.args.shelf.now
 
 pub returns-clause-certified : goal.returns-clause-certified
 returns-clause-certified g c = λ e. certified (g.F.Shelf.files c.args.shelf.now) (bytes_of c.args.words.now) (g.S.Sink.written c.args.sink.now) (g.S.Sink.written c.run_words.new.sink) (output (g.F.Shelf.files c.args.shelf.now) (g.F.Shelf.faults c.args.shelf.now) (g.F.Shelf.faults c.run_words.new.shelf) (bytes_of c.args.words.now) (g.S.Sink.written c.args.sink.now) (g.S.Sink.written c.run_words.new.sink) (g.S.Sink.faults c.args.sink.now) (g.S.Sink.faults c.run_words.new.sink) c.run_words.result c.run_words.ensures e)
+
+pub returns-clause-stepped : goal.returns-clause-stepped
+returns-clause-stepped g c = λ e. stepped (g.F.Shelf.files c.args.shelf.now) (bytes_of c.args.words.now) (g.S.Sink.written c.args.sink.now) (g.S.Sink.written c.run_words.new.sink) (output (g.F.Shelf.files c.args.shelf.now) (g.F.Shelf.faults c.args.shelf.now) (g.F.Shelf.faults c.run_words.new.shelf) (bytes_of c.args.words.now) (g.S.Sink.written c.args.sink.now) (g.S.Sink.written c.run_words.new.sink) (g.S.Sink.faults c.args.sink.now) (g.S.Sink.faults c.run_words.new.sink) c.run_words.result c.run_words.ensures e)
 
 pub returns-clause-ok : goal.returns-clause-ok
 returns-clause-ok g c = output (g.F.Shelf.files c.args.shelf.now) (g.F.Shelf.faults c.args.shelf.now) (g.F.Shelf.faults c.run_words.new.shelf) (bytes_of c.args.words.now) (g.S.Sink.written c.args.sink.now) (g.S.Sink.written c.run_words.new.sink) (g.S.Sink.faults c.args.sink.now) (g.S.Sink.faults c.run_words.new.sink) c.run_words.result c.run_words.ensures
