@@ -1,5 +1,5 @@
 -- What the assembly of a source answers.
-use Rattle.std.proofs.Common.{◌≡◌, ◌≢◌, ℕ, List, [], ◌∷◌, Option, refl, ◌⊎◌, inl, inr}
+use Rattle.std.proofs.Common.{◌≡◌, ℕ, List, [], ◌∷◌, Option, refl, ◌⊎◌, inl, inr}
 use Rattle.ix_extension.specs.Extensions.{ExtensionTree}
 use Rattle.rv_asm.specs.ImageText.{image_text}
 use Rattle.rv_asm.specs.Sources.{Assembles, IsRefusedAs}

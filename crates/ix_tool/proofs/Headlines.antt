@@ -12,9 +12,7 @@ use Rattle.ix_tool.specs.declared.command.Command.{Command}
 use Rattle.ix_tool.specs.declared.command.Command.TheVariants.{RunImage, Check, Certify, Seq, Assemble}
 use Rattle.ix_tool.specs.declared.command.FileKind.TheVariants.{Image, Program, Report, Extension, Source as source_kind}
 use Rattle.ix_tool.specs.Readings.{Reading, number_read, image_read, report_read, extension_read, source_read}
-use Rattle.rv_asm.specs.ImageText.{IsImageText, image_text}
-use Rattle.rv_asm.specs.Sources.{Assembles}
-use Rattle.ix_io.specs.Limits.{most_bytes}
+use Rattle.rv_asm.specs.ImageText.{IsImageText}
 use Rattle.ix_extension.specs.Extensions.{ExtensionTree}
 use Rattle.ix_elab.specs.Elaborating.{Elaborates}
 use Rattle.ix_listing.specs.Listing.{listing_text}

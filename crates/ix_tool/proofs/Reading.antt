@@ -11,7 +11,7 @@ use Rattle.ix_tool.specs.declared.command.FileKind.{FileKind}
 use Rattle.ix_tool.specs.declared.command.Slot.{Slot}
 use Rattle.ix_tool.specs.declared.command.Slot.TheVariants.{Number, File}
 use Rattle.ix_tool.specs.declared.value.Value.{Value}
-use Rattle.ix_tool.specs.Readings.{Reading, reading_of}
+use Rattle.ix_tool.specs.Readings.{Reading}
 use Rattle.ix_tool.specs.declared.value.Refusal.{Refusal}
 use Rattle.ix_tool.specs.declared.value.Refusal.TheVariants as refusal
 use Rattle.ix_tool.specs.CommandLine.{fits_slot, fits_slots, bytes_of}

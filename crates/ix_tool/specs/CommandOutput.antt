@@ -1,5 +1,5 @@
 -- What a command answers and writes, from its words and the bytes of its files (this project's choice).
-use Rattle.std.specs.Prelude.{◌≡◌, ◌≢◌, IfSome, ℕ, ◌<◌, ◌≤◌, List, [], ◌∷◌, ◌++◌, length, map, reverse, Option, Some, None, codes, decimal, ◌⊎◌, string_bytes, Result, Ok, Err}
+use Rattle.std.specs.Prelude.{◌≡◌, ◌≢◌, IfSome, ℕ, ◌<◌, ◌≤◌, List, [], ◌∷◌, ◌++◌, length, reverse, Option, Some, None, codes, decimal, ◌⊎◌, string_bytes, Result, Ok, Err}
 use Rattle.rv_trace.specs.declared.row.Row.{Row}
 use Rattle.ix_tool.specs.declared.status.Status.{Status}
 use Rattle.ix_tool.specs.declared.status.Status.TheVariants.{Ok as ok_status, Usage, ReadFault, WriteFault, TooLong, Extension as extension_status, Sheet, Image as image_status, NoSchedule, Certificate, Memory, Source, Waits}

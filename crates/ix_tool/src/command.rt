@@ -41,7 +41,7 @@ pub enum Slot {
 }
 
 /// The commands, in the order in which words are tried.
-const COMMANDS: [Command; 4] = [
+const COMMANDS: [Command; 5] = [
     Command::RunImage,
     Command::Check,
     Command::Certify,

@@ -1,4 +1,4 @@
-use Rattle.std.proofs.Common.{◌≡◌, ◌∙◌, ◌+◌, ◌<◌, sym, ap, refl, ℕ, zero, suc, List, [], ◌∷◌, length, drop, get_or, false, Some, arith}
+use Rattle.std.proofs.Common.{◌≡◌, ◌∙◌, ◌+◌, ◌<◌, sym, ap, ℕ, zero, suc, List, [], ◌∷◌, length, drop, get_or, false, Some, arith}
 use Rattle.std.specs.Prelude.{if◌then◌else◌}
 use Rattle.ix_tool.specs.declared.command.Command.{Command}
 use Rattle.ix_tool.specs.declared.command.Command.TheVariants.{RunImage}
