@@ -36,7 +36,11 @@ fn operand(turn: u32, factor: u32) -> u32 {
 fn by_hand(which: u8, turn: u32) -> u32 {
     let x = u128::from(operand(turn, 2_654_435_761));
     let y = u128::from(operand(turn, 40_503));
-    let result = if which == 0 { plain::root(x) } else { plain::dot(x, y) };
+    let result = if which == 0 {
+        plain::root(x)
+    } else {
+        plain::dot(x, y)
+    };
     (result & 0xffff_ffff) as u32
 }
 
@@ -72,7 +76,13 @@ fn all_evaluated(alloc: Global, ext: &Extension, which: u8, count: u32) -> Resul
             pc: 0,
             custom,
         };
-        let effect = eval(ext, Which::Instruction(which), &inputs, |_at, _bytes| 0, &mut scratch);
+        let effect = eval(
+            ext,
+            Which::Instruction(which),
+            &inputs,
+            |_at, _bytes| 0,
+            &mut scratch,
+        );
         sum = sum.wrapping_add(effect.rd.unwrap_or(0));
     }
     Ok(sum)

@@ -87,13 +87,13 @@ fn effect_of(alloc: Global, extension: &Extension, case: &Case) -> Result<Effect
     };
     let from = case.at;
     let bytes = case.bytes;
-    Ok(
-        eval(extension, case.which, &inputs, |at, _count| if at == from {
-            bytes
-        } else {
-            0
-        }, &mut scratch),
-    )
+    Ok(eval(
+        extension,
+        case.which,
+        &inputs,
+        |at, _count| if at == from { bytes } else { 0 },
+        &mut scratch,
+    ))
 }
 
 /// The line of a case.
