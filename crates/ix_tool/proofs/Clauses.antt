@@ -131,7 +131,7 @@ bad_of files R words wanted before now command found name _ _ is (bad_text bytes
       written = a;
     }
 
-text_of_kind : (files : Option NamedFiles) (R : List ℕ → Type 0) (words : List (List ℕ)) (kind : FileKind) (before now : Option (List ℕ)) (status : Status) (bytes : List ℕ) → IsDue files R words status bytes → status ≡ refusal_status kind → Appends before now bytes → TextAnswer files words (refusal_status kind) before now
+text_of_kind : (files : Option NamedFiles) (R : List ℕ → Type 0) (words : List (List ℕ)) (kind : FileKind) → (refusal_status kind ≡ Source → ⊥) → (before now : Option (List ℕ)) (status : Status) (bytes : List ℕ) → IsDue files R words status bytes → status ≡ refusal_status kind → Appends before now bytes → TextAnswer files words (refusal_status kind) before now
 text_of_kind files R words kind apart before now _ _ (due_usage none) e a = absurd (text_no_usage kind (sym e))
 text_of_kind files R words kind apart before now _ _ (due_file command status line is first) e a =
     let found = at_found files (λ other name. IsRefusedFile files R other name status line) (slots_of command) (behind words) first in
@@ -151,6 +151,7 @@ no_source_file : (files : Option NamedFiles) (R : List ℕ → Type 0) (kind : F
 no_source_file files R kind name _ _ (not_read rose) e = cc
 no_source_file files R kind name _ _ (too_long long) e = cc
 no_source_file files R Image name _ _ (bad_text bytes line file bad) e = cc
+no_source_file files R Program name _ _ (bad_text bytes line file bad) e = cc
 no_source_file files R Report name _ _ (bad_text bytes line file bad) e = cc
 no_source_file files R Extension name _ _ (bad_text bytes line file bad) e = cc
 no_source_file files R source_kind name _ _ (bad_text bytes line file bad) e = bad

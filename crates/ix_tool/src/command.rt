@@ -45,8 +45,8 @@ const COMMANDS: [Command; 5] = [
     Command::RunImage,
     Command::Check,
     Command::Certify,
-    Command::Assemble,
     Command::Seq,
+    Command::Assemble,
 ];
 
 /// What stands behind `run` for an image alone.
