@@ -1,3 +1,5 @@
+ghost use Rattle.ix_extension.specs.WellFormed.{IsWellFormed};
+
 use crate::case::{Case, case_of};
 use crate::given::{has_behaviour, values};
 use ix_bits::Memory;
@@ -73,7 +75,9 @@ fn shown(alloc: Global, effect: &Effect) -> Result<String, Why> {
 }
 
 // What a behaviour of an extension does in a case.
-fn effect_of(alloc: Global, extension: &Extension, case: &Case) -> Result<Effect, Why> {
+fn effect_of(alloc: Global, extension: &Extension, case: &Case) -> Result<Effect, Why>
+    requires { IsWellFormed extension.now }
+{
     if !has_behaviour(extension, case.which) {
         return Err(Why::NoCase);
     }

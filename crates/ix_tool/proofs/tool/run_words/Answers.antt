@@ -1,10 +1,26 @@
-use Rattle.std.proofs.Common.{◌∙◌, ◌-◌, sym, subst, length, map, take, drop}
+use Rattle.std.proofs.Common.{◌≡◌, ◌∙◌, ◌-◌, sym, subst, length, map, take, drop, true}
 use Rattle.std.specs.Prelude.{string_bytes}
-use Rattle.ix_tool.specs.CommandLine.{bytes_of}
-use Rattle.ix_tool.specs.CommandOutput.{Answered, RoseIn}
+use Rattle.ix_tool.specs.CommandLine.{bytes_of, behind, slots_of, fits_slots}
+use Rattle.ix_tool.specs.CommandOutput.{AreRead, Takes, Answered, RoseIn}
 use Rattle.ix_tool.specs.Readings.{reading_of}
+use Rattle.ix_tool.proofs.Headlines.{fit_behind, takes}
 use Rattle.ix_tool.proofs.Outcomes.{none_of, rest_of, usage_outcome, answered_outcome, refused_outcome}
 use Rattle.ix_tool.proofs.tool.run_words.Goals as goal
+
+pub read_words-requires : goal.read_words-requires
+read_words-requires g c =
+    let words = bytes_of c.args.words.now in
+    let fits : fits_slots (slots_of c.in-Some.command) (behind words) ≡ true = fit_behind words c.in-Some.command (sym c.command_of.ensures ∙ c.in-Some.is) in
+    subst (λ rest. fits_slots c.slots.result.now rest ≡ true) (sym (rest_of c.args.words.now)) (subst (λ slots. fits_slots slots (behind words) ≡ true) (sym c.slots.ensures) fits)
+
+pub answer-requires : goal.answer-requires
+answer-requires g c =
+    let files = g.F.Shelf.files c.args.shelf.now in
+    let vs = map reading_of c.in-Ok.values.items in
+    let read : AreRead files c.slots.result.now (bytes_of (take (length c.args.words.now - 1) (drop 1 c.args.words.now))) vs = c.in-Ok.ensures.read in
+    let there : AreRead files (slots_of c.in-Some.command) (behind (bytes_of c.args.words.now)) vs =
+    subst (λ slots. AreRead files slots (behind (bytes_of c.args.words.now)) vs) c.slots.ensures (subst (λ rest. AreRead files c.slots.result.now rest vs) (rest_of c.args.words.now) read) in
+    subst (λ items. Takes c.in-Some.command (map reading_of items)) (sym c.as_slice.ensures.value) (takes files c.in-Some.command (behind (bytes_of c.args.words.now)) vs there)
 
 pub returns-in_default : goal.returns-in_default
 returns-in_default g c =
