@@ -3,3 +3,4 @@ pub mod Clearing
 pub mod EffectParts
 pub mod Same
 pub mod Tables
+mod Stepping

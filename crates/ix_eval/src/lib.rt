@@ -7,6 +7,7 @@ mod prepared;
 mod reading;
 mod running;
 mod scratch;
+mod steps;
 
 pub use access::Access;
 pub use effect::{Effect, sized_access};

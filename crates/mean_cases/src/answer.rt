@@ -1,7 +1,6 @@
 ghost use Rattle.ix_extension.specs.WellFormed.{IsWellFormed};
 
-use crate::case::{Case, case_of};
-use crate::given::{has_behaviour, values};
+use effect_cases::{Case, case_of, has_behaviour, values};
 use ix_bits::Memory;
 use ix_elab::elaborate;
 use ix_eval::{Access, Effect, Inputs, Scratch, eval};

@@ -7,8 +7,6 @@
 #![tactic(auto)]
 
 mod answer;
-mod case;
-mod given;
 
 use answer::answer_to;
 use std::io;

@@ -1,4 +1,4 @@
-ghost use Rattle.std.specs.Prelude.{◌≡◌, ◌+◌, ◌<◌, ℕ, true, map, get_or, slice_get, length, IfSome};
+ghost use Rattle.std.specs.Prelude.{◌≡◌, ◌+◌, ◌<◌, ℕ, true, false, map, get_or, slice_get, length, IfSome};
 ghost use Rattle.ix_mean.specs.Core.{u1 as bit};
 ghost use Rattle.ix_extension.specs.Extensions.{view_extension};
 ghost use Rattle.ix_behaviour.specs.Behaviours.{HasBehaviour, type_of_register};
@@ -9,7 +9,8 @@ use ix_tree::{Extension, Register};
 
 /// Whether the extension has the behaviour.
 pub fn has_behaviour(ext: &Extension, which: Which) -> bool
-    ensures { result ≡ true → HasBehaviour (view_extension ext.now) which }
+    ensures yes { result ≡ true → HasBehaviour (view_extension ext.now) which }
+    ensures no { result ≡ false → HasBehaviour (view_extension ext.now) which → ⊥ }
 {
     match which {
         Which::Instruction(n) => usize::from(n) < ext.instructions.len(),
@@ -28,7 +29,7 @@ fn pattern(registers: &[Register], number: usize, raw: u128) -> Bits
     }
 }
 
-/// The values of the custom registers.
+/// The values of the custom registers: of each the low bits of its pattern, and a zero of one bit for each number past the registers.
 pub fn values(registers: &[Register], raw: &[u128; 16]) -> [Bits; 16]
     ensures { (r : ℕ) → IfSome (slice_get result r) (λ b. b.width ≡ (get_or (map type_of_register registers.now) r bit).width) }
 {

@@ -2,8 +2,8 @@ use Rattle.std.proofs.Common.{◌≡◌, ◌∙◌, ◌<◌, length-set, arith, 
 use Rattle.ix_bits.specs.declared.number.Bits.{Bits}
 use Rattle.ix_mean.specs.Core.{u1}
 use Rattle.ix_behaviour.specs.Behaviours.{type_of_register}
-use Rattle.mean_cases.proofs.Filled.{filled_more, filled}
-use Rattle.mean_cases.proofs.given.values.Goals as goal
+use Rattle.effect_cases.proofs.Filled.{filled_more, filled}
+use Rattle.effect_cases.proofs.given.values.Goals as goal
 
 pub loop-number-preserved : goal.loop-number-preserved
 loop-number-preserved c =
