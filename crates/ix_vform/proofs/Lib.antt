@@ -1,4 +1,5 @@
 pub mod Driven
+mod Keeping
 pub mod Listed
 pub mod Named
 pub mod Texts

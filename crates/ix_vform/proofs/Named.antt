@@ -15,8 +15,8 @@ use Rattle.ix_verilog.specs.Words.{Word}
 use Rattle.ix_verilog.specs.Subset.{Names, declared, assigned, IsNext, IsTarget}
 use Rattle.ix_vline.specs.Slots.{HasTarget}
 use Rattle.ix_verilog.proofs.Pairs.{head_case, mapped_back, contains_mapped}
-use Rattle.ix_vform.specs.declared.scope.Role.{Role}
-use Rattle.ix_vform.specs.declared.scope.Role.TheVariants.{Input, Assigned, Register}
+use Rattle.ix_vform.specs.declared.role.Role.{Role}
+use Rattle.ix_vform.specs.declared.role.Role.TheVariants.{Input, Assigned, Register}
 use Rattle.ix_vform.specs.Roles.{IsRole, HasOne}
 
 -- ---- a test for each element
@@ -60,30 +60,6 @@ pub role_declared : (s : Source) (n : Word) (r : Role) → IsRole s n r → Name
 role_declared s n Input h = names_left (s.inputs ++ assigned s) s.registers n (names_left s.inputs (assigned s) n h)
 role_declared s n Assigned h = names_left (s.inputs ++ assigned s) s.registers n (names_right s.inputs (assigned s) n h.1)
 role_declared s n Register h = names_right (s.inputs ++ assigned s) s.registers n h.1
-
-pub not_named : (xs : List Port) (n : Word) (r : Bool) → IsTrue r ↔ Names xs n → r ≡ false → Names xs n → ⊥
-not_named xs n r t f h = true≢false (sym (t.1 h) ∙ f)
-
--- it is none of these
-pub record Apart (s : Source) (n : Word) : Type 0 where
-  pub no_input : Names s.inputs n → ⊥
-  pub no_output : Names s.outputs n → ⊥
-  pub no_wire : Names s.wires n → ⊥
-
-pub wire_role : (s : Source) (n : Word) → (Names s.inputs n → ⊥) → Names s.wires n → IsRole s n Assigned
-wire_role s n f h = (f, names_right s.outputs s.wires n h)
-
-no_assigned : (s : Source) (n : Word) → Apart s n → Names (assigned s) n → ⊥
-no_assigned s n a h = elim (names_cases s.outputs s.wires n h) [ inl k ↦ a.no_output k | inr k ↦ a.no_wire k ]
-
-pub register_role : (s : Source) (n : Word) → Apart s n → Names s.registers n → IsRole s n Register
-register_role s n a h = ((λ k. elim (names_cases s.inputs (assigned s) n k) [ inl i ↦ a.no_input i | inr i ↦ no_assigned s n a i ]), h)
-
-pub no_role : (s : Source) (n : Word) → Apart s n → (Names s.registers n → ⊥) → Names (declared s) n → ⊥
-no_role s n a f h = elim (names_cases (s.inputs ++ assigned s) s.registers n h) [
-  | inl k ↦ elim (names_cases s.inputs (assigned s) n k) [ inl i ↦ a.no_input i | inr i ↦ no_assigned s n a i ]
-  | inr k ↦ f k
-]
 
 -- ---- ports that were passed
 abbrev pub NonePassed : (Word → Type 0) → List Port → ℕ → Type 0

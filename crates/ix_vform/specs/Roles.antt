@@ -4,8 +4,8 @@ use Rattle.ix_net.specs.declared.netlist.Port.{Port}
 use Rattle.ix_verilog.specs.declared.source.Source.{Source}
 use Rattle.ix_verilog.specs.Words.{Word}
 use Rattle.ix_verilog.specs.Subset.{Names, assigned}
-use Rattle.ix_vform.specs.declared.scope.Role.{Role}
-use Rattle.ix_vform.specs.declared.scope.Role.TheVariants.{Input, Assigned, Register}
+use Rattle.ix_vform.specs.declared.role.Role.{Role}
+use Rattle.ix_vform.specs.declared.role.Role.TheVariants.{Input, Assigned, Register}
 
 -- the name of one of the ports is such a one
 abbrev pub HasOne : (Word → Type 0) → List Port → Type 0

@@ -1,16 +1,14 @@
 ghost use Rattle.std.specs.Prelude.{◌≡◌, ◌↔◌, IsTrue, All, Contains, map};
-ghost use Rattle.std.specs.List.{list_any};
-ghost use Rattle.std.specs.Str.{bytes_eq};
-ghost use Rattle.ix_net.specs.declared.netlist.Port.{Port as port_type};
 ghost use Rattle.ix_verilog.specs.declared.source.Assign.{Assign as assign_type};
 ghost use Rattle.ix_verilog.specs.declared.source.Update.{Update as update_type};
 ghost use Rattle.ix_verilog.specs.Subset.{IsTarget, IsRegister, IsDriven, HasPorts};
 ghost use Rattle.ix_vform.specs.Roles.{HasOne};
 ghost use Rattle.ix_vline.specs.Slots.{HasNext, HasTarget, HasRegister, MayStartIn};
 
+use crate::opened::Opened;
 use crate::scope::{is_register, is_target};
 use ix_net::Port;
-use ix_verilog::{Assign, Source, Stage, Update};
+use ix_verilog::{Source, Stage};
 use ix_vline::Kind;
 
 fn is_in_ports(stage: Stage) -> bool
@@ -66,72 +64,86 @@ fn has_ports(source: &Source) -> bool
 }
 
 /// Whether an `assign` may drive one of the ports.
-fn has_target_in(source: &Source, ports: &[Port]) -> bool
-    ensures { IsTrue result ↔ HasOne (IsTarget source.now) ports.now }
+fn has_target_in(opened: &Opened, ports: &[Port]) -> bool
+    ensures { IsTrue result ↔ HasOne (IsTarget opened.now) ports.now }
 {
     for port in ports {
-        if is_target(source, port.name.as_str().as_bytes()) {
+        if is_target(opened, port.name.as_str().as_bytes()) {
             return true;
         }
     }
     false
 }
 
-fn has_target(source: &Source) -> bool
-    ensures { IsTrue result ↔ HasTarget source.now }
+/// Whether the last assignment drives what an `assign` may drive: so it is behind the first.
+fn is_last_a_target(opened: &Opened) -> bool
+    ensures { IsTrue result → HasTarget opened.now }
 {
-    if has_target_in(source, source.outputs.as_slice()) {
+    match opened.source().assigns.as_slice().last() {
+        Some(assign) => is_target(opened, assign.target.as_str().as_bytes()),
+        None => false,
+    }
+}
+
+fn has_target(opened: &Opened) -> bool
+    ensures { IsTrue result ↔ HasTarget opened.now }
+{
+    if is_last_a_target(opened) {
         return true;
     }
-    has_target_in(source, source.wires.as_slice())
+    if has_target_in(opened, opened.source().outputs.as_slice()) {
+        return true;
+    }
+    has_target_in(opened, opened.source().wires.as_slice())
 }
 
 /// Whether one of the ports is a register and nothing else.
-fn has_register_in(source: &Source, ports: &[Port]) -> bool
-    ensures { IsTrue result ↔ HasOne (IsRegister source.now) ports.now }
+fn has_register_in(opened: &Opened, ports: &[Port]) -> bool
+    ensures { IsTrue result ↔ HasOne (IsRegister opened.now) ports.now }
 {
     for port in ports {
-        if is_register(source, port.name.as_str().as_bytes()) {
+        if is_register(opened, port.name.as_str().as_bytes()) {
             return true;
         }
     }
     false
 }
 
-fn has_register(source: &Source) -> bool
-    ensures { IsTrue result ↔ HasRegister source.now }
+/// Whether the last line of `always` changes a register: so it is behind the first.
+fn is_last_a_register(opened: &Opened) -> bool
+    ensures { IsTrue result → HasRegister opened.now }
 {
-    has_register_in(source, source.registers.as_slice())
+    match opened.source().updates.as_slice().last() {
+        Some(update) => is_register(opened, update.target.as_str().as_bytes()),
+        None => false,
+    }
 }
 
-fn is_assigned(assigns: &[Assign], name: &str) -> bool
-    ensures { result ≡ list_any (λ (a : assign_type). bytes_eq a.target name.now) assigns.now }
+fn has_register(opened: &Opened) -> bool
+    ensures { IsTrue result ↔ HasRegister opened.now }
 {
-    assigns.iter().any(|assign| assign.target.as_str() == name)
+    if is_last_a_register(opened) {
+        return true;
+    }
+    has_register_in(opened, opened.source().registers.as_slice())
 }
 
-fn are_assigned(assigns: &[Assign], ports: &[Port]) -> bool
-    ensures { IsTrue result ↔ All (λ p. Contains (map (λ (a : assign_type). a.target) assigns.now) p.name) ports.now }
+fn are_assigned(opened: &Opened, ports: &[Port]) -> bool
+    ensures { IsTrue result ↔ All (λ p. Contains (map (λ (a : assign_type). a.target) opened.now.assigns) p.name) ports.now }
 {
     for port in ports {
-        if !is_assigned(assigns, port.name.as_str()) {
+        if !opened.is_assigned(port.name.as_str()) {
             return false;
         }
     }
     true
 }
 
-fn is_updated(updates: &[Update], name: &str) -> bool
-    ensures { result ≡ list_any (λ (u : update_type). bytes_eq u.target name.now) updates.now }
-{
-    updates.iter().any(|update| update.target.as_str() == name)
-}
-
-fn are_updated(updates: &[Update], ports: &[Port]) -> bool
-    ensures { IsTrue result ↔ All (λ p. Contains (map (λ (u : update_type). u.target) updates.now) p.name) ports.now }
+fn are_updated(opened: &Opened, ports: &[Port]) -> bool
+    ensures { IsTrue result ↔ All (λ p. Contains (map (λ (u : update_type). u.target) opened.now.updates) p.name) ports.now }
 {
     for port in ports {
-        if !is_updated(updates, port.name.as_str()) {
+        if !opened.is_updated(port.name.as_str()) {
             return false;
         }
     }
@@ -139,34 +151,36 @@ fn are_updated(updates: &[Update], ports: &[Port]) -> bool
 }
 
 /// Whether each output, wire and register is driven.
-fn is_driven(source: &Source) -> bool
-    ensures { IsTrue result ↔ IsDriven source.now }
+fn is_driven(opened: &Opened) -> bool
+    ensures { IsTrue result ↔ IsDriven opened.now }
 {
-    if !are_assigned(source.assigns.as_slice(), source.outputs.as_slice()) {
+    if !are_assigned(opened, opened.source().outputs.as_slice()) {
         return false;
     }
-    if !are_assigned(source.assigns.as_slice(), source.wires.as_slice()) {
+    if !are_assigned(opened, opened.source().wires.as_slice()) {
         return false;
     }
-    are_updated(source.updates.as_slice(), source.registers.as_slice())
+    are_updated(opened, opened.source().registers.as_slice())
 }
 
-fn may_finish(source: &Source) -> bool
-    ensures { IsTrue result ↔ MayStartIn source.now Kind.Finish }
+fn may_finish(opened: &Opened) -> bool
+    ensures { IsTrue result ↔ MayStartIn opened.now Kind.Finish }
 {
+    let source = opened.source();
     match source.stage {
         Stage::Ports => false,
-        Stage::Lines => has_ports(source) && is_driven(source),
+        Stage::Lines => has_ports(source) && is_driven(opened),
         Stage::Clocked => false,
-        Stage::Ended => is_driven(source),
+        Stage::Ended => is_driven(opened),
     }
 }
 
 /// Whether a line of the kind may stand behind `input clk;` and before `always`.
-fn may_declare(source: &Source, kind: Kind) -> bool
-    requires { source.now.stage ≡ Stage.Lines }
-    ensures { IsTrue result ↔ MayStartIn source.now kind }
+fn may_declare(opened: &Opened, kind: Kind) -> bool
+    requires { opened.now.stage ≡ Stage.Lines }
+    ensures { IsTrue result ↔ MayStartIn opened.now kind }
 {
+    let source = opened.source();
     match kind {
         Kind::Head => false,
         Kind::Port => false,
@@ -175,20 +189,21 @@ fn may_declare(source: &Source, kind: Kind) -> bool
         Kind::Output => has_next(source),
         Kind::Wire => has_ports(source) && source.registers.is_empty() && source.assigns.is_empty(),
         Kind::Register => has_ports(source) && source.assigns.is_empty(),
-        Kind::Assign(_) => has_ports(source) && has_target(source),
+        Kind::Assign(_) => has_ports(source) && has_target(opened),
         Kind::Always => has_ports(source) && !source.registers.is_empty(),
         Kind::Update => false,
         Kind::Done => false,
-        Kind::Finish => may_finish(source),
+        Kind::Finish => may_finish(opened),
     }
 }
 
 /// Whether some line of the kind may stand next in the module.
-pub fn may_start(source: &Source, kind: Kind) -> bool
-    ensures { IsTrue result ↔ MayStartIn source.now kind }
+pub fn may_start(opened: &Opened, kind: Kind) -> bool
+    ensures { IsTrue result ↔ MayStartIn opened.now kind }
 {
+    let source = opened.source();
     if is_in_lines(source.stage) {
-        return may_declare(source, kind);
+        return may_declare(opened, kind);
     }
     match kind {
         Kind::Head => false,
@@ -200,8 +215,8 @@ pub fn may_start(source: &Source, kind: Kind) -> bool
         Kind::Register => false,
         Kind::Assign(_) => false,
         Kind::Always => false,
-        Kind::Update => is_clocked(source.stage) && has_register(source),
+        Kind::Update => is_clocked(source.stage) && has_register(opened),
         Kind::Done => is_clocked(source.stage),
-        Kind::Finish => may_finish(source),
+        Kind::Finish => may_finish(opened),
     }
 }

@@ -3,6 +3,8 @@
 
 mod found;
 mod guard;
+mod opened;
+mod role;
 mod scope;
 mod slot;
 mod word;

@@ -1,31 +1,20 @@
-ghost use Rattle.std.specs.Prelude.{◌≡◌, ◌↔◌, ◌++◌, [], ◌∷◌, IsTrue, OnOk, Some, None, MatchOption, All, Any, Contains, map};
-ghost use Rattle.std.specs.List.{list_any};
-ghost use Rattle.std.specs.Str.{bytes_eq};
-ghost use Rattle.ix_net.specs.declared.netlist.Port.{Port as port_type};
-ghost use Rattle.ix_verilog.specs.declared.source.Assign.{Assign as assign_type};
-ghost use Rattle.ix_verilog.specs.declared.source.Update.{Update as update_type};
-ghost use Rattle.ix_verilog.specs.Subset.{Names, declared, IsNext, IsTarget, IsOperand, IsRegister, fresh};
+ghost use Rattle.std.specs.Prelude.{◌≡◌, ◌↔◌, IsTrue, None, MatchOption};
+ghost use Rattle.ix_net.specs.Name.{IsName};
+ghost use Rattle.ix_verilog.specs.Subset.{Names, declared, IsNext, IsTarget, IsOperand, IsRegister};
 ghost use Rattle.ix_vform.specs.Roles.{IsRole};
 
-use crate::word::is_named;
+use crate::opened::Opened;
+use crate::role::Role;
 use ix_bits::{Memory, Name};
-use ix_net::Port;
+use ix_net::{Port, is_name};
 use ix_verilog::{Assign, Source, Stage, Update};
+use std::alloc::Global;
 use std::marker::Model;
-
-/// What a name is first.
-#[derive(Clone, Copy)]
-pub enum Role {
-    Input,
-    /// An output that is no input, or a wire.
-    Assigned,
-    Register,
-}
 
 /// The module that is open, if one is.
 #[derive(Drop)]
 pub struct Scope {
-    pub(crate) module: Option<Source>,
+    pub(crate) module: Option<Opened>,
 }
 
 impl Model for Scope {
@@ -42,6 +31,7 @@ impl Scope {
     ghost use Rattle.std.specs.Option.{is_some};
     ghost use Rattle.ix_verilog.specs.declared.source.Stage.TheVariants.{Lines, Clocked, Ended};
     ghost use Rattle.ix_verilog.specs.Lines.{port, heading, input, output, wire, register, assign, always, update, done};
+    ghost use Rattle.ix_verilog.specs.Subset.{fresh};
     ghost use Rattle.ix_vform.specs.Added.{added, moved};
 
     /// Between modules.
@@ -51,11 +41,11 @@ impl Scope {
         Scope { module: None }
     }
 
-    /// The module is open from here on.
-    pub fn open(&mut self, source: Source)
-        ensures { self.new ≡ Some source }
+    /// A module of this name is open from here on.
+    pub fn open(&mut self, alloc: Global, name: Name)
+        ensures { self.new ≡ Some (fresh name) }
     {
-        self.module = Some(source);
+        self.module = Some(Opened::new(alloc, name));
     }
 
     /// The module that was open, if one was.
@@ -63,7 +53,10 @@ impl Scope {
         ensures module { result ≡ self.old }
         ensures closed { self.new ≡ None }
     {
-        self.module.take()
+        match self.module.take() {
+            Some(opened) => Some(opened.into_source()),
+            None => None,
+        }
     }
 
     /// Whether a module is open.
@@ -77,10 +70,10 @@ impl Scope {
     pub fn add_port(&mut self, name: Name) -> Result<(), Memory>
         ensures { OnOk result (self.new ≡ added self.old (port name)) }
     {
-        match &mut self.module {
-            Some(source) => source.ports.push(name),
-            None => Ok(()),
+        if let Some(opened) = self.module.take() {
+            self.module = Some(opened.with_port(name)?);
         }
+        Ok(())
     }
 
     /// Goes on behind `input clk;`.
@@ -93,46 +86,46 @@ impl Scope {
     pub fn add_input(&mut self, declared: Port) -> Result<(), Memory>
         ensures { OnOk result (self.new ≡ added self.old (input declared)) }
     {
-        match &mut self.module {
-            Some(source) => source.inputs.push(declared),
-            None => Ok(()),
+        if let Some(opened) = self.module.take() {
+            self.module = Some(opened.with_input(declared)?);
         }
+        Ok(())
     }
 
     pub fn add_output(&mut self, declared: Port) -> Result<(), Memory>
         ensures { OnOk result (self.new ≡ added self.old (output declared)) }
     {
-        match &mut self.module {
-            Some(source) => source.outputs.push(declared),
-            None => Ok(()),
+        if let Some(opened) = self.module.take() {
+            self.module = Some(opened.with_output(declared)?);
         }
+        Ok(())
     }
 
     pub fn add_wire(&mut self, declared: Port) -> Result<(), Memory>
         ensures { OnOk result (self.new ≡ added self.old (wire declared)) }
     {
-        match &mut self.module {
-            Some(source) => source.wires.push(declared),
-            None => Ok(()),
+        if let Some(opened) = self.module.take() {
+            self.module = Some(opened.with_wire(declared)?);
         }
+        Ok(())
     }
 
     pub fn add_register(&mut self, declared: Port) -> Result<(), Memory>
         ensures { OnOk result (self.new ≡ added self.old (register declared)) }
     {
-        match &mut self.module {
-            Some(source) => source.registers.push(declared),
-            None => Ok(()),
+        if let Some(opened) = self.module.take() {
+            self.module = Some(opened.with_register(declared)?);
         }
+        Ok(())
     }
 
     pub fn add_assign(&mut self, assigned: Assign) -> Result<(), Memory>
         ensures { OnOk result (self.new ≡ added self.old (assign assigned)) }
     {
-        match &mut self.module {
-            Some(source) => source.assigns.push(assigned),
-            None => Ok(()),
+        if let Some(opened) = self.module.take() {
+            self.module = Some(opened.with_assign(assigned)?);
         }
+        Ok(())
     }
 
     /// Goes on within `always`.
@@ -145,10 +138,10 @@ impl Scope {
     pub fn add_update(&mut self, updated: Update) -> Result<(), Memory>
         ensures { OnOk result (self.new ≡ added self.old (update updated)) }
     {
-        match &mut self.module {
-            Some(source) => source.updates.push(updated),
-            None => Ok(()),
+        if let Some(opened) = self.module.take() {
+            self.module = Some(opened.with_update(updated)?);
         }
+        Ok(())
     }
 
     /// Goes on behind `always`.
@@ -161,38 +154,30 @@ impl Scope {
     fn go_to(&mut self, stage: Stage)
         ensures { self.new ≡ moved self.old stage }
     {
-        if let Some(source) = &mut self.module {
-            source.stage = stage;
+        if let Some(opened) = self.module.take() {
+            self.module = Some(opened.at_stage(stage));
         }
     }
 }
 
-/// Whether a port has this name.
-fn has(ports: &[Port], word: &[u8]) -> bool
-    ensures { result ≡ list_any (λ (p : port_type). bytes_eq p.name word.now) ports.now }
+/// The word as a text, where it is a name.
+fn name_in(word: &[u8]) -> Option<&str>
+    ensures { MatchOption result (IsName word.now → ⊥) (λ text. (text.now ≡ word.now) × IsName word.now) }
 {
-    ports
-        .iter()
-        .any(|port| port.name.as_str().as_bytes() == word)
+    match str::from_utf8(word) {
+        Ok(text) => { if is_name(text) { Some(text) } else { None } }
+        Err(_) => None,
+    }
 }
 
-/// What a word is first, where it is declared.
-fn first_role(source: &Source, word: &[u8]) -> Option<Role>
-    ensures { MatchOption result (Names (declared source.now) word.now → ⊥) (IsRole source.now word.now) }
+/// What a word is first, where it is a name that is declared.
+fn first_role(opened: &Opened, word: &[u8]) -> Option<Role>
+    ensures { MatchOption result (IsName word.now → Names (declared opened.now) word.now → ⊥) (λ role. IsName word.now × IsRole opened.now word.now role) }
 {
-    if has(source.inputs.as_slice(), word) {
-        return Some(Role::Input);
+    match name_in(word) {
+        Some(name) => opened.role_of(name),
+        None => None,
     }
-    if has(source.outputs.as_slice(), word) {
-        return Some(Role::Assigned);
-    }
-    if has(source.wires.as_slice(), word) {
-        return Some(Role::Assigned);
-    }
-    if has(source.registers.as_slice(), word) {
-        return Some(Role::Register);
-    }
-    None
 }
 
 /// Whether the port that is declared next has this name.
@@ -207,23 +192,23 @@ pub fn is_next(source: &Source, word: &[u8]) -> bool
 }
 
 /// Whether the word is a declared name.
-pub fn is_operand(source: &Source, word: &[u8]) -> bool
-    ensures { IsTrue result ↔ IsOperand source.now word.now }
+pub fn is_operand(opened: &Opened, word: &[u8]) -> bool
+    ensures { IsTrue result ↔ IsOperand opened.now word.now }
 {
-    match first_role(source, word) {
-        Some(_) => is_named(word),
+    match first_role(opened, word) {
+        Some(_) => true,
         None => false,
     }
 }
 
 /// Whether an `assign` may drive the word.
-pub fn is_target(source: &Source, word: &[u8]) -> bool
-    ensures { IsTrue result ↔ IsTarget source.now word.now }
+pub fn is_target(opened: &Opened, word: &[u8]) -> bool
+    ensures { IsTrue result ↔ IsTarget opened.now word.now }
 {
-    match first_role(source, word) {
+    match first_role(opened, word) {
         Some(role) => match role {
             Role::Input => false,
-            Role::Assigned => is_named(word),
+            Role::Assigned => true,
             Role::Register => false,
         },
         None => false,
@@ -231,14 +216,14 @@ pub fn is_target(source: &Source, word: &[u8]) -> bool
 }
 
 /// Whether the word is a register.
-pub fn is_register(source: &Source, word: &[u8]) -> bool
-    ensures { IsTrue result ↔ IsRegister source.now word.now }
+pub fn is_register(opened: &Opened, word: &[u8]) -> bool
+    ensures { IsTrue result ↔ IsRegister opened.now word.now }
 {
-    match first_role(source, word) {
+    match first_role(opened, word) {
         Some(role) => match role {
             Role::Input => false,
             Role::Assigned => false,
-            Role::Register => is_named(word),
+            Role::Register => true,
         },
         None => false,
     }

@@ -68,7 +68,7 @@ fn starts(scope: &Scope, kind: Kind) -> bool
     ensures { IsTrue result ↔ MayStart scope.now kind }
 {
     match &scope.module {
-        Some(source) => may_start(source, kind),
+        Some(opened) => may_start(opened, kind),
         None => is_head(kind),
     }
 }
@@ -86,7 +86,7 @@ fn takes_next(scope: &Scope, word: &[u8]) -> bool
     ensures { IsTrue result ↔ Takes scope.now Slot.Next word.now }
 {
     match &scope.module {
-        Some(source) => is_next(source, word),
+        Some(opened) => is_next(opened.source(), word),
         None => false,
     }
 }
@@ -95,7 +95,7 @@ fn takes_target(scope: &Scope, word: &[u8]) -> bool
     ensures { IsTrue result ↔ Takes scope.now Slot.Target word.now }
 {
     match &scope.module {
-        Some(source) => is_target(source, word),
+        Some(opened) => is_target(opened, word),
         None => false,
     }
 }
@@ -104,7 +104,7 @@ fn takes_operand(scope: &Scope, word: &[u8]) -> bool
     ensures { IsTrue result ↔ Takes scope.now Slot.Operand word.now }
 {
     match &scope.module {
-        Some(source) => is_operand(source, word),
+        Some(opened) => is_operand(opened, word),
         None => false,
     }
 }
@@ -113,7 +113,7 @@ fn takes_register(scope: &Scope, word: &[u8]) -> bool
     ensures { IsTrue result ↔ Takes scope.now Slot.Register word.now }
 {
     match &scope.module {
-        Some(source) => is_register(source, word),
+        Some(opened) => is_register(opened, word),
         None => false,
     }
 }

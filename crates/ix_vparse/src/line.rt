@@ -1,6 +1,5 @@
 ghost use Rattle.std.specs.Prelude.{◌≡◌, ◌≢◌, ◌≤◌, ◌-◌, ◌<◌, length, take, drop, IfOk, OnOk};
 ghost use Rattle.ix_verilog.specs.Words.{words_of};
-ghost use Rattle.ix_verilog.specs.Subset.{fresh};
 ghost use Rattle.ix_vline.specs.Slots.{IsHighest, slots};
 ghost use Rattle.ix_vline.specs.Reached.{Fits};
 ghost use Rattle.ix_vline.specs.Picked.{nth, IsDeclaredBy};
@@ -8,7 +7,7 @@ ghost use Rattle.ix_vparse.specs.Taken.{Goes, Steps};
 
 use ix_bits::{List, Memory, Name};
 use ix_net::Port;
-use ix_verilog::{Assign, Source, Stage, Token, Update};
+use ix_verilog::{Assign, Source, Token, Update};
 use ix_vform::{Scope, highest};
 use ix_vline::{Kind, Right};
 use std::alloc::Global;
@@ -144,29 +143,12 @@ fn take_update(alloc: Global, scope: &mut Scope, tokens: &[Token]) -> Result<(),
     scope.add_update(update)
 }
 
-/// A module of which no line but the first stands.
-fn fresh_source(alloc: Global, name: Name) -> Source
-    ensures { result ≡ fresh name }
-{
-    Source {
-        name,
-        ports: List::new(alloc),
-        inputs: List::new(alloc),
-        outputs: List::new(alloc),
-        wires: List::new(alloc),
-        registers: List::new(alloc),
-        assigns: List::new(alloc),
-        updates: List::new(alloc),
-        stage: Stage::Ports,
-    }
-}
-
 fn take_head(alloc: Global, scope: &mut Scope, tokens: &[Token]) -> Result<(), Memory>
     requires { Fits scope.old (slots Kind.Head) (words_of tokens.now) }
     ensures { OnOk result (Goes scope.old (words_of tokens.now) scope.new) }
 {
     let name = name_at(alloc, tokens, 1)?;
-    scope.open(fresh_source(alloc, name));
+    scope.open(alloc, name);
     Ok(())
 }
 

@@ -10,14 +10,14 @@ returns c = ((λ t k d l. c.loop-port.invariant k d (omega (arith, l, c.loop-por
 
 pub loop-port-preserved : goal.loop-port-preserved
 loop-port-preserved c =
-    let xs = c.args.assigns.now in
+    let xs = c.args.opened.now.assigns in
     let P : Word → Type 0 = λ n. Contains (map (λ (a : Assign). a.target) xs) n in
     let t : P c.as_str.result.now = (any_named (λ (a : Assign). a.target) xs c.as_str.result.now c.is_assigned.result c.is_assigned.ensures).0 c.if-not-is_assigned.false in
     each_more P c.args.ports.now c.loop-port.port-index c.port-item.result c.port-item.is c.loop-port-test.true (subst P c.as_str.ensures.text t) c.loop-port.invariant
 
 pub returns-then-not-is_assigned : goal.returns-then-not-is_assigned
 returns-then-not-is_assigned c =
-    let xs = c.args.assigns.now in
+    let xs = c.args.opened.now.assigns in
     let P : Word → Type 0 = λ n. Contains (map (λ (a : Assign). a.target) xs) n in
     let i = any_named (λ (a : Assign). a.target) xs c.as_str.result.now c.is_assigned.result c.is_assigned.ensures in (
       (λ t. absurd (true≢false (sym t))),

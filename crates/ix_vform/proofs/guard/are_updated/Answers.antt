@@ -10,14 +10,14 @@ returns c = ((λ t k d l. c.loop-port.invariant k d (omega (arith, l, c.loop-por
 
 pub loop-port-preserved : goal.loop-port-preserved
 loop-port-preserved c =
-    let xs = c.args.updates.now in
+    let xs = c.args.opened.now.updates in
     let P : Word → Type 0 = λ n. Contains (map (λ (u : Update). u.target) xs) n in
     let t : P c.as_str.result.now = (any_named (λ (u : Update). u.target) xs c.as_str.result.now c.is_updated.result c.is_updated.ensures).0 c.if-not-is_updated.false in
     each_more P c.args.ports.now c.loop-port.port-index c.port-item.result c.port-item.is c.loop-port-test.true (subst P c.as_str.ensures.text t) c.loop-port.invariant
 
 pub returns-then-not-is_updated : goal.returns-then-not-is_updated
 returns-then-not-is_updated c =
-    let xs = c.args.updates.now in
+    let xs = c.args.opened.now.updates in
     let P : Word → Type 0 = λ n. Contains (map (λ (u : Update). u.target) xs) n in
     let i = any_named (λ (u : Update). u.target) xs c.as_str.result.now c.is_updated.result c.is_updated.ensures in (
       (λ t. absurd (true≢false (sym t))),

@@ -4,4 +4,4 @@ use Rattle.ix_vform.proofs.Named.{EachPassed}
 use Rattle.ix_vform.proofs.guard.are_updated.Given as goal
 
 abbrev pub invariant-loop-port : goal.invariant-loop-port
-invariant-loop-port l = EachPassed (λ n. Contains (map (λ (u : Update). u.target) l.updates) n) l.ports l.port-index
+invariant-loop-port l = EachPassed (λ n. Contains (map (λ (u : Update). u.target) l.opened.updates) n) l.ports l.port-index

@@ -6,21 +6,21 @@ use Rattle.ix_vform.proofs.guard.has_register_in.Goals as goal
 
 pub returns : goal.returns
 returns c =
-    let s = c.args.source.now in
+    let s = c.args.opened.now in
     let ps = c.args.ports.now in
     let all : NonePassed (IsRegister s) ps (length ps) = λ k d l. c.loop-port.invariant k d (omega (arith, l, c.loop-port-test.false)) in
     ((λ t. absurd (true≢false (sym t))), λ h. absurd (none_at_all (IsRegister s) ps all h.0 h.1 h.2))
 
 pub loop-port-preserved : goal.loop-port-preserved
 loop-port-preserved c =
-    let s = c.args.source.now in
+    let s = c.args.opened.now in
     let w = c.as_bytes.ensures.value ∙ c.as_str.ensures.text in
     none_more (IsRegister s) c.args.ports.now c.loop-port.port-index c.port-item.result c.port-item.is c.loop-port-test.true
     (λ t. true≢false (sym (c.is_register.ensures.1 (subst (IsRegister s) (sym w) t)) ∙ c.if-is_register.false)) c.loop-port.invariant
 
 pub returns-then-is_register : goal.returns-then-is_register
 returns-then-is_register c =
-    let s = c.args.source.now in
+    let s = c.args.opened.now in
     let w = c.as_bytes.ensures.value ∙ c.as_str.ensures.text in
     let x = c.port-item.result in
     ((λ t. (x.name, one_named c.args.ports.now c.loop-port.port-index x c.port-item.is c.loop-port-test.true, subst (IsRegister s) w (c.is_register.ensures.0 c.if-is_register.true))), λ h. refl)

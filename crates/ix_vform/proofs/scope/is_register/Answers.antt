@@ -6,13 +6,13 @@ use Rattle.ix_vform.proofs.scope.is_register.Goals as goal
 
 pub returns-in-Assigned : goal.returns-in-Assigned
 returns-in-Assigned c =
-    let s = c.args.source.now in
+    let s = c.args.opened.now in
     let n = c.args.word.now in
-    let h = subst (λ r. IsRole s n r) c.in-Assigned.is c.in-Some.ensures in
+    let h = subst (λ r. IsRole s n r) c.in-Assigned.is c.in-Some.ensures.1 in
     ((λ t. absurd (cc)), λ r. absurd (r.no_other (names_right s.inputs (assigned s) n h.1)))
 
 pub returns-in-None : goal.returns-in-None
 returns-in-None c =
-    let s = c.args.source.now in
+    let s = c.args.opened.now in
     let n = c.args.word.now in
-    ((λ t. absurd (cc)), λ r. absurd (c.in-None.ensures (names_right (s.inputs ++ assigned s) s.registers n r.declared_so)))
+    ((λ t. absurd (cc)), λ r. absurd (c.in-None.ensures r.named (names_right (s.inputs ++ assigned s) s.registers n r.declared_so)))

@@ -1,0 +1,62 @@
+ghost use Rattle.std.specs.Prelude.{◌≡◌, ◌||◌, ℕ, List, Some, IfOk, OnOk};
+ghost use Rattle.std.specs.BTreeMap.{get_by_text};
+ghost use Rattle.std.specs.BTreeSet.{contains_text};
+ghost use Rattle.std.specs.Map.{update};
+ghost use Rattle.std.specs.Str.{bytes_eq};
+ghost use Rattle.ix_vform.specs.Kept.{first_of as specified_first_of};
+
+use ix_bits::Memory;
+use std::alloc::Global;
+use std::collections::{BTreeMap, BTreeSet};
+
+/// What a name is first.
+#[derive(Clone, Copy)]
+pub enum Role {
+    Input,
+    /// An output that is no input, or a wire.
+    Assigned,
+    Register,
+}
+
+/// What a name is that is declared once more.
+fn first_of(old: Option<Role>, new: Role) -> Role
+    ensures { result ≡ specified_first_of old new }
+{
+    match old {
+        None => new,
+        Some(old) => match old {
+            Role::Input => Role::Input,
+            Role::Assigned => match new {
+                Role::Input => Role::Input,
+                Role::Assigned => Role::Assigned,
+                Role::Register => Role::Assigned,
+            },
+            Role::Register => new,
+        },
+    }
+}
+
+/// Declares a name, which keeps its first role.
+pub fn declare(
+    alloc: Global,
+    roles: &mut BTreeMap<String, Role>,
+    name: &str,
+    role: Role,
+) -> Result<(), Memory>
+    ensures { OnOk result ((n : List ℕ) →
+        get_by_text roles.new n ≡ update bytes_eq (get_by_text roles.old) name.now (Some (specified_first_of (get_by_text roles.old name.now) role)) n) }
+{
+    let old = roles.get(name).copied();
+    let key = String::from_str(alloc, name)?;
+    roles.insert(key, first_of(old, role))?;
+    Ok(())
+}
+
+/// Puts a name into a set.
+pub fn mark(alloc: Global, names: &mut BTreeSet<String>, name: &str) -> Result<(), Memory>
+    ensures { OnOk result ((n : List ℕ) → contains_text names.new n ≡ (bytes_eq name.now n || contains_text names.old n)) }
+{
+    let key = String::from_str(alloc, name)?;
+    names.insert(key)?;
+    Ok(())
+}
