@@ -1,3 +1,3 @@
-pub mod Ports
 pub mod Service
-pub mod Worked
+pub mod Units
+pub mod WorkedUnits

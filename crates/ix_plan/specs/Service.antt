@@ -9,11 +9,11 @@ use Rattle.ix_net.specs.declared.netlist.Net.{Net}
 use Rattle.ix_net.specs.Valuation.{value_of}
 use Rattle.ix_net.specs.Run.{IsRun, cycle_at}
 use Rattle.ix_sheet.specs.Behaviours.{latency_of}
-use Rattle.ix_plan.specs.declared.design.Letter.{Letter}
+use Rattle.ix_ports.specs.declared.letter.Letter.{Letter}
 use Rattle.ix_graph.specs.declared.role.Role.TheVariants.{Read}
 use Rattle.ix_graph.specs.Roles.{role_of}
 use Rattle.ix_mean.specs.GraphValues.{arg_raw, IsMeaning}
-use Rattle.ix_plan.specs.Ports.{module_name, enable_name, input_name, output_name, letters_of, input_ports, write_ports}
+use Rattle.ix_ports.specs.Ports.{module_name, enable_name, input_name, output_name, letters_of, input_ports, write_ports}
 
 -- the time at which the result of operation k is there
 abbrev pub result_time : Shape → List ℕ → ℕ → Op → ℕ
@@ -45,16 +45,20 @@ Shows g times net terms t values =
     (j : ℕ) (letter : Letter) (a : Arg) → slice_get (letters_of op.kind) j ≡ Some letter → slice_get op.args j ≡ Some a →
     value_of net values (output_name k letter) ≡ arg_raw terms a
 
--- for all inputs, all runs and all lives: where the inputs of the times that the token left were carried in the cycles in which
--- it left them, the outputs of each cycle are right in which the inputs are
-abbrev pub ShowsAlways : Shape → Graph → List ℕ → Net → Type 0
-ShowsAlways shape g times net =
-    (terms : ℕ → ℕ) → IsMeaning g terms → (cycles : List (List ℕ)) → IsRun net cycles →
+-- with these values of the terms, in all runs and all lives: where the inputs of the times that the token left were carried in the cycles in which it left
+-- them, the outputs of each cycle are right in which the inputs are
+abbrev pub ShowsTerms : Shape → Graph → List ℕ → Net → (ℕ → ℕ) → Type 0
+ShowsTerms shape g times net terms =
+    (cycles : List (List ℕ)) → IsRun net cycles →
     (first : ℕ) (life : List ℕ) → IsLife net shape.rd cycles first life → (k : ℕ) → k < length life →
     ((m : ℕ) → m < k → slice_index life (m + 1) ≢ slice_index life m →
     Carries shape g times net terms (slice_index life m) (cycle_at cycles (first + m))) →
     Carries shape g times net terms (slice_index life k) (cycle_at cycles (first + k)) →
     Shows g times net terms (slice_index life k) (cycle_at cycles (first + k))
+
+-- for all values that the terms may have, whatever the reads give
+abbrev pub ShowsAlways : Shape → Graph → List ℕ → Net → Type 0
+ShowsAlways shape g times net = (terms : ℕ → ℕ) → IsMeaning g terms → ShowsTerms shape g times net terms
 
 pub record Serves (shape : Shape) (name : List ℕ) (g : Graph) (times : List ℕ) (net : Net) : Type 0 where
   pub named : net.name ≡ module_name name

@@ -23,10 +23,9 @@ pub struct Design {
     pub nets: List<Net>,
 }
 
-/// Which argument of an operation a port has.
+/// A register that an instruction writes: one of the 32 registers of the base, or a custom one by its number from 0 to 15.
 #[derive(Clone, Copy, Debug, PartialEq, Eq)]
-pub enum Letter {
-    Address,
-    Value,
-    Condition,
+pub enum Target {
+    X(u8),
+    Custom(u8),
 }

@@ -2,8 +2,9 @@
 #![tactic(auto)]
 
 mod design;
-mod laws;
+mod worked;
 
-pub use design::{Design, Letter, Plan};
+pub use design::{Design, Plan, Target};
 pub use ix_graph::Mode;
-pub use laws::worked_ports;
+pub use ix_ports::Letter;
+pub use worked::worked_units;

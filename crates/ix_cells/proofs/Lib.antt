@@ -1,0 +1,14 @@
+pub mod Names
+pub mod Growing
+pub mod Forms
+pub mod Extensions
+pub mod Steps
+pub mod KindNumbers
+pub mod Reckoned
+pub mod Comparisons
+pub mod Tests
+pub mod Shaping
+pub mod Moving
+pub mod Shifted
+pub mod WireLists
+pub mod Dispatch

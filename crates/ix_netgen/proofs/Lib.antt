@@ -1,0 +1,10 @@
+pub mod Lives
+pub mod BankLemmas
+pub mod Supplied
+pub mod Operations
+pub mod PortLemmas
+pub mod InOrder
+pub mod Order
+pub mod Emitted
+pub mod Validity
+pub mod Finish

@@ -1,0 +1,4 @@
+pub mod Standing
+pub mod KeptWires
+pub mod Outputs
+pub mod Uses
