@@ -1,2 +1,2 @@
-mod Choosing
-mod Widening
+pub mod Choosing
+pub mod Widening
