@@ -1,0 +1,4 @@
+pub mod Turns
+pub mod Widest
+mod Naming
+mod Exact

@@ -1,0 +1,4 @@
+mod Names
+mod Differing
+mod Apart
+pub mod OneText
