@@ -72,7 +72,7 @@ line_at lines all i d e lt =
     ∙ slice_get-map (λ (x : Bor (List ℕ)). x.now) lines i
     ∙ ap (λ o. option_map (λ (x : Bor (List ℕ)). x.now) o) (slice_get-get_or lines i d lt)
 
-parts_at : (all : List (List ℕ)) (i : ℕ) (line : List ℕ) → slice_get all i ≡ Some line → all ≡ take i all ++ line ∷ drop (suc i) all
+pub parts_at : (all : List (List ℕ)) (i : ℕ) (line : List ℕ) → slice_get all i ≡ Some line → all ≡ take i all ++ line ∷ drop (suc i) all
 parts_at [] i line h = cc
 parts_at (x ∷ all) zero line h = let same : x ≡ line = cc in ap (λ l. l ∷ all) same
 parts_at (x ∷ all) (suc i) line h = ap (λ l. x ∷ l) (parts_at all i line h)

@@ -5,3 +5,4 @@ pub mod Placing
 pub mod ImageLemmas
 pub mod Printed
 pub mod Results
+mod WaitLemmas

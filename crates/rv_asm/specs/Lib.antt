@@ -1,3 +1,4 @@
 pub mod ImageText
 pub mod Laws
 pub mod Sources
+pub mod WaitsText

@@ -1,4 +1,4 @@
-ghost use Rattle.std.specs.Prelude.{◌≡◌, ◌<◌, ◌*◌, ◌%◌, ◌^◌, true};
+ghost use Rattle.std.specs.Prelude.{◌≡◌, ◌*◌, ◌%◌, ◌^◌, true};
 ghost use Rattle.ix_bits.specs.Types.{number_of};
 ghost use Rattle.ix_bits.specs.Operators.{pattern_of};
 ghost use Rattle.rv_base.specs.Operations.{bytes_in};
@@ -17,7 +17,6 @@ fn immediate(b: Base) -> u32
 
 /// What is written to rd by an instruction at `pc` with these values of rs1 and rs2; none by what writes nothing, and by a load.
 pub fn result_of(b: Base, pc: u32, x: u32, y: u32) -> Option<u32>
-    requires { b.row < 40 }
     ensures { result ≡ result_at b pc x y }
 {
     match operation_of(b.row) {
@@ -32,7 +31,6 @@ pub fn result_of(b: Base, pc: u32, x: u32, y: u32) -> Option<u32>
 
 /// The address that a jump or a taken branch goes to.
 pub fn target_of(b: Base, pc: u32, x: u32, y: u32) -> Option<u32>
-    requires { b.row < 40 }
     ensures { result ≡ target_at b pc x y }
 {
     match operation_of(b.row) {
@@ -55,7 +53,6 @@ pub fn address_of(b: Base, x: u32) -> u32
 
 /// How much an instruction loads.
 pub fn load_of(b: Base) -> Option<Size>
-    requires { b.row < 40 }
     ensures { result ≡ load_at b }
 {
     match operation_of(b.row) {
@@ -66,7 +63,6 @@ pub fn load_of(b: Base) -> Option<Size>
 
 /// How much an instruction stores.
 pub fn store_of(b: Base) -> Option<Size>
-    requires { b.row < 40 }
     ensures { result ≡ store_at b }
 {
     match operation_of(b.row) {
@@ -115,7 +111,6 @@ fn plain_word(size: Size, raw: u32) -> u32
 
 /// The word that a load makes of the bytes that it read, the lowest first.
 pub fn loaded_word(b: Base, raw: u32) -> u32
-    requires { b.row < 40 }
     ensures { result ≡ loaded_at b raw }
 {
     match operation_of(b.row) {

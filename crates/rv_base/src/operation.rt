@@ -76,8 +76,19 @@ pub fn bytes_of(size: Size) -> u8
     }
 }
 
-/// What the instructions of a row do, which is below 40.
+/// What the instructions of a row do; there is none past 39.
 pub fn operation_of(row: u8) -> Operation
+    ensures { result ≡ operation_at row }
+{
+    if row < 40 {
+        operation_within(row)
+    } else {
+        Operation::Break
+    }
+}
+
+// What the instructions of a row do, which is below 40.
+fn operation_within(row: u8) -> Operation
     requires { row < 40 }
     ensures { result ≡ operation_at row }
 {

@@ -2,13 +2,14 @@
 use Rattle.std.proofs.Common.{◌≡◌, ℕ, zero, suc, ◌+◌, ◌-◌, ◌<◌, ◌≤◌, List, [], ◌∷◌, drop, take, length, Option, Some, None, Bool, true, false, refl, sym, ap, ◌∙◌, subst, arith, ◌⊎◌, inl, inr}
 use Rattle.std.specs.Prelude.{◌||◌, ◌==◌, slice_get, replicate}
 use Rattle.std.proofs.lemmas.Bool.Decides.{nat_tests}
+use Rattle.rv_core.specs.declared.Shape.{Shape}
 use Rattle.rv_trace.specs.declared.row.Cell.{Cell}
 use Rattle.rv_trace.specs.declared.row.Row.{Row}
 use Rattle.rv_pipe.specs.declared.stages.Token.{Token}
 use Rattle.rv_trace.specs.Trace.{Setting, has_serial}
 use Rattle.rv_trace.specs.LawfulTrace.{AscendFrom, name_of, names_of, front, serial_after}
 use Rattle.rv_pipe.specs.PlainMachine.{Slots, unheld, cleared, serial_in, listed, nearest, stops_now, advanced, leaving, first_slot, cell_of, cells_of}
-use Rattle.rv_pipe.specs.Placed.{count, Serials, Placed, expected, tail, to_go, first_of_two, here}
+use Rattle.rv_pipe.specs.Placed.{count, Serials, Placed, expected, tail, to_go, first_of_two, may_wait, here}
 use Rattle.rv_pipe.proofs.Places.{older_lower}
 use Rattle.rv_pipe.proofs.Tokens.{Decided, decided_tail, NoStops, no_stops_tail}
 
@@ -63,9 +64,9 @@ cleared_drop (suc n) (suc stage) [] le long = absurd (omega arith)
 cleared_drop (suc n) (suc stage) (s ∷ older) le long = cleared_drop n stage older (omega (arith, le)) (omega (arith, long))
 
 -- the oldest token is left, where one stands past the first stages
-some_to_go : (t : Token) (older : Slots) → 0 < to_go (Some t ∷ older)
-some_to_go t older = by_case (to_go older) where
-  by_case : (m : ℕ) → 0 < first_of_two m (suc (length older))
+some_to_go : (k : Shape) (most owed stage : ℕ) (t : Token) (older : Slots) → 0 < to_go k most owed stage (Some t ∷ older)
+some_to_go k most owed stage t older = by_case (to_go k most owed (suc stage) older) where
+  by_case : (m : ℕ) → 0 < first_of_two m (suc (length older + may_wait k most owed stage))
   by_case zero = omega arith
   by_case (suc m) = omega arith
 
@@ -78,14 +79,14 @@ first_kept : (m b : ℕ) → 0 < m → first_of_two m b ≡ m
 first_kept zero b lt = absurd (omega arith)
 first_kept (suc m) b lt = refl
 
-pub cleared_to_go : (n : ℕ) (slots older : Slots) (t : Token) → drop n slots ≡ Some t ∷ older → (to_go (cleared n slots) ≡ to_go slots) × (0 < to_go slots)
-cleared_to_go zero slots older t e = (refl, subst (λ l. 0 < to_go l) (sym e) (some_to_go t older))
-cleared_to_go (suc n) [] older t e = cc
-cleared_to_go (suc n) (s ∷ slots) older t e =
-    let x = cleared_to_go n slots older t e in
+pub cleared_to_go : (k : Shape) (most owed stage n : ℕ) (slots older : Slots) (t : Token) → drop n slots ≡ Some t ∷ older → (to_go k most owed stage (cleared n slots) ≡ to_go k most owed stage slots) × (0 < to_go k most owed stage slots)
+cleared_to_go k most owed stage zero slots older t e = (refl, subst (λ l. 0 < to_go k most owed stage l) (sym e) (some_to_go k most owed stage t older))
+cleared_to_go k most owed stage (suc n) [] older t e = cc
+cleared_to_go k most owed stage (suc n) (s ∷ slots) older t e =
+    let x = cleared_to_go k most owed (suc stage) n slots older t e in
     let lt = x.1 in (
-      ap (λ m. first_of_two m 0) x.0 ∙ first_same (to_go slots) 0 (here s (length slots)) lt,
-      subst (λ m. 0 < m) (sym (first_kept (to_go slots) (here s (length slots)) lt)) lt,
+      ap (λ m. first_of_two m 0) x.0 ∙ first_same (to_go k most owed (suc stage) slots) 0 (here k most owed stage s (length slots)) lt,
+      subst (λ m. 0 < m) (sym (first_kept (to_go k most owed (suc stage) slots) (here k most owed stage s (length slots)) lt)) lt,
     )
 
 -- What the row shows
@@ -323,7 +324,7 @@ nearest_first k r (suc n) fetch (Some t ∷ older) h e some le long =
     let z : 1 + n ≡ suc n = omega arith in
     nearest_expected k r 1 n t.cell.at older h.1 h.0.at (omega (arith, le)) ∙ ap (λ j. expected k r j (drop n older)) z
 
-pub no_stop_at : (k : Setting) (base n : ℕ) (seen older : Slots) (t : Token) → NoStops k base seen → drop n seen ≡ Some t ∷ older → (stops_now k.shape (base + n) t.instruction older ≡ false) × NoStops k (base + n) (Some t ∷ older)
+pub no_stop_at : (k : Setting) (base n : ℕ) (seen older : Slots) (t : Token) → NoStops k base seen → drop n seen ≡ Some t ∷ older → (stops_now k.shape (base + n) t older ≡ false) × NoStops k (base + n) (Some t ∷ older)
 no_stop_at k base zero seen older t h e =
     let z : base ≡ base + 0 = omega arith in
     let x : NoStops k (base + 0) (Some t ∷ older) = subst (λ j. NoStops k j (Some t ∷ older)) z (subst (λ l. NoStops k base l) e h) in
@@ -332,4 +333,4 @@ no_stop_at k base (suc n) [] older t h e = cc
 no_stop_at k base (suc n) (s ∷ seen) older t h e =
     let z : suc base + n ≡ base + suc n = omega arith in
     let x = no_stop_at k (suc base) n seen older t (no_stops_tail k base s seen h) e in
-    (subst (λ j. stops_now k.shape j t.instruction older ≡ false) z x.0, subst (λ j. NoStops k j (Some t ∷ older)) z x.1)
+    (subst (λ j. stops_now k.shape j t older ≡ false) z x.0, subst (λ j. NoStops k j (Some t ∷ older)) z x.1)

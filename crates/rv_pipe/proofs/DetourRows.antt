@@ -1,6 +1,6 @@
 -- The rows of the run that goes on elsewhere are lawful, and those that differ in one thing are not.
-use Rattle.std.proofs.Common.{◌≡◌, ℕ, zero, suc, ◌<◌, List, [], ◌∷◌, Option, Some, None, Bool, true, false, refl, sym, ap, ◌∙◌, subst, arith, ◌⊎◌, inl, inr}
-use Rattle.std.specs.Prelude.{◌&&◌, not, ◌==◌, is_some, replicate}
+use Rattle.std.proofs.Common.{◌≡◌, ℕ, zero, suc, ◌+◌, ◌<◌, List, [], ◌∷◌, Option, Some, None, Bool, true, false, refl, sym, ap, ◌∙◌, subst, arith, ◌⊎◌, inl, inr}
+use Rattle.std.specs.Prelude.{◌&&◌, ◌||◌, not, ◌==◌, is_some, replicate}
 use Rattle.std.proofs.lemmas.Bool.Decides.{nat_tests}
 use Rattle.ix_bits.specs.BaseTable.{base_patterns}
 use Rattle.rv_isa.specs.Table.{row_of, format_of, base_formats}
@@ -9,43 +9,52 @@ use Rattle.rv_isa.specs.Decoded.{decoded}
 use Rattle.rv_seq.specs.declared.commit.Commit.{Commit}
 use Rattle.rv_seq.specs.declared.commit.Stop.{Stop}
 use Rattle.rv_seq.specs.declared.commit.Stop.TheVariants.{Ebreak, Fetch}
-use Rattle.rv_built.specs.Instructions.{instruction_of}
-use Rattle.rv_built.specs.SequentialRun.{Stopped, word_at}
+use Rattle.rv_trace.specs.Asked.{instruction_of, reads_of, does_load}
+use Rattle.rv_seq.specs.declared.answer.StepAnswer.TheVariants.{Stopped}
+use Rattle.rv_seq.specs.Steps.{word_at}
 use Rattle.rv_trace.specs.declared.row.Cell.{Cell}
 use Rattle.rv_trace.specs.declared.row.Hold.{Hold}
 use Rattle.rv_trace.specs.declared.row.Hold.TheVariants.{Operand, Board, Custom, Late, Drain, Wait, StoreAhead, Tail, UnitFull, Port, Behind}
 use Rattle.rv_trace.specs.declared.row.Row.{Row}
-use Rattle.rv_trace.specs.Trace.{Stands, has_serial, is_flushed, is_retired, place}
-use Rattle.rv_trace.specs.LawfulTrace.{reads_of, fetch_address, next_serial, IsDueToStop, WaitsToDrain, OwnHold, StopsRun, WaitsBehind, ShowsHold, Settles, successor, IsMismatch, Successors, IsEmptyAfter, StopsRightly, Retires, LawfulRow, Lawful}
+use Rattle.rv_waits.specs.Waits.{wait_at}
+use Rattle.rv_trace.specs.Trace.{accesses_before, stood, Stands, has_serial, is_flushed, is_retired, place}
+use Rattle.rv_trace.specs.LawfulTrace.{fetch_address, next_serial, IsDueToStop, WaitsToDrain, OwnHold, StopsRun, WaitsBehind, ShowsHold, Settles, successor, IsMismatch, Successors, IsEmptyAfter, StopsRightly, Retires, LawfulRow, Lawful}
 use Rattle.rv_pipe.specs.Detour.{detour, leap, leaping, behind_it, target, start_row, turn_row, right_turn, target_row, end_row, none_flushed, detour_rows, IsUnlawful, unflushed_younger, missing_stop}
 
--- Words that read no register
+-- Words that read no register, and do not load
 
-no_register : (b : Bool) → (not b && b) ≡ false
+no_register : (b : Bool) → (not b && (b || b)) ≡ false
 no_register true = refl
 no_register false = refl
 
-five_reads : (r : ℕ) → reads_of (instruction_of 5243027) r ≡ false
-unfolding instruction_of decoded row_of base_patterns fields_of format_of base_formats
-five_reads r = no_register (r == 0)
+abbrev Quiet : ℕ → Type 0
+Quiet word = ((r : ℕ) → reads_of (instruction_of word) r ≡ false) × (does_load (instruction_of word) ≡ false)
 
-break_reads : (r : ℕ) → reads_of (instruction_of 1048691) r ≡ false
-unfolding instruction_of decoded row_of base_patterns fields_of format_of base_formats
-break_reads r = refl
+five_reads : Quiet 5243027
+unfolding decoded row_of base_patterns fields_of format_of base_formats
+five_reads = (λ r. no_register (r == 0), refl)
+
+break_reads : Quiet 1048691
+unfolding decoded row_of base_patterns fields_of format_of base_formats
+break_reads = (λ r. no_register (r == 0), refl)
 
 true_not_false : true ≡ false → ⊥
 true_not_false e = grind (arith, e)
 
 -- What shows no hold
 
-no_own : (earlier : List Row) (row : Row) (stage : ℕ) (c : Cell) → ((r : ℕ) → reads_of (instruction_of c.word) r ≡ false) → ((j : ℕ) → WaitsToDrain detour earlier row stage c j → ⊥) → (h : Hold) → OwnHold detour earlier row stage c h → ⊥
-no_own earlier row stage c reads drains (Operand r j) o = true_not_false (sym o.reads ∙ reads r)
+no_waits : (n : ℕ) → wait_at [] n ≡ 0
+no_waits zero = refl
+no_waits (suc n) = refl
+
+no_own : (earlier : List Row) (row : Row) (stage : ℕ) (c : Cell) → Quiet c.word → ((j : ℕ) → WaitsToDrain detour earlier row stage c j → ⊥) → (h : Hold) → OwnHold detour earlier row stage c h → ⊥
+no_own earlier row stage c reads drains (Operand r j) o = true_not_false (sym o.reads ∙ reads.0 r)
 no_own earlier row stage c reads drains (Drain j) o = drains j o
 no_own earlier row stage c reads drains (Board t j) o = o
 no_own earlier row stage c reads drains (Custom r j) o = o
 no_own earlier row stage c reads drains (Late j) o = o
-no_own earlier row stage c reads drains (Wait left) o = o
-no_own earlier row stage c reads drains (StoreAhead j) o = o
+no_own earlier row stage c reads drains (Wait left) o = let still = o.still in let some = o.some in let none = no_waits (accesses_before detour.course (place (row ∷ earlier) c.serial)) in omega (arith, still, some, none)
+no_own earlier row stage c reads drains (StoreAhead j) o = true_not_false (sym o.loads ∙ reads.1)
 no_own earlier row stage c reads drains (Tail left) o = o
 no_own earlier row stage c reads drains (UnitFull u) o = o
 no_own earlier row stage c reads drains (Port j) o = o

@@ -6,26 +6,29 @@ use Rattle.std.proofs.lemmas.Bool.Decides.{nat_tests}
 use Rattle.rv_trace.specs.declared.row.Cell.{Cell}
 use Rattle.rv_trace.specs.declared.row.Row.{Row}
 use Rattle.rv_pipe.specs.declared.stages.Token.{Token}
-use Rattle.rv_built.specs.SequentialRun.{word_at}
+use Rattle.rv_seq.specs.Steps.{word_at}
 use Rattle.rv_trace.specs.Trace.{Setting, place, stages_of, Stands, has_serial, is_flushed, is_retired, retirements}
 use Rattle.rv_trace.specs.LawfulTrace.{AscendFrom, IsWordOf}
-use Rattle.rv_pipe.specs.PlainMachine.{Machine, Slots, fill_first, next_after, gone, first_slot, cells_of, stops_now, settled, nearest, mismatch, struck, cleared, held_by, redirect_by, struck_by, seen_by, IsRowOf}
+use Rattle.rv_pipe.specs.PlainMachine.{Machine, Slots, fill_first, next_after, next_of, first_slot, cells_of, stops_now, settled, nearest, mismatch, struck, cleared, read_by, owed_by, held_by, redirect_by, struck_by, seen_by, IsRowOf}
 use Rattle.rv_pipe.specs.Placed.{count, HasWord, Serials, expected, tail, Placed, IsShape, Inv}
 use Rattle.rv_pipe.proofs.Places.{stood, one_token, token_order, token_of, serials_drop, serials_more, serials_decided, serials_filled, place_same, flushed_same, flushed_now, flushed_before, unflushed_before, place_over, place_suc, place_lt, place_le, lower_place, next_placed, Unflushed}
-use Rattle.rv_pipe.proofs.Tokens.{Decided, decided_is, decided_length, decided_placed, decided_count}
-use Rattle.rv_pipe.proofs.Moving.{Named, decided_from, filled_from, fill_length, KeepsAll, keeps_all, FlushesFirst}
-use Rattle.rv_pipe.proofs.Filling.{fill_placed, decided_front}
+use Rattle.rv_trace.specs.BaseRun.{run}
+use Rattle.rv_pipe.proofs.Reading.{Read, reading_count, reading_serials, reading_from}
+use Rattle.rv_pipe.proofs.Before as B
+use Rattle.rv_pipe.proofs.Tokens.{Decided, decided_count}
+use Rattle.rv_pipe.proofs.Moving.{Named, decided_from, filled_from, KeepsAll, keeps_all, FlushesFirst}
+use Rattle.rv_pipe.proofs.Filling.{decided_front}
 use Rattle.rv_pipe.proofs.Holds.{here_of}
-use Rattle.rv_pipe.proofs.Clearing.{cleared_length, cleared_placed, cleared_decided, cleared_serials, cleared_count, cleared_at, cleared_get, cleared_drop, unheld_get, ShownAs, shown_as, take_get, get_take, none_listed, listed_of, listed_only, listed_ascend, none_ascend}
+use Rattle.rv_pipe.proofs.Clearing.{cleared_serials, cleared_count, cleared_at, cleared_get, cleared_drop, unheld_get, ShownAs, shown_as, take_get, get_take, none_listed, listed_of, listed_only, listed_ascend, none_ascend}
 
 -- the token of EX that names another address than the next one
-pub record Redirecting (k : Setting) (x : List ℕ) (fetch : ℕ) (held : Slots) (address : ℕ) : Type 0 where
+pub record Redirecting (k : Setting) (fetch : ℕ) (held : Slots) (address : ℕ) : Type 0 where
   pub token : Token
   pub older : Slots
   pub rest : drop k.shape.ex held ≡ Some token ∷ older
   pub unheld : is_some token.cell.hold ≡ false
-  pub runs : stops_now k.shape k.shape.ex token.instruction older ≡ false
-  pub named : (gone k.shape x k.shape.ex token).next ≡ address
+  pub runs : stops_now k.shape k.shape.ex token older ≡ false
+  pub named : next_of token ≡ address
   pub differs : (address == nearest fetch (take k.shape.ex held)) ≡ false
 
 mismatched : (next address : ℕ) (o : Option ℕ) → mismatch next o ≡ Some address → (o ≡ Some address) × ((address == next) ≡ false)
@@ -35,43 +38,39 @@ mismatched next address (Some a) h = by_case (a == next) refl h where
   by_case true e q = cc
   by_case false e q = let same : a ≡ address = cc in (q, subst (λ n. (n == next) ≡ false) same e)
 
-pub redirecting : (k : Setting) (x : List ℕ) (fetch : ℕ) (held : Slots) (address : ℕ) → mismatch (nearest fetch (take k.shape.ex held)) (settled k.shape x (drop k.shape.ex held)) ≡ Some address → Redirecting k x fetch held address
-redirecting k x fetch held address h =
-    let m = mismatched (nearest fetch (take k.shape.ex held)) address (settled k.shape x (drop k.shape.ex held)) h in
+pub redirecting : (k : Setting) (fetch : ℕ) (held : Slots) (address : ℕ) → mismatch (nearest fetch (take k.shape.ex held)) (settled k.shape (drop k.shape.ex held)) ≡ Some address → Redirecting k fetch held address
+redirecting k fetch held address h =
+    let m = mismatched (nearest fetch (take k.shape.ex held)) address (settled k.shape (drop k.shape.ex held)) h in
     by_slots (drop k.shape.ex held) refl m.0 m.1 where
-      by_slots : (l : Slots) → drop k.shape.ex held ≡ l → settled k.shape x l ≡ Some address → (address == nearest fetch (take k.shape.ex held)) ≡ false → Redirecting k x fetch held address
+      by_slots : (l : Slots) → drop k.shape.ex held ≡ l → settled k.shape l ≡ Some address → (address == nearest fetch (take k.shape.ex held)) ≡ false → Redirecting k fetch held address
       by_slots [] e s d = cc
       by_slots (None ∷ older) e s d = cc
-      by_slots (Some t ∷ older) e s d = by_case (is_some t.cell.hold) (stops_now k.shape k.shape.ex t.instruction older) refl refl s where
-        by_case : (a b : Bool) → is_some t.cell.hold ≡ a → stops_now k.shape k.shape.ex t.instruction older ≡ b → (if a || b then None else Some (gone k.shape x k.shape.ex t).next) ≡ Some address → Redirecting k x fetch held address
+      by_slots (Some t ∷ older) e s d = by_case (is_some t.cell.hold) (stops_now k.shape k.shape.ex t older) refl refl s where
+        by_case : (a b : Bool) → is_some t.cell.hold ≡ a → stops_now k.shape k.shape.ex t older ≡ b → (if a || b then None else Some (next_of t)) ≡ Some address → Redirecting k fetch held address
         by_case true b p q y = cc
         by_case false true p q y = cc
         by_case false false p q y = record { token = t; older = older; rest = e; unheld = p; runs = q; named = cc; differs = d }
-
-struck_le : (k : Setting) (o : Option ℕ) → struck k.shape o ≤ k.shape.ex
-struck_le k None = omega arith
-struck_le k (Some a) = omega arith
 
 module _ (k : Setting) (shape : IsShape k) (earlier : List Row) (m : Machine) (row : Row) (inv : Inv k earlier m) (is : IsRowOf k m row) where
   -- The slots before the flush
 
   pub held_placed : Placed k (retirements earlier) 0 (held_by k m)
-  held_placed = decided_placed k (retirements earlier) 0 (fill_first m.slots m.next m.fetch (word_at k.image m.fetch))
-      (fill_placed k shape (retirements earlier) m.next m.fetch m.slots (word_at k.image m.fetch) inv.placed inv.fetch refl)
+  held_placed = B.held_placed k shape earlier m inv
 
   pub held_decided : Decided k 0 (held_by k m)
-  held_decided = decided_is k 0 (fill_first m.slots m.next m.fetch (word_at k.image m.fetch))
+  held_decided = B.held_decided k shape earlier m inv
 
   pub held_length : length (held_by k m) ≡ k.shape.stages
-  held_length = decided_length k 0 (fill_first m.slots m.next m.fetch (word_at k.image m.fetch)) ∙ fill_length m.slots m.next m.fetch (word_at k.image m.fetch) ∙ inv.stages
+  held_length = B.held_length k shape earlier m inv
 
   pub held_tail : m.fetch ≡ expected k (retirements earlier) 1 (tail (held_by k m))
-  held_tail = inv.fetch ∙ sym (decided_front k (retirements earlier) m.slots m.next m.fetch (word_at k.image m.fetch))
+  held_tail = inv.fetch ∙ sym (decided_front k m.arch.x (owed_by k m) (retirements earlier) m.slots m.next m.fetch (word_at k.image m.fetch))
 
   pub held_serials : Serials earlier (retirements earlier) (held_by k m)
   held_serials =
-      serials_decided k.shape earlier (retirements earlier) 0 (fill_first m.slots m.next m.fetch (word_at k.image m.fetch))
-      (serials_filled earlier (retirements earlier) m.next m.fetch m.slots (word_at k.image m.fetch) inv.serials inv.next_place (inv.unflushed m.next (omega arith)))
+      serials_decided k.shape earlier (retirements earlier) 0 (read_by k m)
+      (reading_serials k.shape m.arch.x (owed_by k m) earlier (retirements earlier) 0 (fill_first m.slots m.next m.fetch (word_at k.image m.fetch))
+      (serials_filled earlier (retirements earlier) m.next m.fetch m.slots (word_at k.image m.fetch) inv.serials inv.next_place (inv.unflushed m.next (omega arith))))
 
   abbrev next : ℕ
   next = next_after m.next (first_slot m.slots) (word_at k.image m.fetch)
@@ -82,7 +81,7 @@ module _ (k : Setting) (shape : IsShape k) (earlier : List Row) (m : Machine) (r
   held_count : place earlier (next_after m.next (first_slot m.slots) (word_at k.image m.fetch)) ≡ retirements earlier + count (held_by k m)
   held_count =
       next_placed earlier (retirements earlier) m.next m.fetch m.slots (word_at k.image m.fetch) some_slots inv.next_place (inv.unflushed m.next (omega arith))
-      ∙ ap (λ n. retirements earlier + n) (sym (decided_count k 0 (fill_first m.slots m.next m.fetch (word_at k.image m.fetch))))
+      ∙ ap (λ n. retirements earlier + n) (sym (decided_count k 0 (read_by k m) ∙ reading_count k.shape m.arch.x (owed_by k m) 0 (fill_first m.slots m.next m.fetch (word_at k.image m.fetch))))
 
   -- each token was fetched
   pub held_fresh : (i : ℕ) (t : Token) → slice_get (held_by k m) i ≡ Some (Some t) → t.cell.serial < next_after m.next (first_slot m.slots) (word_at k.image m.fetch)
@@ -94,13 +93,13 @@ module _ (k : Setting) (shape : IsShape k) (earlier : List Row) (m : Machine) (r
   -- Which stages are flushed
 
   pub ex_inside : k.shape.ex < length (held_by k m)
-  ex_inside = let a = shape.ex_last in omega (arith, a, held_length)
+  ex_inside = B.ex_inside k shape earlier m inv
 
   pub struck_ex : struck_by k m ≤ k.shape.ex
-  struck_ex = struck_le k (redirect_by k m)
+  struck_ex = B.struck_ex k shape earlier m inv
 
   pub struck_inside : struck_by k m ≤ length (held_by k m)
-  struck_inside = let a = struck_ex in let b = ex_inside in omega (arith, a, b)
+  struck_inside = B.struck_inside k shape earlier m inv
 
   pub flushes_first : FlushesFirst row (struck_by k m) (held_by k m)
   flushes_first i t lt e =
@@ -145,13 +144,16 @@ module _ (k : Setting) (shape : IsShape k) (earlier : List Row) (m : Machine) (r
   seen_kept = keeps_all row (seen_by k m) (λ i t e. seen_unflushed i t e t.cell.serial (omega arith))
 
   pub seen_placed : Placed k (retirements earlier) 0 (seen_by k m)
-  seen_placed = cleared_placed k (retirements earlier) 0 (struck_by k m) (held_by k m) struck_inside held_placed
+  seen_placed = B.seen_placed k shape earlier m inv
 
   pub seen_decided : Decided k 0 (seen_by k m)
-  seen_decided = cleared_decided k 0 (struck_by k m) (held_by k m) struck_inside held_decided
+  seen_decided = B.seen_decided k shape earlier m inv
 
   pub seen_length : length (seen_by k m) ≡ k.shape.stages
-  seen_length = cleared_length (struck_by k m) (held_by k m) struck_inside ∙ held_length
+  seen_length = B.seen_length k shape earlier m inv
+
+  pub seen_read : Read k (run k.image (retirements earlier)).x 0 (seen_by k m)
+  seen_read = B.seen_read k shape earlier m inv
 
   pub seen_serials : Serials (row ∷ earlier) (retirements earlier) (seen_by k m)
   seen_serials = serials_more row earlier (retirements earlier) (seen_by k m) seen_unflushed (cleared_serials earlier (retirements earlier) (struck_by k m) (held_by k m) struck_inside held_serials)
@@ -178,7 +180,7 @@ module _ (k : Setting) (shape : IsShape k) (earlier : List Row) (m : Machine) (r
   -- Serials after the flush
 
   -- a serial between that of EX and the next one is flushed
-  over_ex : (address : ℕ) (x : Redirecting k m.arch.x m.fetch (held_by k m) address) → struck_by k m ≡ k.shape.ex → (j : ℕ) → suc x.token.cell.serial ≤ j → j < next_after m.next (first_slot m.slots) (word_at k.image m.fetch) → is_flushed (row ∷ earlier) j ≡ true
+  over_ex : (address : ℕ) (x : Redirecting k m.fetch (held_by k m) address) → struck_by k m ≡ k.shape.ex → (j : ℕ) → suc x.token.cell.serial ≤ j → j < next_after m.next (first_slot m.slots) (word_at k.image m.fetch) → is_flushed (row ∷ earlier) j ≡ true
   over_ex address x n j le lt = by_case (is_flushed earlier j) refl where
     here : slice_get (held_by k m) k.shape.ex ≡ Some (Some x.token)
     here = here_of (held_by k m) x.older x.token k.shape.ex x.rest
@@ -221,7 +223,7 @@ module _ (k : Setting) (shape : IsShape k) (earlier : List Row) (m : Machine) (r
             by_flag true q = let x = flushed_from j q in let lt = x.2 in absurd (omega (arith, lt, n))
     by_case (Some address) e =
         let n : struck_by k m ≡ k.shape.ex = ap (λ o. struck k.shape o) e in
-        let x = redirecting k m.arch.x m.fetch (held_by k m) address e in
+        let x = redirecting k m.fetch (held_by k m) address e in
         let here = here_of (held_by k m) x.older x.token k.shape.ex x.rest in
         let fresh = held_fresh k.shape.ex x.token here in
         let gap : (g : ℕ) × (suc x.token.cell.serial + g ≡ next_after m.next (first_slot m.slots) (word_at k.image m.fetch)) = (next_after m.next (first_slot m.slots) (word_at k.image m.fetch) - suc x.token.cell.serial, omega (arith, fresh)) in
@@ -269,7 +271,7 @@ module _ (k : Setting) (shape : IsShape k) (earlier : List Row) (m : Machine) (r
             by_flag true q = let x = flushed_from j q in let lt = x.2 in absurd (omega (arith, lt, n))
     by_case (Some address) e =
         let n : struck_by k m ≡ k.shape.ex = ap (λ o. struck k.shape o) e in
-        let x = redirecting k m.arch.x m.fetch (held_by k m) address e in
+        let x = redirecting k m.fetch (held_by k m) address e in
         let here = here_of (held_by k m) x.older x.token k.shape.ex x.rest in
         let kept = none_below k.shape.ex x.token (omega (arith, n)) here in
         let st = stood earlier (retirements earlier) k.shape.ex (held_by k m) x.token held_serials here in
@@ -289,10 +291,12 @@ module _ (k : Setting) (shape : IsShape k) (earlier : List Row) (m : Machine) (r
   -- a token before the flush stood before the row, or is the new one
   held_from : (i : ℕ) (t : Token) → slice_get (held_by k m) i ≡ Some (Some t) → Named m.slots i t ⊎ (t.cell.serial ≡ m.next)
   held_from i t e =
-      let d = decided_from k.shape 0 i (fill_first m.slots m.next m.fetch (word_at k.image m.fetch)) t e in
-      elim (filled_from m.slots m.next m.fetch i (word_at k.image m.fetch) d.token d.here) [
-        | inl before ↦ inl (record { token = d.token; here = before; serial = d.serial; word = d.word })
-        | inr new ↦ inr (d.serial ∙ new)
+      let d = decided_from k.shape 0 i (read_by k m) t e in
+      let v = reading_from k.shape m.arch.x (owed_by k m) 0 i (fill_first m.slots m.next m.fetch (word_at k.image m.fetch)) d.token d.here in
+      let serial = d.serial ∙ sym (ap (λ (c : Cell). c.serial) v.2) in
+      elim (filled_from m.slots m.next m.fetch i (word_at k.image m.fetch) v.0 v.1) [
+        | inl before ↦ inl (record { token = v.0; here = before; serial = serial; word = d.word ∙ sym (ap (λ (c : Cell). c.word) v.2) })
+        | inr new ↦ inr (serial ∙ new)
       ]
 
   held_words : (s word : ℕ) → IsWordOf k (row ∷ earlier) s word → HasWord (held_by k m) s word

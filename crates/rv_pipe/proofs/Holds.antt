@@ -1,25 +1,26 @@
 -- The holds that the machine decides are the first true ones.
-use Rattle.std.proofs.Common.{◌≡◌, ◌≢◌, ℕ, zero, suc, ◌+◌, ◌<◌, ◌≤◌, List, [], ◌∷◌, drop, Option, Some, None, Bool, true, false, refl, sym, ap, ◌∙◌, subst, arith, add-zero, ◌⊎◌, inl, inr}
-use Rattle.std.specs.Prelude.{◌&&◌, ◌||◌, not, if◌then◌else◌, ◌==◌, is_some, is_none, slice_get, nat_lt, min, max}
+use Rattle.std.proofs.Common.{◌≡◌, ◌≢◌, ℕ, zero, suc, ◌+◌, ◌-◌, ◌<◌, ◌≤◌, List, [], ◌∷◌, drop, Option, Some, None, Bool, true, false, refl, sym, ap, ◌∙◌, subst, arith, add-zero, ◌⊎◌, inl, inr}
+use Rattle.std.specs.Prelude.{◌&&◌, ◌||◌, not, if◌then◌else◌, ◌==◌, is_some, is_none, slice_get, slice_index, nat_lt, min, max}
 use Rattle.std.proofs.lemmas.Bool.{cases_lt}
 use Rattle.std.proofs.lemmas.Bool.Decides.{nat_tests}
 use Rattle.rv_trace.specs.declared.row.Cell.{Cell}
 use Rattle.rv_trace.specs.declared.row.Hold.{Hold}
 use Rattle.rv_trace.specs.declared.row.Hold.TheVariants.{Operand, Board, Custom, Late, Drain, Wait, StoreAhead, Tail, UnitFull, Port, Behind}
 use Rattle.rv_trace.specs.declared.row.Row.{Row}
-use Rattle.rv_built.specs.declared.instruction.Instruction.{Instruction}
-use Rattle.rv_built.specs.declared.instruction.Instruction.TheVariants.{AddImmediate, Add, Break}
 use Rattle.rv_seq.specs.declared.commit.Stop.{Stop}
 use Rattle.rv_pipe.specs.declared.stages.Token.{Token}
-use Rattle.rv_built.specs.Instructions.{instruction_of}
-use Rattle.rv_built.specs.SequentialRun.{run, step, answer_to}
-use Rattle.rv_trace.specs.Trace.{Setting, Course, stages_of, Stands, has_serial, is_flushed, is_retired, place, retirements}
-use Rattle.rv_trace.specs.LawfulTrace.{destination_of, reads_of, IsWordOf, IsOlder, IsDueToStop, WaitsForOperand, WaitsToDrain, OwnHold, StopsRun, WaitsBehind, TrueHold, ComesFirst, ShowsHold}
-use Rattle.rv_pipe.specs.PlainMachine.{Slots, or_else, writer, operand, waits_for, operand_hold, stop_of, drain, staying, own_hold, stops_now, is_blocked, shown, cells_of}
-use Rattle.rv_pipe.specs.Placed.{one_more, count, HasWord, Serials, Placed, IsShape}
-use Rattle.rv_pipe.proofs.Runs.{step_word, stops_as, stopped_as}
+use Rattle.rv_trace.specs.BaseRun.{run, step}
+use Rattle.rv_trace.specs.Trace.{Setting, Course, makes_access, accesses_before, stood as stood_rows, stages_of, Stands, has_serial, is_flushed, is_retired, place, retirements}
+use Rattle.rv_waits.specs.Waits.{wait_at}
+use Rattle.rv_trace.specs.Asked.{instruction_of, source_1, source_2, destination_of, reads_of, does_load, does_store, does_access}
+use Rattle.rv_trace.specs.LawfulTrace.{IsWordOf, IsOlder, IsDueToStop, WaitsForOperand, WaitsToDrain, WaitsForMemory, WaitsForStore, OwnHold, StopsRun, WaitsBehind, TrueHold, ComesFirst, ShowsHold}
+use Rattle.rv_pipe.specs.PlainMachine.{Slots, or_else, oldest, does_write, is_store, writer, operand, waits_for, operand_hold, store_ahead, store_hold, memory_hold, stop_of, drain, staying, own_hold, stops_now, is_blocked, shown, cells_of}
+use Rattle.rv_pipe.specs.Placed.{one_more, count, HasWord, Serials, expected, Placed, IsShape}
+use Rattle.rv_pipe.specs.Doing.{stop_as}
+use Rattle.rv_pipe.proofs.Runs.{answer_as, step_word, stops_as, stopped_as, word_in}
+use Rattle.rv_pipe.proofs.Reading.{Awaits, awaits_rest, Read, read_rest}
 use Rattle.rv_pipe.proofs.Places.{Stood, stood, older_lower, token_of, serials_drop, place_lt, place_order}
-use Rattle.rv_pipe.proofs.Tokens.{word_of_run, same_test, test_eq, test_ne, Decided}
+use Rattle.rv_pipe.proofs.Tokens.{word_of_run, step_of, expected_run, operands_ready, or_else_none, or_else_none_b, same_test, test_eq, test_ne, Decided}
 
 -- how many tokens go out of the last stage
 abbrev pub out_last : Option Token → ℕ
@@ -38,6 +39,10 @@ pub record Told (k : Setting) (earlier : List Row) (row : Row) (seen : Slots) : 
   pub cells : (stage : ℕ) → flushed ≤ stage → slice_get (stages_of k row) stage ≡ slice_get (cells_of seen) stage
   pub gone : (stage : ℕ) (c : Cell) → stage < flushed → Stands k row stage c → (c.hold ≡ None) × (has_serial row.flushed c.serial ≡ true)
   pub placed : Placed k (retirements earlier) 0 seen
+  pub read : Read k (run k.image (retirements earlier)).x 0 seen
+  pub owed : ℕ
+  pub awaits : Awaits k owed 0 seen
+  pub memory : (t : Token) (older : Slots) → drop k.shape.mem seen ≡ Some t ∷ older → owed ≡ wait_at k.waits (accesses_before k.course (retirements earlier + count older)) - stood_rows k earlier t.cell.serial
   pub decided : Decided k 0 seen
   pub serials : Serials (row ∷ earlier) (retirements earlier) seen
   pub words : (s word : ℕ) → IsWordOf k (row ∷ earlier) s word → HasWord seen s word
@@ -66,14 +71,14 @@ token_at (None ∷ seen) zero c h = cc
 token_at (Some t ∷ seen) zero c h = (t, seen, cc, refl)
 token_at (s ∷ seen) (suc stage) c h = token_at seen stage c h
 
-placed_drop : (k : Setting) (r base n : ℕ) (seen : Slots) → Placed k r base seen → Placed k r (base + n) (drop n seen)
+pub placed_drop : (k : Setting) (r base n : ℕ) (seen : Slots) → Placed k r base seen → Placed k r (base + n) (drop n seen)
 placed_drop k r base zero seen h = rw (add-zero base) h
 placed_drop k r base (suc n) [] h = tt
 placed_drop k r base (suc n) (s ∷ seen) h =
     let e : suc base + n ≡ base + suc n = omega arith in
     subst (λ m. Placed k r m (drop n seen)) e (placed_drop k r (suc base) n seen h.1)
 
-decided_drop : (k : Setting) (base n : ℕ) (seen : Slots) → Decided k base seen → Decided k (base + n) (drop n seen)
+pub decided_drop : (k : Setting) (base n : ℕ) (seen : Slots) → Decided k base seen → Decided k (base + n) (drop n seen)
 decided_drop k base zero seen h = rw (add-zero base) h
 decided_drop k base (suc n) [] h = tt
 decided_drop k base (suc n) (None ∷ seen) h =
@@ -139,67 +144,71 @@ cell_here (s ∷ seen) (suc n) u e = cell_here seen n u e
 
 -- Operands
 
--- the token of the serial j is among these, and writes this register
-abbrev pub Writes : Slots → ℕ → ℕ → Type 0
-Writes older reg j = (n : ℕ) × (u : Token) × (slice_get older n ≡ Some (Some u)) × (u.cell.serial ≡ j) × (destination_of u.instruction ≡ reg)
+-- a token of the serial j for which this holds is among these
+abbrev pub Has : Slots → (Token → Bool) → ℕ → Type 0
+Has older f j = (n : ℕ) × (u : Token) × (slice_get older n ≡ Some (Some u)) × (u.cell.serial ≡ j) × (f u ≡ true)
 
--- the least serial of those that do
-abbrev pub WriterIs : Slots → ℕ → Option ℕ → Type 0
-WriterIs older reg None = (j : ℕ) → Writes older reg j → ⊥
-WriterIs older reg (Some i) = Writes older reg i × ((j : ℕ) → Writes older reg j → i ≤ j)
+-- the least serial of those for which it does
+abbrev pub OldestIs : Slots → (Token → Bool) → Option ℕ → Type 0
+OldestIs older f None = (j : ℕ) → Has older f j → ⊥
+OldestIs older f (Some i) = Has older f i × ((j : ℕ) → Has older f j → i ≤ j)
 
-behind : (s : Option Token) (older : Slots) (reg j : ℕ) → Writes older reg j → Writes (s ∷ older) reg j
-behind s older reg j w = (suc w.0, w.1, w.2, w.3, w.4)
+behind : (s : Option Token) (older : Slots) (f : Token → Bool) (j : ℕ) → Has older f j → Has (s ∷ older) f j
+behind s older f j w = (suc w.0, w.1, w.2, w.3, w.4)
 
--- what is written by these is written by the first of them, or by a later one
-front_or_behind : (t : Token) (older : Slots) (reg j : ℕ) → Writes (Some t ∷ older) reg j → ((t.cell.serial ≡ j) × (destination_of t.instruction ≡ reg)) ⊎ Writes older reg j
-front_or_behind t older reg j w = by_index w.0 w.2 where
-  by_index : (n : ℕ) → slice_get (Some t ∷ older) n ≡ Some (Some w.1) → ((t.cell.serial ≡ j) × (destination_of t.instruction ≡ reg)) ⊎ Writes older reg j
+-- it holds of the first of these, or of a later one
+front_or_behind : (t : Token) (older : Slots) (f : Token → Bool) (j : ℕ) → Has (Some t ∷ older) f j → ((t.cell.serial ≡ j) × (f t ≡ true)) ⊎ Has older f j
+front_or_behind t older f j w = by_index w.0 w.2 where
+  by_index : (n : ℕ) → slice_get (Some t ∷ older) n ≡ Some (Some w.1) → ((t.cell.serial ≡ j) × (f t ≡ true)) ⊎ Has older f j
   by_index zero e =
       let same = same_token t w.1 e in
-      inl (ap (λ (u : Token). u.cell.serial) same ∙ w.3, ap (λ (u : Token). destination_of u.instruction) same ∙ w.4)
+      inl (ap (λ (u : Token). u.cell.serial) same ∙ w.3, ap (λ (u : Token). f u) same ∙ w.4)
   by_index (suc n) e = inr (n, w.1, e, w.3, w.4)
 
-only_behind : (older : Slots) (reg j : ℕ) → Writes (None ∷ older) reg j → Writes older reg j
-only_behind older reg j w = by_index w.0 w.2 where
-  by_index : (n : ℕ) → slice_get (None ∷ older) n ≡ Some (Some w.1) → Writes older reg j
+only_behind : (older : Slots) (f : Token → Bool) (j : ℕ) → Has (None ∷ older) f j → Has older f j
+only_behind older f j w = by_index w.0 w.2 where
+  by_index : (n : ℕ) → slice_get (None ∷ older) n ≡ Some (Some w.1) → Has older f j
   by_index zero e = cc
   by_index (suc n) e = (n, w.1, e, w.3, w.4)
 
-writer_is : (rows : List Row) (r reg : ℕ) (older : Slots) → Serials rows r older → WriterIs older reg (writer reg older)
-writer_is rows r reg [] h = λ j w. cc (w.2)
-writer_is rows r reg (None ∷ older) h = by_case (writer reg older) (writer_is rows r reg older h) where
-  by_case : (o : Option ℕ) → WriterIs older reg o → WriterIs (None ∷ older) reg o
-  by_case None f = λ j w. f j (only_behind older reg j w)
-  by_case (Some i) f = (behind None older reg i f.0, λ j w. f.1 j (only_behind older reg j w))
-writer_is rows r reg (Some t ∷ older) h = by_case (writer reg older) (writer_is rows r reg older h.1) where
-  last : (b : Bool) → (destination_of t.instruction == reg) ≡ b → ((j : ℕ) → Writes older reg j → ⊥) → WriterIs (Some t ∷ older) reg (if b then Some t.cell.serial else None)
-  last true q f = (
-    (0, t, refl, refl, test_eq (destination_of t.instruction) reg q),
-    λ j w. elim (front_or_behind t older reg j w) [ inl x ↦ omega (arith, x.0) | inr x ↦ absurd (f j x) ],
+oldest_is : (rows : List Row) (r : ℕ) (f : Token → Bool) (older : Slots) → Serials rows r older → OldestIs older f (oldest f older)
+oldest_is rows r f [] h = λ j w. cc (w.2)
+oldest_is rows r f (None ∷ older) h = by_case (oldest f older) (oldest_is rows r f older h) where
+  by_case : (o : Option ℕ) → OldestIs older f o → OldestIs (None ∷ older) f o
+  by_case None g = λ j w. g j (only_behind older f j w)
+  by_case (Some i) g = (behind None older f i g.0, λ j w. g.1 j (only_behind older f j w))
+oldest_is rows r f (Some t ∷ older) h = by_case (oldest f older) (oldest_is rows r f older h.1) where
+  last : (b : Bool) → f t ≡ b → ((j : ℕ) → Has older f j → ⊥) → OldestIs (Some t ∷ older) f (if b then Some t.cell.serial else None)
+  last true q g = (
+    (0, t, refl, refl, q),
+    λ j w. elim (front_or_behind t older f j w) [ inl x ↦ omega (arith, x.0) | inr x ↦ absurd (g j x) ],
   )
-  last false q f = λ j w. elim (front_or_behind t older reg j w) [ inl x ↦ test_ne (destination_of t.instruction) reg q x.1 | inr x ↦ f j x ]
+  last false q g = λ j w. elim (front_or_behind t older f j w) [ inl x ↦ cc (q, x.1) | inr x ↦ g j x ]
 
-  by_case : (o : Option ℕ) → WriterIs older reg o → WriterIs (Some t ∷ older) reg (or_else o (if destination_of t.instruction == reg then Some t.cell.serial else None))
-  by_case None f = last (destination_of t.instruction == reg) refl f
-  by_case (Some i) f = (
-    behind (Some t) older reg i f.0,
-    λ j w. elim (front_or_behind t older reg j w) [
+  by_case : (o : Option ℕ) → OldestIs older f o → OldestIs (Some t ∷ older) f (or_else o (if f t then Some t.cell.serial else None))
+  by_case None g = last (f t) refl g
+  by_case (Some i) g = (
+    behind (Some t) older f i g.0,
+    λ j w. elim (front_or_behind t older f j w) [
       | inl x ↦
-          let w0 = f.0 in
+          let w0 = g.0 in
           let lt = older_lower rows r w0.0 t w0.1 older h w0.2 in
           let e = w0.3 in
           omega (arith, lt, e, x.0)
-      | inr x ↦ f.1 j x
+      | inr x ↦ g.1 j x
     ],
   )
+
+-- a token of this serial among these writes this register
+abbrev pub Writes : Slots → ℕ → ℕ → Type 0
+Writes older reg j = Has older (does_write reg) j
 
 -- what is waited for, of one register
 abbrev pub WaitIs : Slots → ℕ → Option Hold → Type 0
 WaitIs older reg None = (reg ≡ 0) ⊎ ((j : ℕ) → Writes older reg j → ⊥)
 WaitIs older reg (Some h) = (i : ℕ) × (h ≡ Operand reg i) × (reg ≢ 0) × Writes older reg i × ((j : ℕ) → Writes older reg j → i ≤ j)
 
-operand_is : (older : Slots) (reg : ℕ) (o : Option ℕ) → reg ≢ 0 → WriterIs older reg o → WaitIs older reg (operand reg o)
+operand_is : (older : Slots) (reg : ℕ) (o : Option ℕ) → reg ≢ 0 → OldestIs older (does_write reg) o → WaitIs older reg (operand reg o)
 operand_is older reg None ne h = inr h
 operand_is older reg (Some i) ne h = (i, refl, ne, h.0, h.1)
 
@@ -207,7 +216,7 @@ wait_is : (rows : List Row) (r reg : ℕ) (older : Slots) → Serials rows r old
 wait_is rows r reg older h = by_case (reg == 0) refl where
   by_case : (b : Bool) → (reg == 0) ≡ b → WaitIs older reg (if b then None else operand reg (writer reg older))
   by_case true e = inl (test_eq reg 0 e)
-  by_case false e = operand_is older reg (writer reg older) (test_ne reg 0 e) (writer_is rows r reg older h)
+  by_case false e = operand_is older reg (writer reg older) (test_ne reg 0 e) (oldest_is rows r (does_write reg) older h)
 
 pub all_three : (a b c : Bool) → a ≡ true → b ≡ true → c ≡ true → (a && b && c) ≡ true
 all_three a b c p q r = rw (p, q, r)
@@ -312,14 +321,14 @@ module _ (k : Setting) (shape : IsShape k) (earlier : List Row) (row : Row) (see
   word_of j reg writes =
       let stands : Stands k row (suc stage + writes.0) writes.1.cell = told.cells (suc stage + writes.0) (past_flushed writes.0) ∙ cell_here seen (suc stage + writes.0) writes.1 (here_in writes.0 writes.1 writes.2) in
       let known : IsWordOf k (row ∷ earlier) j writes.1.cell.word = inl (suc stage + writes.0, writes.1.cell, stands, writes.3, refl) in
-      (writes.1.cell.word, known, sym (ap destination_of (decoded_in writes.0 writes.1 writes.2)) ∙ writes.4)
+      (writes.1.cell.word, known, sym (ap destination_of (decoded_in writes.0 writes.1 writes.2)) ∙ test_eq (destination_of writes.1.instruction) reg writes.4)
 
   -- what waits for an operand, among the older tokens
   from_wait : (reg j : ℕ) → WaitsForOperand k earlier row stage t.cell reg j → Writes older reg j
   from_wait reg j w =
       let u = waiting j w.older w.unretired in
       let word = told.words j w.writes.0 w.writes.1 (suc stage + u.0) u.1 (here_in u.0 u.1 u.2) u.3 in
-      (u.0, u.1, u.2, u.3, ap destination_of (decoded_in u.0 u.1 u.2) ∙ ap (λ v. destination_of (instruction_of v)) word ∙ w.writes.2)
+      (u.0, u.1, u.2, u.3, same_test (destination_of u.1.instruction) reg (ap destination_of (decoded_in u.0 u.1 u.2) ∙ ap (λ v. destination_of (instruction_of v)) word ∙ w.writes.2))
 
   to_wait : (reg j : ℕ) → stage ≡ k.shape.rd → reads_of (instruction_of t.cell.word) reg ≡ true → Writes older reg j → WaitsForOperand k earlier row stage t.cell reg j
   to_wait reg j at reads writes =
@@ -337,16 +346,6 @@ module _ (k : Setting) (shape : IsShape k) (earlier : List Row) (row : Row) (see
   OperandIs (Some h) =
       (reg : ℕ) × (i : ℕ) × (h ≡ Operand reg i) × WaitsForOperand k earlier row stage t.cell reg i
       × ((other j : ℕ) → WaitsForOperand k earlier row stage t.cell other j → (reg < other) ⊎ ((reg ≡ other) × (i ≤ j)))
-
-  reads_one : (reg rs : ℕ) → (not (reg == 0) && (reg == rs)) ≡ true → (reg ≢ 0) × (reg ≡ rs)
-  reads_one reg rs h = by_case (reg == 0) (reg == rs) refl refl h where
-    by_case : (a b : Bool) → (reg == 0) ≡ a → (reg == rs) ≡ b → (not a && b) ≡ true → (reg ≢ 0) × (reg ≡ rs)
-    by_case false true p q e = (test_ne reg 0 p, test_eq reg rs q)
-    by_case false false p q e = cc
-    by_case true b p q e = cc
-
-  one_reads : (reg rs : ℕ) → reg ≢ 0 → reg ≡ rs → (not (reg == 0) && (reg == rs)) ≡ true
-  one_reads reg rs ne e = grind (arith, nat_tests)
 
   reads_two : (reg a b : ℕ) → (not (reg == 0) && ((reg == a) || (reg == b))) ≡ true → (reg ≢ 0) × ((reg ≡ min a b) ⊎ (reg ≡ max a b))
   reads_two reg a b h = by_case (reg == 0) (reg == a) (reg == b) refl refl refl h where
@@ -367,24 +366,6 @@ module _ (k : Setting) (shape : IsShape k) (earlier : List Row) (row : Row) (see
 
   most_reads : (reg a b : ℕ) → reg ≢ 0 → reg ≡ max a b → (not (reg == 0) && ((reg == a) || (reg == b))) ≡ true
   most_reads reg a b ne e = grind (arith, nat_tests)
-
-  -- one source register
-  one_source : stage ≡ k.shape.rd → (rs : ℕ) → ((reg : ℕ) → reads_of (instruction_of t.cell.word) reg ≡ (not (reg == 0) && (reg == rs))) → (o : Option Hold) → WaitIs older rs o → OperandIs o
-  one_source at rs reads None (inl zero_rs) = λ reg j w.
-      let q = reads_one reg rs (sym (reads reg) ∙ w.reads) in
-      q.0 (q.1 ∙ zero_rs)
-  one_source at rs reads None (inr f) = λ reg j w.
-      let q = reads_one reg rs (sym (reads reg) ∙ w.reads) in
-      f j (subst (λ m. Writes older m j) q.1 (from_wait reg j w))
-  one_source at rs reads (Some h) w = (
-    rs,
-    w.0,
-    w.1,
-    to_wait rs w.0 at (reads rs ∙ one_reads rs rs w.2 refl) w.3,
-    λ other j v.
-        let q = reads_one other rs (sym (reads other) ∙ v.reads) in
-        inr (sym q.1, w.4 j (subst (λ m. Writes older m j) q.1 (from_wait other j v))),
-  )
 
   -- no older token writes the register
   none_waits : (reg rs : ℕ) → reg ≢ 0 → reg ≡ rs → WaitIs older rs None → (j : ℕ) → Writes older reg j → ⊥
@@ -431,18 +412,10 @@ module _ (k : Setting) (shape : IsShape k) (earlier : List Row) (row : Row) (see
   )
 
   operand_first : stage ≡ k.shape.rd → OperandIs (operand_hold older t.instruction)
-  operand_first at = by_case t.instruction (sym placed.0.decoded) where
-    nothing_read : (o : Option Instruction) → instruction_of t.cell.word ≡ o → ((reg : ℕ) → reads_of o reg ≡ false) → OperandIs None
-    nothing_read o e f = λ reg j w. cc (sym (ap (λ i. reads_of i reg) e) ∙ w.reads, f reg)
-
-    by_case : (o : Option Instruction) → instruction_of t.cell.word ≡ o → OperandIs (operand_hold older o)
-    by_case None e = nothing_read None e (λ reg. refl)
-    by_case (Some Break) e = nothing_read (Some Break) e (λ reg. refl)
-    by_case (Some (AddImmediate rd rs1 immediate)) e =
-        one_source at rs1 (λ reg. ap (λ i. reads_of i reg) e) (waits_for rs1 older) (wait_is (row ∷ earlier) (retirements earlier) rs1 older ordered.1)
-    by_case (Some (Add rd rs1 rs2)) e =
-        two_sources at rs1 rs2 (λ reg. ap (λ i. reads_of i reg) e) (waits_for (min rs1 rs2) older) (waits_for (max rs1 rs2) older)
-        (wait_is (row ∷ earlier) (retirements earlier) (min rs1 rs2) older ordered.1) (wait_is (row ∷ earlier) (retirements earlier) (max rs1 rs2) older ordered.1)
+  operand_first at =
+      let i = t.instruction in
+      two_sources at (source_1 i) (source_2 i) (λ reg. ap (λ o. reads_of o reg) (sym placed.0.decoded)) (waits_for (min (source_1 i) (source_2 i)) older) (waits_for (max (source_1 i) (source_2 i)) older)
+      (wait_is (row ∷ earlier) (retirements earlier) (min (source_1 i) (source_2 i)) older ordered.1) (wait_is (row ∷ earlier) (retirements earlier) (max (source_1 i) (source_2 i)) older ordered.1)
 
   operand_where : OperandIs (if stage == k.shape.rd then operand_hold older t.instruction else None)
   operand_where = by_case (stage == k.shape.rd) refl where
@@ -452,17 +425,50 @@ module _ (k : Setting) (shape : IsShape k) (earlier : List Row) (row : Row) (see
 
   -- due to stop at EX
 
-  pub at_ex : stage ≡ k.shape.ex → k.course.answer (place (row ∷ earlier) t.cell.serial) ≡ answer_to (run k.image (retirements earlier + count older)) t.cell.word (instruction_of t.cell.word)
-  at_ex e =
+  -- at RD no operand is waited for
+  abbrev NoOperand : Type 0
+  NoOperand = stage ≡ k.shape.rd → operand_hold older t.instruction ≡ None
+
+  reads_here : Read k (run k.image (retirements earlier)).x stage (Some t ∷ older)
+  reads_here = read_rest k (run k.image (retirements earlier)).x stage seen (Some t ∷ older) told.read rest
+
+  -- then the token has the operands of the run
+  operands_right : stage ≡ k.shape.ex → NoOperand
+      → (t.x ≡ slice_index (run k.image (retirements earlier + count older)).x (source_1 (instruction_of t.cell.word))) × (t.y ≡ slice_index (run k.image (retirements earlier + count older)).x (source_2 (instruction_of t.cell.word)))
+  operands_right at none =
+      let by_word_1 = ap (λ i. slice_index (run k.image (retirements earlier + count older)).x (source_1 i)) placed.0.decoded in
+      let by_word_2 = ap (λ i. slice_index (run k.image (retirements earlier + count older)).x (source_2 i)) placed.0.decoded in
+      elim (cases_lt k.shape.rd stage) [
+        | inl lt ↦ (placed.0.first lt ∙ by_word_1, placed.0.second lt ∙ by_word_2)
+        | inr le ↦
+            let near = shape.rd_ex in
+            let e : stage ≡ k.shape.rd = omega (arith, le, near, at) in
+            let ready = operands_ready k shape (retirements earlier) (suc stage) older t.instruction (omega (arith, at)) placed.1 (none e) in
+            ((reads_here.0 e).0 ∙ ready.0 ∙ by_word_1, (reads_here.0 e).1 ∙ ready.1 ∙ by_word_2)
+      ]
+
+  pub at_ex : stage ≡ k.shape.ex → NoOperand → k.course.answer (place (row ∷ earlier) t.cell.serial) ≡ answer_as (instruction_of t.cell.word) t.cell.at t.cell.word t.x t.y (run k.image (retirements earlier + count older)).mem
+  at_ex e none =
       let p = ordered.0.0 in
+      let s = run k.image (retirements earlier + count older) in
+      let i = instruction_of t.cell.word in
       let word = word_of_run k (retirements earlier) stage t older (omega (arith, e)) placed.0 in
-      ap (λ (c : Course). c.answer (place (row ∷ earlier) t.cell.serial)) shape.course ∙ ap (λ n. step k.image (run k.image n)) p ∙ step_word k.image (run k.image (retirements earlier + count older)) t.cell.word word
+      let path : t.cell.at ≡ s.pc = placed.0.at ∙ expected_run k (retirements earlier) (suc stage) older (omega (arith, e)) in
+      let o = operands_right e none in
+      ap (λ (c : Course). c.answer (place (row ∷ earlier) t.cell.serial)) shape.course ∙ ap (λ n. step k.image (run k.image n)) p ∙ step_word k.image s t.cell.word word
+      ∙ ap (λ a. answer_as i a t.cell.word (slice_index s.x (source_1 i)) (slice_index s.x (source_2 i)) s.mem) (sym path)
+      ∙ ap (λ z. answer_as i t.cell.at t.cell.word z (slice_index s.x (source_2 i)) s.mem) (sym o.0)
+      ∙ ap (λ z. answer_as i t.cell.at t.cell.word t.x z s.mem) (sym o.1)
 
-  due_word : (stop : Stop) → stage ≡ k.shape.ex → IsDueToStop k (row ∷ earlier) t.cell stop → stop_of t.instruction ≡ Some stop
-  due_word stop e d = ap stop_of placed.0.decoded ∙ stopped_as (run k.image (retirements earlier + count older)) t.cell.word (instruction_of t.cell.word) stop (sym (at_ex e) ∙ d)
+  due_word : (stop : Stop) → stage ≡ k.shape.ex → NoOperand → IsDueToStop k (row ∷ earlier) t.cell stop → stop_of t ≡ Some stop
+  due_word stop e none d =
+      ap (λ i. stop_as i t.cell.at t.x t.y) placed.0.decoded
+      ∙ stopped_as (instruction_of t.cell.word) t.cell.at t.cell.word t.x t.y (run k.image (retirements earlier + count older)).mem stop (sym (at_ex e none) ∙ d)
 
-  word_due : (stop : Stop) → stage ≡ k.shape.ex → stop_of t.instruction ≡ Some stop → IsDueToStop k (row ∷ earlier) t.cell stop
-  word_due stop e w = at_ex e ∙ stops_as (run k.image (retirements earlier + count older)) t.cell.word (instruction_of t.cell.word) stop (sym (ap stop_of placed.0.decoded) ∙ w)
+  word_due : (stop : Stop) → stage ≡ k.shape.ex → NoOperand → stop_of t ≡ Some stop → IsDueToStop k (row ∷ earlier) t.cell stop
+  word_due stop e none w =
+      at_ex e none
+      ∙ stops_as (instruction_of t.cell.word) t.cell.at t.cell.word t.x t.y (run k.image (retirements earlier + count older)).mem stop (sym (ap (λ i. stop_as i t.cell.at t.x t.y) placed.0.decoded) ∙ w)
 
   abbrev DrainIs : Option Hold → Type 0
   DrainIs None = (j : ℕ) → WaitsToDrain k earlier row stage t.cell j → ⊥
@@ -480,8 +486,8 @@ module _ (k : Setting) (shape : IsShape k) (earlier : List Row) (row : Row) (see
   still : (j : ℕ) → is_flushed (row ∷ earlier) j ≡ false → is_retired (row ∷ earlier) j ≡ false → retirements earlier + out_of seen ≤ place (row ∷ earlier) j
   still j alive u = not_below (place (row ∷ earlier) j) (retirements earlier + out_of seen) (sym (told.now j alive) ∙ u)
 
-  drain_older : stage ≡ k.shape.ex → (stop : Stop) → stop_of t.instruction ≡ Some stop → DrainIs (drain (staying older))
-  drain_older at stop w = by_case (staying older) (staying_is (row ∷ earlier) (retirements earlier) older ordered.1) where
+  drain_older : stage ≡ k.shape.ex → NoOperand → (stop : Stop) → stop_of t ≡ Some stop → DrainIs (drain (staying older))
+  drain_older at ready stop w = by_case (staying older) (staying_is (row ∷ earlier) (retirements earlier) older ordered.1) where
     by_case : (o : Option ℕ) → StayingIs (row ∷ earlier) (retirements earlier) older o → DrainIs (drain o)
     by_case (Some i) x =
         let lt = x.5 in
@@ -492,7 +498,7 @@ module _ (k : Setting) (shape : IsShape k) (earlier : List Row) (row : Row) (see
           refl,
           record {
             executing = at;
-            due = (stop, word_due stop at w);
+            due = (stop, word_due stop at ready w);
             older = subst (λ s. IsOlder (row ∷ earlier) t.cell.serial s) x.3 (is_older x.0 x.1 x.2);
             unretired = told.now i alive ∙ not_lt (place (row ∷ earlier) i) (retirements earlier + out_of seen) (omega (arith, same, p));
           },
@@ -508,12 +514,119 @@ module _ (k : Setting) (shape : IsShape k) (earlier : List Row) (row : Row) (see
         let same = out_older some in
         omega (arith, s, lower, p, le, same)
 
-  drain_where : DrainIs (if (stage == k.shape.ex) && is_some (stop_of t.instruction) then drain (staying older) else None)
-  drain_where = by_case (stage == k.shape.ex) (stop_of t.instruction) refl refl where
-    by_case : (b : Bool) (o : Option Stop) → (stage == k.shape.ex) ≡ b → stop_of t.instruction ≡ o → DrainIs (if b && is_some o then drain (staying older) else None)
-    by_case true (Some stop) e w = drain_older (test_eq stage k.shape.ex e) stop w
-    by_case true None e w = λ j d. cc (due_word d.due.0 d.executing d.due.1, w)
+  drain_where : NoOperand → DrainIs (if (stage == k.shape.ex) && is_some (stop_of t) then drain (staying older) else None)
+  drain_where ready = by_case (stage == k.shape.ex) (stop_of t) refl refl where
+    by_case : (b : Bool) (o : Option Stop) → (stage == k.shape.ex) ≡ b → stop_of t ≡ o → DrainIs (if b && is_some o then drain (staying older) else None)
+    by_case true (Some stop) e w = drain_older (test_eq stage k.shape.ex e) ready stop w
+    by_case true None e w = λ j d. cc (due_word d.due.0 d.executing ready d.due.1, w)
     by_case false o e w = λ j d. test_ne stage k.shape.ex e d.executing
+
+  -- waits of the memory
+
+  -- whether the step at the token's place accesses the memory
+  pub access_here : stage ≡ k.shape.mem → makes_access (k.course.answer (place (row ∷ earlier) t.cell.serial)) ≡ does_access t.instruction
+  access_here at =
+      let p = retirements earlier + count older in
+      let a = shape.rd_ex in
+      let b = shape.ex_mem in
+      let path : t.cell.at ≡ (run k.image p).pc = placed.0.at ∙ expected_run k (retirements earlier) (suc stage) older (omega (arith, at, b)) in
+      let g = step_of k p (expected k (retirements earlier) (suc stage) older) stage t placed.0 (omega (arith, at, a, b)) path (placed.0.goes (omega (arith, at, b))) in
+      ap makes_access (ap (λ (c : Course). c.answer (place (row ∷ earlier) t.cell.serial)) shape.course ∙ ap (λ n. step k.image (run k.image n)) ordered.0.0 ∙ g.done)
+      ∙ ap (λ w. does_access (instruction_of w)) (word_in t.cell.at t.cell.word _)
+      ∙ sym (ap does_access placed.0.decoded)
+
+  wait_here : stage ≡ k.shape.mem → t.wait ≡ (if does_access t.instruction then told.owed else 0)
+  wait_here at = (awaits_rest k told.owed stage seen (Some t ∷ older) told.awaits rest).0 at
+
+  owed_here : stage ≡ k.shape.mem → told.owed ≡ wait_at k.waits (accesses_before k.course (place (row ∷ earlier) t.cell.serial)) - stood_rows k earlier t.cell.serial
+  owed_here at =
+      told.memory t older (ap (λ n. drop n seen) (sym at) ∙ rest)
+      ∙ ap (λ n. wait_at k.waits (accesses_before k.course n) - stood_rows k earlier t.cell.serial) (sym ordered.0.0)
+
+  if_access : (b : Bool) (m n : ℕ) → b ≡ true → m ≡ (if b then n else 0) → m ≡ n
+  if_access true m n e h = h
+  if_access false m n e h = cc
+
+  accesses_if : (b : Bool) (m n : ℕ) → m ≡ (if b then n else 0) → 0 < m → (b ≡ true) × (m ≡ n)
+  accesses_if true m n h lt = (refl, h)
+  accesses_if false m n h lt = absurd (omega (arith, h, lt))
+
+  abbrev MemoryIs : Option Hold → Type 0
+  MemoryIs None = (left : ℕ) → WaitsForMemory k earlier row stage t.cell left → ⊥
+  MemoryIs (Some h) = (left : ℕ) × (h ≡ Wait left) × WaitsForMemory k earlier row stage t.cell left
+
+  none_owed : stage ≡ k.shape.mem → t.wait ≡ 0 → (left : ℕ) → WaitsForMemory k earlier row stage t.cell left → ⊥
+  none_owed at nothing left w =
+      let e = if_access (does_access t.instruction) t.wait told.owed (sym (access_here at) ∙ w.accesses) (wait_here at) in
+      let o = owed_here at in
+      let still = w.still in
+      let some = w.some in
+      omega (arith, nothing, e, o, still, some)
+
+  some_owed : stage ≡ k.shape.mem → 0 < t.wait → WaitsForMemory k earlier row stage t.cell t.wait
+  some_owed at lt =
+      let x = accesses_if (does_access t.instruction) t.wait told.owed (wait_here at) lt in
+      let o = owed_here at in
+      record { waiting = at; accesses = access_here at ∙ x.0; still = omega (arith, x.1, o, lt); some = lt }
+
+  above_zero : (n : ℕ) → (n == 0) ≡ false → 0 < n
+  above_zero n e = grind (arith, nat_tests)
+
+  memory_where : MemoryIs (if stage == k.shape.mem then memory_hold t else None)
+  memory_where = by_case (stage == k.shape.mem) (t.wait == 0) refl refl where
+    by_case : (b c : Bool) → (stage == k.shape.mem) ≡ b → (t.wait == 0) ≡ c → MemoryIs (if b then (if c then None else Some (Wait t.wait)) else None)
+    by_case true true e z = none_owed (test_eq stage k.shape.mem e) (test_eq t.wait 0 z)
+    by_case true false e z = (t.wait, refl, some_owed (test_eq stage k.shape.mem e) (above_zero t.wait z))
+    by_case false c e z = λ left w. test_ne stage k.shape.mem e w.waiting
+
+  -- stores ahead
+
+  from_store : (j : ℕ) → WaitsForStore k earlier row stage t.cell j → Has older is_store j
+  from_store j w =
+      let n = later_index w.stands.0 w.stands.2 in
+      let at : slice_get (cells_of older) n.0 ≡ Some (Some w.stands.1) =
+      sym (stands_older k row seen older (Some t) stage n.0 (told.cells (suc stage + n.0) (past_flushed n.0)) rest) ∙ ap (λ i. slice_get (stages_of k row) i) n.1 ∙ w.stands.3 in
+      let u = cell_token older n.0 w.stands.1 at in
+      (n.0, u.0, u.1, ap (λ (c : Cell). c.serial) u.2 ∙ w.stands.4, ap does_store (decoded_in n.0 u.0 u.1) ∙ ap (λ (c : Cell). does_store (instruction_of c.word)) u.2 ∙ w.stands.5) where
+        later_index : (later : ℕ) → stage < later → (n : ℕ) × (suc stage + n ≡ later)
+        later_index later lt = (later - suc stage, omega (arith, lt))
+
+        cell_token : (l : Slots) (n : ℕ) (c : Cell) → slice_get (cells_of l) n ≡ Some (Some c) → (u : Token) × (slice_get l n ≡ Some (Some u)) × (u.cell ≡ c)
+        cell_token [] n c e = cc
+        cell_token (None ∷ l) zero c e = cc
+        cell_token (Some u ∷ l) zero c e = (u, refl, cc)
+        cell_token (s ∷ l) (suc n) c e = cell_token l n c e
+
+  to_store : (j : ℕ) → stage ≡ k.shape.mem → does_load t.instruction ≡ true → Has older is_store j → WaitsForStore k earlier row stage t.cell j
+  to_store j at loads h =
+      record {
+        loading = at;
+        loads = sym (ap does_load placed.0.decoded) ∙ loads;
+        older = subst (λ s. IsOlder (row ∷ earlier) t.cell.serial s) h.3 (is_older h.0 h.1 h.2);
+        stands = (
+          suc stage + h.0,
+          h.1.cell,
+          omega arith,
+          told.cells (suc stage + h.0) (past_flushed h.0) ∙ cell_here seen (suc stage + h.0) h.1 (here_in h.0 h.1 h.2),
+          h.3,
+          sym (ap does_store (decoded_in h.0 h.1 h.2)) ∙ h.4,
+        );
+      }
+
+  abbrev StoreIs : Option Hold → Type 0
+  StoreIs None = (j : ℕ) → WaitsForStore k earlier row stage t.cell j → ⊥
+  StoreIs (Some h) = (i : ℕ) × (h ≡ StoreAhead i) × WaitsForStore k earlier row stage t.cell i × ((j : ℕ) → WaitsForStore k earlier row stage t.cell j → i ≤ j)
+
+  store_first : stage ≡ k.shape.mem → (o : Option ℕ) → OldestIs older is_store o → does_load t.instruction ≡ true → StoreIs (store_ahead o)
+  store_first at None f loads = λ j w. f j (from_store j w)
+  store_first at (Some i) f loads = (i, refl, to_store i at loads f.0, λ j w. f.1 j (from_store j w))
+
+  store_where : StoreIs (if stage == k.shape.mem then store_hold older t.instruction else None)
+  store_where = by_case (stage == k.shape.mem) (does_load t.instruction) refl refl where
+    by_case : (b c : Bool) → (stage == k.shape.mem) ≡ b → does_load t.instruction ≡ c → StoreIs (if b then (if c then store_ahead (oldest is_store older) else None) else None)
+    by_case true true e l = store_first (test_eq stage k.shape.mem e) (oldest is_store older) (oldest_is (row ∷ earlier) (retirements earlier) is_store older ordered.1) l
+    by_case true false e l = λ j w. cc (ap does_load placed.0.decoded ∙ w.loads, l)
+    by_case false c e l = λ j w. test_ne stage k.shape.mem e w.loading
 
   -- the first of a cell's own holds
 
@@ -527,8 +640,8 @@ module _ (k : Setting) (shape : IsShape k) (earlier : List Row) (row : Row) (see
   first_operand i reg w f (Board target j) o = absurd o
   first_operand i reg w f (Custom other j) o = absurd o
   first_operand i reg w f (Late j) o = absurd o
-  first_operand i reg w f (Wait left) o = absurd o
-  first_operand i reg w f (StoreAhead j) o = absurd o
+  first_operand i reg w f (Wait left) o = inl (omega arith)
+  first_operand i reg w f (StoreAhead j) o = inl (omega arith)
   first_operand i reg w f (Tail left) o = absurd o
   first_operand i reg w f (UnitFull u) o = absurd o
   first_operand i reg w f (Port j) o = absurd o
@@ -540,54 +653,99 @@ module _ (k : Setting) (shape : IsShape k) (earlier : List Row) (row : Row) (see
   first_drain i n f (Board target j) o = absurd o
   first_drain i n f (Custom other j) o = absurd o
   first_drain i n f (Late j) o = absurd o
-  first_drain i n f (Wait left) o = absurd o
-  first_drain i n f (StoreAhead j) o = absurd o
+  first_drain i n f (Wait left) o = inl (omega arith)
+  first_drain i n f (StoreAhead j) o = inl (omega arith)
   first_drain i n f (Tail left) o = absurd o
   first_drain i n f (UnitFull u) o = absurd o
   first_drain i n f (Port j) o = absurd o
   first_drain i n f Behind o = absurd o
 
-  no_own : ((other j : ℕ) → WaitsForOperand k earlier row stage t.cell other j → ⊥) → ((j : ℕ) → WaitsToDrain k earlier row stage t.cell j → ⊥) → (g : Hold) → OwnHold k earlier row stage t.cell g → ⊥
-  no_own n f (Operand other j) o = n other j o
-  no_own n f (Drain j) o = f j o
-  no_own n f (Board target j) o = o
-  no_own n f (Custom other j) o = o
-  no_own n f (Late j) o = o
-  no_own n f (Wait left) o = o
-  no_own n f (StoreAhead j) o = o
-  no_own n f (Tail left) o = o
-  no_own n f (UnitFull u) o = o
-  no_own n f (Port j) o = o
-  no_own n f Behind o = o
+  abbrev NoneWaits : Type 0
+  NoneWaits = (left : ℕ) → WaitsForMemory k earlier row stage t.cell left → ⊥
 
-  own_is : OwnIs (own_hold k.shape stage t.instruction older)
-  own_is = by_case (if stage == k.shape.rd then operand_hold older t.instruction else None) (if (stage == k.shape.ex) && is_some (stop_of t.instruction) then drain (staying older) else None) operand_where drain_where where
-    by_case : (o p : Option Hold) → OperandIs o → DrainIs p → OwnIs (or_else o p)
-    by_case None None u v = no_own u v
-    by_case None (Some h) u v = (subst (λ x. OwnHold k earlier row stage t.cell x) (sym v.1) v.2, λ g o. subst (λ x. ComesFirst x g) (sym v.1) (first_drain v.0 u v.3 g o))
-    by_case (Some h) p u v = (subst (λ x. OwnHold k earlier row stage t.cell x) (sym u.2) u.3, λ g o. subst (λ x. ComesFirst x g) (sym u.2) (first_operand u.1 u.0 u.3 u.4 g o))
+  first_wait : (i : ℕ) → ((other j : ℕ) → WaitsForOperand k earlier row stage t.cell other j → ⊥) → ((j : ℕ) → WaitsToDrain k earlier row stage t.cell j → ⊥) → (g : Hold) → OwnHold k earlier row stage t.cell g → ComesFirst (Wait i) g
+  first_wait i n d (Operand other j) o = absurd (n other j o)
+  first_wait i n d (Drain j) o = absurd (d j o)
+  first_wait i n d (Wait left) o = inr (refl, inr (refl, omega arith))
+  first_wait i n d (StoreAhead j) o = inl (omega arith)
+  first_wait i n d (Board target j) o = absurd o
+  first_wait i n d (Custom other j) o = absurd o
+  first_wait i n d (Late j) o = absurd o
+  first_wait i n d (Tail left) o = absurd o
+  first_wait i n d (UnitFull u) o = absurd o
+  first_wait i n d (Port j) o = absurd o
+  first_wait i n d Behind o = absurd o
+
+  first_store : (i : ℕ) → ((other j : ℕ) → WaitsForOperand k earlier row stage t.cell other j → ⊥) → ((j : ℕ) → WaitsToDrain k earlier row stage t.cell j → ⊥) → NoneWaits → ((j : ℕ) → WaitsForStore k earlier row stage t.cell j → i ≤ j) → (g : Hold) → OwnHold k earlier row stage t.cell g → ComesFirst (StoreAhead i) g
+  first_store i n d w f (Operand other j) o = absurd (n other j o)
+  first_store i n d w f (Drain j) o = absurd (d j o)
+  first_store i n d w f (Wait left) o = absurd (w left o)
+  first_store i n d w f (StoreAhead j) o = inr (refl, inr (refl, f j o))
+  first_store i n d w f (Board target j) o = absurd o
+  first_store i n d w f (Custom other j) o = absurd o
+  first_store i n d w f (Late j) o = absurd o
+  first_store i n d w f (Tail left) o = absurd o
+  first_store i n d w f (UnitFull u) o = absurd o
+  first_store i n d w f (Port j) o = absurd o
+  first_store i n d w f Behind o = absurd o
+
+  no_own : ((other j : ℕ) → WaitsForOperand k earlier row stage t.cell other j → ⊥) → ((j : ℕ) → WaitsToDrain k earlier row stage t.cell j → ⊥) → NoneWaits → ((j : ℕ) → WaitsForStore k earlier row stage t.cell j → ⊥) → (g : Hold) → OwnHold k earlier row stage t.cell g → ⊥
+  no_own n f w s (Operand other j) o = n other j o
+  no_own n f w s (Drain j) o = f j o
+  no_own n f w s (Wait left) o = w left o
+  no_own n f w s (StoreAhead j) o = s j o
+  no_own n f w s (Board target j) o = o
+  no_own n f w s (Custom other j) o = o
+  no_own n f w s (Late j) o = o
+  no_own n f w s (Tail left) o = o
+  no_own n f w s (UnitFull u) o = o
+  no_own n f w s (Port j) o = o
+  no_own n f w s Behind o = o
+
+  no_operand_of : (if stage == k.shape.rd then operand_hold older t.instruction else None) ≡ None → NoOperand
+  no_operand_of h at = if_then (stage == k.shape.rd) (same_test stage k.shape.rd at) h where
+    if_then : (b : Bool) → b ≡ true → (if b then operand_hold older t.instruction else None) ≡ None → operand_hold older t.instruction ≡ None
+    if_then true e q = q
+    if_then false e q = cc
+
+  own_is : OwnIs (own_hold k.shape stage t older)
+  own_is = by_operand (if stage == k.shape.rd then operand_hold older t.instruction else None) refl operand_where where
+    by_rest : ((other j : ℕ) → WaitsForOperand k earlier row stage t.cell other j → ⊥) → (o q p : Option Hold) → DrainIs o → MemoryIs q → StoreIs p → OwnIs (or_else o (or_else q p))
+    by_rest n None None None u w v = no_own n u w v
+    by_rest n None None (Some h) u w v = (subst (λ x. OwnHold k earlier row stage t.cell x) (sym v.1) v.2, λ g o. subst (λ x. ComesFirst x g) (sym v.1) (first_store v.0 n u w v.3 g o))
+    by_rest n None (Some h) p u w v = (subst (λ x. OwnHold k earlier row stage t.cell x) (sym w.1) w.2, λ g o. subst (λ x. ComesFirst x g) (sym w.1) (first_wait w.0 n u g o))
+    by_rest n (Some h) q p u w v = (subst (λ x. OwnHold k earlier row stage t.cell x) (sym u.1) u.2, λ g o. subst (λ x. ComesFirst x g) (sym u.1) (first_drain u.0 n u.3 g o))
+
+    by_operand : (o : Option Hold) → (if stage == k.shape.rd then operand_hold older t.instruction else None) ≡ o → OperandIs o
+        → OwnIs (or_else o (or_else (if (stage == k.shape.ex) && is_some (stop_of t) then drain (staying older) else None) (or_else (if stage == k.shape.mem then memory_hold t else None) (if stage == k.shape.mem then store_hold older t.instruction else None))))
+    by_operand None e u =
+        by_rest u (if (stage == k.shape.ex) && is_some (stop_of t) then drain (staying older) else None) (if stage == k.shape.mem then memory_hold t else None) (if stage == k.shape.mem then store_hold older t.instruction else None)
+        (drain_where (no_operand_of e)) memory_where store_where
+    by_operand (Some h) e u = (subst (λ x. OwnHold k earlier row stage t.cell x) (sym u.2) u.3, λ g o. subst (λ x. ComesFirst x g) (sym u.2) (first_operand u.1 u.0 u.3 u.4 g o))
 
   -- stopping the run
 
-  pub own_free : (h : Hold) → own_hold k.shape stage t.instruction older ≡ Some h → OwnHold k earlier row stage t.cell h × ((g : Hold) → OwnHold k earlier row stage t.cell g → ComesFirst h g)
+  pub own_free : (h : Hold) → own_hold k.shape stage t older ≡ Some h → OwnHold k earlier row stage t.cell h × ((g : Hold) → OwnHold k earlier row stage t.cell g → ComesFirst h g)
   own_free h e = subst OwnIs e own_is
 
-  pub own_nothing : own_hold k.shape stage t.instruction older ≡ None → (h : Hold) → OwnHold k earlier row stage t.cell h → ⊥
+  pub own_nothing : own_hold k.shape stage t older ≡ None → (h : Hold) → OwnHold k earlier row stage t.cell h → ⊥
   own_nothing e = subst OwnIs e own_is
 
-  pub stops_then : (stop : Stop) → StopsRun k earlier row stage t.cell stop → stops_now k.shape stage t.instruction older ≡ true
-  stops_then stop s =
-      let w = due_word stop s.executing s.due in
-      let e = same_test stage k.shape.ex s.executing in
-      by_case (own_hold k.shape stage t.instruction older) refl w e where
-        by_case : (o : Option Hold) → own_hold k.shape stage t.instruction older ≡ o → stop_of t.instruction ≡ Some stop → (stage == k.shape.ex) ≡ true → ((stage == k.shape.ex) && is_some (stop_of t.instruction) && is_none (own_hold k.shape stage t.instruction older)) ≡ true
-        by_case None q w e = all_three (stage == k.shape.ex) (is_some (stop_of t.instruction)) (is_none (own_hold k.shape stage t.instruction older)) e (ap (λ o. is_some o) w) (ap (λ o. is_none o) q)
-        by_case (Some h) q w e = absurd (s.free h (own_free h q).0)
+  -- without a hold of its own nothing is waited for
+  ready_of : own_hold k.shape stage t older ≡ None → NoOperand
+  ready_of h = no_operand_of (or_else_none (if stage == k.shape.rd then operand_hold older t.instruction else None) _ h)
 
-  pub then_stops : stops_now k.shape stage t.instruction older ≡ true → (stop : Stop) × (stop_of t.instruction ≡ Some stop) × StopsRun k earlier row stage t.cell stop
-  then_stops h = by_case (stage == k.shape.ex) (stop_of t.instruction) (own_hold k.shape stage t.instruction older) refl refl refl h where
-    by_case : (b : Bool) (o : Option Stop) (p : Option Hold) → (stage == k.shape.ex) ≡ b → stop_of t.instruction ≡ o → own_hold k.shape stage t.instruction older ≡ p → (b && is_some o && is_none p) ≡ true → (stop : Stop) × (stop_of t.instruction ≡ Some stop) × StopsRun k earlier row stage t.cell stop
-    by_case true (Some stop) None e w q x = (stop, w, record { executing = test_eq stage k.shape.ex e; due = word_due stop (test_eq stage k.shape.ex e) w; free = own_nothing q })
+  pub stops_then : (stop : Stop) → StopsRun k earlier row stage t.cell stop → stops_now k.shape stage t older ≡ true
+  stops_then stop s = by_case (own_hold k.shape stage t older) refl where
+    by_case : (o : Option Hold) → own_hold k.shape stage t older ≡ o → ((stage == k.shape.ex) && is_some (stop_of t) && is_none (own_hold k.shape stage t older)) ≡ true
+    by_case None q =
+        all_three (stage == k.shape.ex) (is_some (stop_of t)) (is_none (own_hold k.shape stage t older)) (same_test stage k.shape.ex s.executing) (ap (λ o. is_some o) (due_word stop s.executing (ready_of q) s.due)) (ap (λ o. is_none o) q)
+    by_case (Some h) q = absurd (s.free h (own_free h q).0)
+
+  pub then_stops : stops_now k.shape stage t older ≡ true → (stop : Stop) × (stop_of t ≡ Some stop) × StopsRun k earlier row stage t.cell stop
+  then_stops h = by_case (stage == k.shape.ex) (stop_of t) (own_hold k.shape stage t older) refl refl refl h where
+    by_case : (b : Bool) (o : Option Stop) (p : Option Hold) → (stage == k.shape.ex) ≡ b → stop_of t ≡ o → own_hold k.shape stage t older ≡ p → (b && is_some o && is_none p) ≡ true → (stop : Stop) × (stop_of t ≡ Some stop) × StopsRun k earlier row stage t.cell stop
+    by_case true (Some stop) None e w q x = (stop, w, record { executing = test_eq stage k.shape.ex e; due = word_due stop (test_eq stage k.shape.ex e) (ready_of q) w; free = own_nothing q })
     by_case true (Some stop) (Some p) e w q x = cc
     by_case true None p e w q x = cc
     by_case false o p e w q x = cc
@@ -617,7 +775,7 @@ module _ (k : Setting) (shape : IsShape k) (earlier : List Row) (row : Row) (see
           (λ w. let same : u.cell ≡ w.0 = cc (sym at ∙ w.1) in blocks (sym same) w.2),
           λ b. (u.cell, at, why (is_some u.cell.hold) refl b),
         ) where
-          blocks : {d : Cell} → d ≡ u.cell → (is_some d.hold ≡ true) ⊎ ((stop : Stop) × StopsRun k earlier row stage d stop) → (is_some u.cell.hold || stops_now k.shape stage u.instruction l) ≡ true
+          blocks : {d : Cell} → d ≡ u.cell → (is_some d.hold ≡ true) ⊎ ((stop : Stop) × StopsRun k earlier row stage d stop) → (is_some u.cell.hold || stops_now k.shape stage u l) ≡ true
           blocks same (inl held) = let held' = subst (λ (d : Cell). is_some d.hold ≡ true) same held in rw held'
           blocks same (inr s) =
               let s' = subst (λ (d : Cell). StopsRun k earlier row stage d s.0) same s.1 in
@@ -627,7 +785,7 @@ module _ (k : Setting) (shape : IsShape k) (earlier : List Row) (row : Row) (see
                 either true b q = refl
                 either false b q = q
 
-          why : (b : Bool) → is_some u.cell.hold ≡ b → (b || stops_now k.shape stage u.instruction l) ≡ true → (is_some u.cell.hold ≡ true) ⊎ ((stop : Stop) × StopsRun k earlier row stage u.cell stop)
+          why : (b : Bool) → is_some u.cell.hold ≡ b → (b || stops_now k.shape stage u l) ≡ true → (is_some u.cell.hold ≡ true) ⊎ ((stop : Stop) × StopsRun k earlier row stage u.cell stop)
           why true held q = inl held
           why false held q = let s = then_stops k shape earlier row seen told stage u l e h q in inr (s.0, s.2)
 
@@ -646,7 +804,7 @@ Chosen k earlier row stage c (Some h) = OwnHold k earlier row stage c h × ((g :
 
 -- the holds of a row
 module _ (k : Setting) (shape : IsShape k) (earlier : List Row) (row : Row) (seen : Slots) (told : Told k earlier row seen) where
-  shows_token : (stage : ℕ) (t : Token) (older : Slots) → drop stage seen ≡ Some t ∷ older → Placed k (retirements earlier) stage (Some t ∷ older) → t.cell.hold ≡ shown k.shape stage t.instruction older → ShowsHold k earlier row stage t.cell
+  shows_token : (stage : ℕ) (t : Token) (older : Slots) → drop stage seen ≡ Some t ∷ older → Placed k (retirements earlier) stage (Some t ∷ older) → t.cell.hold ≡ shown k.shape stage t older → ShowsHold k earlier row stage t.cell
   shows_token stage t older rest placed is =
       record {
         flushed = λ f. cc (f, unflushed_cell);
@@ -664,20 +822,20 @@ module _ (k : Setting) (shape : IsShape k) (earlier : List Row) (row : Row) (see
         blocked : (WaitsBehind k earlier row stage → is_blocked k.shape (suc stage) older ≡ true) × (is_blocked k.shape (suc stage) older ≡ true → WaitsBehind k earlier row stage)
         blocked = behind_stage k shape earlier row seen told (suc stage) later older (drop_more seen older (Some t) stage rest) placed.1
 
-        own : (o : Option Hold) → own_hold k.shape stage t.instruction older ≡ o → Chosen k earlier row stage t.cell o
+        own : (o : Option Hold) → own_hold k.shape stage t older ≡ o → Chosen k earlier row stage t.cell o
         own None e = own_nothing k shape earlier row seen told stage t older rest placed e
         own (Some h) e = own_free k shape earlier row seen told stage t older rest placed h e
 
         -- what is shown, by whether the cell stops the run
-        parts : (h : Hold) → shown k.shape stage t.instruction older ≡ Some h → (stops_now k.shape stage t.instruction older ≡ false) × (or_else (own_hold k.shape stage t.instruction older) (if is_blocked k.shape (suc stage) older then Some Behind else None) ≡ Some h)
-        parts h e = by_case (stops_now k.shape stage t.instruction older) refl e where
-          by_case : (b : Bool) → stops_now k.shape stage t.instruction older ≡ b → (if b then None else or_else (own_hold k.shape stage t.instruction older) (if is_blocked k.shape (suc stage) older then Some Behind else None)) ≡ Some h → (stops_now k.shape stage t.instruction older ≡ false) × (or_else (own_hold k.shape stage t.instruction older) (if is_blocked k.shape (suc stage) older then Some Behind else None) ≡ Some h)
+        parts : (h : Hold) → shown k.shape stage t older ≡ Some h → (stops_now k.shape stage t older ≡ false) × (or_else (own_hold k.shape stage t older) (if is_blocked k.shape (suc stage) older then Some Behind else None) ≡ Some h)
+        parts h e = by_case (stops_now k.shape stage t older) refl e where
+          by_case : (b : Bool) → stops_now k.shape stage t older ≡ b → (if b then None else or_else (own_hold k.shape stage t older) (if is_blocked k.shape (suc stage) older then Some Behind else None)) ≡ Some h → (stops_now k.shape stage t older ≡ false) × (or_else (own_hold k.shape stage t older) (if is_blocked k.shape (suc stage) older then Some Behind else None) ≡ Some h)
           by_case true q x = cc
           by_case false q x = (q, x)
 
-        shown_true : (h : Hold) → shown k.shape stage t.instruction older ≡ Some h → TrueHold k earlier row stage t.cell h
-        shown_true h e = by_case (own_hold k.shape stage t.instruction older) refl (is_blocked k.shape (suc stage) older) refl (parts h e).1 where
-          by_case : (o : Option Hold) → own_hold k.shape stage t.instruction older ≡ o → (b : Bool) → is_blocked k.shape (suc stage) older ≡ b → or_else o (if b then Some Behind else None) ≡ Some h → TrueHold k earlier row stage t.cell h
+        shown_true : (h : Hold) → shown k.shape stage t older ≡ Some h → TrueHold k earlier row stage t.cell h
+        shown_true h e = by_case (own_hold k.shape stage t older) refl (is_blocked k.shape (suc stage) older) refl (parts h e).1 where
+          by_case : (o : Option Hold) → own_hold k.shape stage t older ≡ o → (b : Bool) → is_blocked k.shape (suc stage) older ≡ b → or_else o (if b then Some Behind else None) ≡ Some h → TrueHold k earlier row stage t.cell h
           by_case (Some g) q b w x = let same : g ≡ h = cc in inl (subst (λ y. OwnHold k earlier row stage t.cell y) same (own (Some g) q).0)
           by_case None q true w x = inr (cc, blocked.1 w)
           by_case None q false w x = cc
@@ -690,25 +848,25 @@ module _ (k : Setting) (shape : IsShape k) (earlier : List Row) (row : Row) (see
         last_kind (Board target j) o = absurd o
         last_kind (Custom other j) o = absurd o
         last_kind (Late j) o = absurd o
-        last_kind (Wait left) o = absurd o
-        last_kind (StoreAhead j) o = absurd o
+        last_kind (Wait left) o = inl (omega arith)
+        last_kind (StoreAhead j) o = inl (omega arith)
         last_kind (Tail left) o = absurd o
         last_kind (UnitFull u) o = absurd o
         last_kind (Port j) o = absurd o
         last_kind Behind o = absurd o
 
-        first_true : (h g : Hold) → shown k.shape stage t.instruction older ≡ Some h → TrueHold k earlier row stage t.cell g → ComesFirst h g
-        first_true h g e o = by_case (own_hold k.shape stage t.instruction older) refl (is_blocked k.shape (suc stage) older) refl (parts h e).1 o where
-          by_case : (p : Option Hold) → own_hold k.shape stage t.instruction older ≡ p → (b : Bool) → is_blocked k.shape (suc stage) older ≡ b → or_else p (if b then Some Behind else None) ≡ Some h → TrueHold k earlier row stage t.cell g → ComesFirst h g
+        first_true : (h g : Hold) → shown k.shape stage t older ≡ Some h → TrueHold k earlier row stage t.cell g → ComesFirst h g
+        first_true h g e o = by_case (own_hold k.shape stage t older) refl (is_blocked k.shape (suc stage) older) refl (parts h e).1 o where
+          by_case : (p : Option Hold) → own_hold k.shape stage t older ≡ p → (b : Bool) → is_blocked k.shape (suc stage) older ≡ b → or_else p (if b then Some Behind else None) ≡ Some h → TrueHold k earlier row stage t.cell g → ComesFirst h g
           by_case (Some f) q b w x (inl y) = let same : f ≡ h = cc in subst (λ z. ComesFirst z g) same ((own (Some f) q).1 g y)
           by_case (Some f) q b w x (inr y) = let same : f ≡ h = cc in subst (λ z. ComesFirst h z) (sym y.0) (last_kind h (subst (λ z. OwnHold k earlier row stage t.cell z) same (own (Some f) q).0))
           by_case None q true w x (inl y) = absurd (own None q g y)
           by_case None q true w x (inr y) = let same : h ≡ g = cc in subst (λ z. ComesFirst h z) same (inr (refl, inr (refl, omega arith)))
           by_case None q false w x y = cc
 
-        free_true : shown k.shape stage t.instruction older ≡ None → ((stop : Stop) → StopsRun k earlier row stage t.cell stop → ⊥) → (h : Hold) → TrueHold k earlier row stage t.cell h → ⊥
-        free_true e n h o = by_case (stops_now k.shape stage t.instruction older) refl (own_hold k.shape stage t.instruction older) refl (is_blocked k.shape (suc stage) older) refl e o where
-          by_case : (s : Bool) → stops_now k.shape stage t.instruction older ≡ s → (p : Option Hold) → own_hold k.shape stage t.instruction older ≡ p → (b : Bool) → is_blocked k.shape (suc stage) older ≡ b → (if s then None else or_else p (if b then Some Behind else None)) ≡ None → TrueHold k earlier row stage t.cell h → ⊥
+        free_true : shown k.shape stage t older ≡ None → ((stop : Stop) → StopsRun k earlier row stage t.cell stop → ⊥) → (h : Hold) → TrueHold k earlier row stage t.cell h → ⊥
+        free_true e n h o = by_case (stops_now k.shape stage t older) refl (own_hold k.shape stage t older) refl (is_blocked k.shape (suc stage) older) refl e o where
+          by_case : (s : Bool) → stops_now k.shape stage t older ≡ s → (p : Option Hold) → own_hold k.shape stage t older ≡ p → (b : Bool) → is_blocked k.shape (suc stage) older ≡ b → (if s then None else or_else p (if b then Some Behind else None)) ≡ None → TrueHold k earlier row stage t.cell h → ⊥
           by_case true z p q b w x o = let s = then_stops k shape earlier row seen told stage t older rest placed z in n s.0 s.2
           by_case false z None q true w x o = cc
           by_case false z None q false w x (inl y) = own None q h y

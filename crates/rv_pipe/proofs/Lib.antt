@@ -1,4 +1,6 @@
+pub mod Operands
 pub mod Runs
+pub mod Reading
 pub mod Places
 pub mod Tokens
 pub mod Holds
@@ -7,6 +9,7 @@ pub mod Moving
 pub mod Filling
 pub mod Stopping
 pub mod Bound
+pub mod Before
 pub mod Flushing
 pub mod Telling
 pub mod Succeeding

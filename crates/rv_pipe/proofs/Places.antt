@@ -7,7 +7,7 @@ use Rattle.rv_core.specs.declared.Shape.{Shape}
 use Rattle.rv_pipe.specs.declared.stages.Token.{Token}
 use Rattle.rv_trace.specs.Trace.{has_serial, is_flushed, place}
 use Rattle.rv_trace.specs.LawfulTrace.{serial_after}
-use Rattle.rv_pipe.specs.PlainMachine.{Slots, advanced, decided, fill_first, first_slot, next_after, cell_of}
+use Rattle.rv_pipe.specs.PlainMachine.{Slots, advanced, reading, decided, fill_first, first_slot, next_after, cell_of}
 use Rattle.rv_pipe.specs.Placed.{count, Serials}
 
 -- Places and serials
@@ -205,11 +205,11 @@ next_placed rows r serial at (None ∷ older) None lt p a = p
 next_placed rows r serial at (None ∷ older) (Some word) lt p a = let s = place_suc rows serial a in omega (arith, s, p)
 
 -- what stands in stage 0 is the last that was fetched
-pub first_fetched : (k : Shape) (serial at : ℕ) (slots : Slots) (o : Option ℕ) → 0 < length slots → serial_after serial (cell_of (first_slot slots)) ≡ serial → serial_after (next_after serial (first_slot slots) o) (cell_of (first_slot (decided k 0 (fill_first slots serial at o)))) ≡ next_after serial (first_slot slots) o
-first_fetched k serial at [] o lt e = absurd (omega arith)
-first_fetched k serial at (Some t ∷ older) o lt e = e
-first_fetched k serial at (None ∷ older) None lt e = refl
-first_fetched k serial at (None ∷ older) (Some word) lt e = refl
+pub first_fetched : (k : Shape) (file : List ℕ) (owed serial at : ℕ) (slots : Slots) (o : Option ℕ) → 0 < length slots → serial_after serial (cell_of (first_slot slots)) ≡ serial → serial_after (next_after serial (first_slot slots) o) (cell_of (first_slot (decided k 0 (reading k file owed 0 (fill_first slots serial at o))))) ≡ next_after serial (first_slot slots) o
+first_fetched k file owed serial at [] o lt e = absurd (omega arith)
+first_fetched k file owed serial at (Some t ∷ older) o lt e = e
+first_fetched k file owed serial at (None ∷ older) None lt e = refl
+first_fetched k file owed serial at (None ∷ older) (Some word) lt e = refl
 
 pub first_kept : (k : Shape) (x : List ℕ) (next : ℕ) (seen : Slots) → serial_after next (cell_of (first_slot seen)) ≡ next → serial_after next (cell_of (first_slot (advanced k x 0 None seen))) ≡ next
 first_kept k x next [] e = e

@@ -6,18 +6,20 @@ use Rattle.rv_trace.specs.declared.row.Cell.{Cell}
 use Rattle.rv_trace.specs.declared.row.Hold.{Hold}
 use Rattle.rv_trace.specs.declared.row.Row.{Row}
 use Rattle.rv_seq.specs.declared.commit.Commit.{Commit}
-use Rattle.rv_built.specs.declared.instruction.Instruction.{Instruction}
 use Rattle.rv_seq.specs.declared.commit.Stop.{Stop}
 use Rattle.rv_seq.specs.declared.commit.Stop.TheVariants.{Fetch}
 use Rattle.rv_pipe.specs.declared.stages.Token.{Token}
-use Rattle.rv_built.specs.SequentialRun.{word_at, run, step, Done, Stopped}
+use Rattle.rv_seq.specs.Steps.{word_at}
+use Rattle.rv_trace.specs.BaseRun.{run, step}
+use Rattle.rv_seq.specs.declared.answer.StepAnswer.TheVariants.{Done, Stopped}
 use Rattle.rv_trace.specs.Trace.{Setting, Course, place, stages_of, Stands, has_serial, retirements, newest}
 use Rattle.rv_trace.specs.LawfulTrace.{AreEmpty, IsInForm, name_of, names_of, leaves, unless, fetch_address, Moves, Retires, StopsRun, IsEmptyAfter, StopsRightly, LawfulRow}
 use Rattle.rv_trace.specs.Headline.{AgreesWithRun}
-use Rattle.rv_pipe.specs.PlainMachine.{Machine, Slots, or_else, stop_of, own_hold, stops_now, staying, drain, fill_first, gone, going, leaving, retired_of, slot_stop, remains, fetch_after, cell_of, cells_of, seen_by, IsRowOf, struck, cleared, held_by, redirect_by, struck_by, fetch_by}
+use Rattle.rv_pipe.specs.PlainMachine.{Machine, Slots, or_else, stop_of, own_hold, stops_now, staying, drain, fill_first, gone, going, leaving, retired_of, slot_stop, remains, fetch_after, cell_of, cells_of, seen_by, IsRowOf, struck, cleared, read_by, owed_by, held_by, redirect_by, struck_by, fetch_by}
 use Rattle.rv_pipe.specs.Placed.{one_more, count, expected, tail, Placed, IsShape, Inv}
 use Rattle.rv_pipe.proofs.Runs.{step_at}
-use Rattle.rv_pipe.proofs.Tokens.{lt_true, or_else_none_b, is_none_of, decided_names}
+use Rattle.rv_pipe.proofs.Reading.{reading_cells}
+use Rattle.rv_pipe.proofs.Tokens.{lt_true, or_else_none, or_else_none_b, is_none_of, decided_names}
 use Rattle.rv_pipe.proofs.Moving.{fill_moves, last_slot}
 use Rattle.rv_pipe.proofs.Flushing as F
 use Rattle.rv_pipe.proofs.Telling as T
@@ -35,7 +37,7 @@ module _ (k : Setting) (shape : IsShape k) (earlier : List Row) (m : Machine) (r
   told : Told k earlier row (seen_by k m)
   told = T.told k shape earlier m row inv is
 
-  goes_out : ((leaving k.shape m.arch.x 0 None (seen_by k m) ≡ None) × (row.retired ≡ None) × (out_of (seen_by k m) ≡ 0)) ⊎ (T.Retirement k shape earlier m row inv is (leaving k.shape m.arch.x 0 None (seen_by k m)) row.retired × (out_of (seen_by k m) ≡ 1))
+  goes_out : ((leaving k.shape m.arch.mem 0 None (seen_by k m) ≡ None) × (row.retired ≡ None) × (out_of (seen_by k m) ≡ 0)) ⊎ (T.Retirement k shape earlier m row inv is (leaving k.shape m.arch.mem 0 None (seen_by k m)) row.retired × (out_of (seen_by k m) ≡ 1))
   goes_out = T.goes_out k shape earlier m row inv is
 
   retired_now : retirements (row ∷ earlier) ≡ retirements earlier + out_of (seen_by k m)
@@ -56,7 +58,7 @@ module _ (k : Setting) (shape : IsShape k) (earlier : List Row) (m : Machine) (r
   row_moves : Moves k earlier row
   row_moves =
       let names : names_of (stages_of k row) ≡ names_of (cells_of (fill_first m.slots m.next m.fetch (word_at k.image m.fetch))) =
-      ap names_of is.cells ∙ unheld_names (struck_by k m) (held_by k m) ∙ decided_names k 0 (fill_first m.slots m.next m.fetch (word_at k.image m.fetch)) in
+      ap names_of is.cells ∙ unheld_names (struck_by k m) (held_by k m) ∙ decided_names k 0 (read_by k m) ∙ ap names_of (reading_cells k.shape m.arch.x (owed_by k m) 0 (fill_first m.slots m.next m.fetch (word_at k.image m.fetch))) in
       rw (names, ← inv.next_is, ← inv.fetch_is) (fill_moves m.next m.fetch (word_at k.image m.fetch) (newest earlier) (stages_of k (newest earlier)) m.slots inv.moved)
 
   not_held : (c : Cell) → leaves row (Some c) ≡ name_of (Some c) → c.hold ≡ None
@@ -74,12 +76,12 @@ module _ (k : Setting) (shape : IsShape k) (earlier : List Row) (m : Machine) (r
 
   row_retires : (stage : ℕ) → suc stage ≡ k.shape.stages → Retires k row stage
   row_retires stage e =
-      let l = last_slot k m.arch.x 0 stage (seen_by k m) (e ∙ sym seen_length) in
+      let l = last_slot k m.arch.mem 0 stage (seen_by k m) (e ∙ sym seen_length) in
       by_slot l.slot (l.leaving_is None) l.here l.rest where
         past : struck_by k m ≤ stage
         past = let a = struck_ex in let b = shape.ex_last in omega (arith, a, b, e)
 
-        by_slot : (s : Option Token) → leaving k.shape m.arch.x 0 None (seen_by k m) ≡ going k.shape m.arch.x (0 + stage) s → slice_get (cells_of (seen_by k m)) stage ≡ Some (cell_of s) → drop stage (seen_by k m) ≡ s ∷ [] → Retires k row stage
+        by_slot : (s : Option Token) → leaving k.shape m.arch.mem 0 None (seen_by k m) ≡ going k.shape m.arch.mem (0 + stage) s → slice_get (cells_of (seen_by k m)) stage ≡ Some (cell_of s) → drop stage (seen_by k m) ≡ s ∷ [] → Retires k row stage
         by_slot None g here rest =
             record {
               leaver = λ s commit q. cc (is.retired ∙ ap retired_of g, q);
@@ -89,7 +91,7 @@ module _ (k : Setting) (shape : IsShape k) (earlier : List Row) (m : Machine) (r
           stands_t : Stands k row stage t.cell
           stands_t = F.stands_at k shape earlier m row inv is stage past ∙ here
 
-          by_hold : (b : Bool) → is_some t.cell.hold ≡ b → leaving k.shape m.arch.x 0 None (seen_by k m) ≡ (if b then None else Some (gone k.shape m.arch.x (0 + stage) t)) → Retires k row stage
+          by_hold : (b : Bool) → is_some t.cell.hold ≡ b → leaving k.shape m.arch.mem 0 None (seen_by k m) ≡ (if b then None else Some (gone k.shape m.arch.mem (0 + stage) t)) → Retires k row stage
           by_hold true q g =
               record {
                 leaver = λ s commit p. cc (is.retired ∙ ap retired_of g, p);
@@ -103,7 +105,7 @@ module _ (k : Setting) (shape : IsShape k) (earlier : List Row) (m : Machine) (r
               elim goes_out [
                 | inl n ↦ absurd (omega (arith, out, n.2))
                 | inr y ↦
-                    let same : gone k.shape m.arch.x (0 + stage) t ≡ y.0.token = cc (sym g ∙ y.0.is_left) in
+                    let same : gone k.shape m.arch.mem (0 + stage) t ≡ y.0.token = cc (sym g ∙ y.0.is_left) in
                     let serial : t.cell.serial ≡ y.0.token.cell.serial = ap (λ (u : Token). u.cell.serial) same in
                     let none = is_none_of t.cell.hold q in
                     record {
@@ -128,9 +130,9 @@ module _ (k : Setting) (shape : IsShape k) (earlier : List Row) (m : Machine) (r
       let pair : ◌≡◌ {A = Slots} (Some x.token ∷ x.older) (Some at.token ∷ at.older) = sym x.rest ∙ at.rest in
       let token : x.token ≡ at.token = cc in
       let older : x.older ≡ at.older = cc in
-      let stops : stops_now k.shape x.index at.token.instruction at.older ≡ true = ap (λ (t : Token). stops_now k.shape x.index t.instruction at.older) (sym token) ∙ ap (λ l. stops_now k.shape x.index x.token.instruction l) (sym older) ∙ ap (λ n. stops_now k.shape n x.token.instruction x.older) (sym z) ∙ x.stops in
+      let stops : stops_now k.shape x.index at.token at.older ≡ true = ap (λ (t : Token). stops_now k.shape x.index t at.older) (sym token) ∙ ap (λ l. stops_now k.shape x.index x.token l) (sym older) ∙ ap (λ n. stops_now k.shape n x.token x.older) (sym z) ∙ x.stops in
       let y = then_stops k shape earlier row (seen_by k m) told x.index at.token at.older at.rest at.placed stops in
-      let word : stop_of at.token.instruction ≡ Some stop = ap (λ (t : Token). stop_of t.instruction) (sym token) ∙ x.word in
+      let word : stop_of at.token ≡ Some stop = ap (λ (t : Token). stop_of t) (sym token) ∙ x.word in
       let same : y.0 ≡ stop = cc (sym y.1 ∙ word) in
       (stands, subst (λ d. StopsRun k earlier row x.index d stop) at.is (subst (λ q. StopsRun k earlier row x.index at.token.cell q) same y.2))
 
@@ -143,7 +145,7 @@ module _ (k : Setting) (shape : IsShape k) (earlier : List Row) (m : Machine) (r
       let y = then_stops k shape earlier row (seen_by k m) told stage at.token at.older at.rest at.placed n in
       let same : y.0 ≡ stop = cc (sym y.2.due ∙ s'.due) in
       let e = s.executing in
-      slot_stop_at k 0 stage (seen_by k m) at.older at.token stop (omega (arith, e)) at.rest (ap (λ j. stops_now k.shape j at.token.instruction at.older) (sym e) ∙ n) (y.1 ∙ ap Some same)
+      slot_stop_at k 0 stage (seen_by k m) at.older at.token stop (omega (arith, e)) at.rest (ap (λ j. stops_now k.shape j at.token at.older) (sym e) ∙ n) (y.1 ∙ ap Some same)
 
   fetch_case : (b : Bool) (o : Option ℕ) (stop : Stop) → (if b || is_some o then None else Some Fetch) ≡ Some stop → (b ≡ false) × (o ≡ None) × (stop ≡ Fetch)
   fetch_case true o stop h = cc
@@ -246,10 +248,10 @@ module _ (k : Setting) (shape : IsShape k) (earlier : List Row) (m : Machine) (r
       let s' = subst (λ d. StopsRun k earlier row x.index d stop) (sym at.is) s in
       let n = stops_then k shape earlier row (seen_by k m) told x.index at.token at.older at.rest at.placed stop s' in
       by_older at.older at.token at.rest at.placed n where
-        no_drain : (older : Slots) (i : Option Instruction) → stops_now k.shape x.index i older ≡ true → staying older ≡ None
-        no_drain older i n = by_case (x.index == k.shape.ex) (is_some (stop_of i)) refl refl (own_hold k.shape x.index i older) refl n where
-          by_case : (b d : Bool) → (x.index == k.shape.ex) ≡ b → is_some (stop_of i) ≡ d → (o : Option Hold) → own_hold k.shape x.index i older ≡ o → (b && d && is_none o) ≡ true → staying older ≡ None
-          by_case true true e w None q y = drain_none (staying older) (if_so _ (drain (staying older)) (all_two (x.index == k.shape.ex) (is_some (stop_of i)) e w) (or_else_none_b _ _ q)) where
+        no_drain : (older : Slots) (t : Token) → stops_now k.shape x.index t older ≡ true → staying older ≡ None
+        no_drain older t n = by_case (x.index == k.shape.ex) (is_some (stop_of t)) refl refl (own_hold k.shape x.index t older) refl n where
+          by_case : (b d : Bool) → (x.index == k.shape.ex) ≡ b → is_some (stop_of t) ≡ d → (o : Option Hold) → own_hold k.shape x.index t older ≡ o → (b && d && is_none o) ≡ true → staying older ≡ None
+          by_case true true e w None q y = drain_none (staying older) (if_so _ (drain (staying older)) (all_two (x.index == k.shape.ex) (is_some (stop_of t)) e w) (or_else_none (if (x.index == k.shape.ex) && is_some (stop_of t) then drain (staying older) else None) _ (or_else_none_b _ _ q))) where
             if_so : (c : Bool) (z : Option Hold) → c ≡ true → (if c then z else None) ≡ None → z ≡ None
             if_so true z p q = q
             if_so false z p q = cc
@@ -260,10 +262,10 @@ module _ (k : Setting) (shape : IsShape k) (earlier : List Row) (m : Machine) (r
           by_case true false e w o q y = cc
           by_case false d e w o q y = cc
 
-        by_older : (older : Slots) (t : Token) → drop x.index (seen_by k m) ≡ Some t ∷ older → Placed k (retirements earlier) x.index (Some t ∷ older) → stops_now k.shape x.index t.instruction older ≡ true → retirements earlier + count older ≡ retirements earlier + out_of (seen_by k m)
+        by_older : (older : Slots) (t : Token) → drop x.index (seen_by k m) ≡ Some t ∷ older → Placed k (retirements earlier) x.index (Some t ∷ older) → stops_now k.shape x.index t older ≡ true → retirements earlier + count older ≡ retirements earlier + out_of (seen_by k m)
         by_older older t rest placed n =
             let o = ordered k shape earlier row (seen_by k m) told x.index t older rest placed in
-            let all = subst (λ z. StayingIs (row ∷ earlier) (retirements earlier) older z) (no_drain older t.instruction n) (staying_is (row ∷ earlier) (retirements earlier) older o.1) in
+            let all = subst (λ z. StayingIs (row ∷ earlier) (retirements earlier) older z) (no_drain older t n) (staying_is (row ∷ earlier) (retirements earlier) older o.1) in
             let le = out_le older in
             let some = longer x.index older t rest s.executing in
             all_out older all some rest where
@@ -334,7 +336,7 @@ module _ (k : Setting) (shape : IsShape k) (earlier : List Row) (m : Machine) (r
                 let front = F.held_tail k shape earlier m row inv is ∙ ap (λ i. expected k (retirements earlier) 1 (tail (cleared i (held_by k m)))) (sym n) in
                 ap (λ o. unless o (fetch_after m.fetch (seen_by k m))) e ∙ by_slots (seen_by k m) rem (omega (arith, a, seen_length)) front
             by_redirect (Some address) e =
-                let x = redirecting k m.arch.x m.fetch (held_by k m) address e in
+                let x = redirecting k m.fetch (held_by k m) address e in
                 let rest = cleared_drop (struck_by k m) k.shape.ex (held_by k m) struck_ex (F.struck_inside k shape earlier m row inv is) ∙ x.rest in
                 let l = ap length rest in
                 let d = length-drop k.shape.ex (seen_by k m) in

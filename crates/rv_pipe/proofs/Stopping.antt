@@ -4,7 +4,6 @@ use Rattle.std.specs.Prelude.{◌&&◌, if◌then◌else◌, ◌==◌, is_some, 
 use Rattle.std.proofs.lemmas.Bool.Decides.{nat_tests}
 use Rattle.rv_trace.specs.declared.row.Cell.{Cell}
 use Rattle.rv_seq.specs.declared.commit.Stop.{Stop}
-use Rattle.rv_built.specs.declared.instruction.Instruction.{Instruction}
 use Rattle.rv_pipe.specs.declared.stages.Token.{Token}
 use Rattle.rv_trace.specs.Trace.{Setting}
 use Rattle.rv_pipe.specs.PlainMachine.{Slots, stop_of, own_hold, stops_now, slot_stop, remains, cells_of}
@@ -19,38 +18,38 @@ pub record Stopper (k : Setting) (base : ℕ) (seen : Slots) (stop : Stop) : Typ
   pub older : Slots
   pub rest : drop index seen ≡ Some token ∷ older
   pub here : slice_get (cells_of seen) index ≡ Some (Some token.cell)
-  pub stops : stops_now k.shape (base + index) token.instruction older ≡ true
-  pub word : stop_of token.instruction ≡ Some stop
+  pub stops : stops_now k.shape (base + index) token older ≡ true
+  pub word : stop_of token ≡ Some stop
 
 pub stopper : (k : Setting) (base : ℕ) (seen : Slots) (stop : Stop) → slot_stop k.shape base seen ≡ Some stop → Stopper k base seen stop
 stopper k base [] stop h = cc
 stopper k base (None ∷ older) stop h =
     let s = stopper k (suc base) older stop h in
     let e : suc base + s.index ≡ base + suc s.index = omega arith in
-    record { index = suc s.index; token = s.token; older = s.older; rest = s.rest; here = s.here; stops = ap (λ n. stops_now k.shape n s.token.instruction s.older) (sym e) ∙ s.stops; word = s.word }
-stopper k base (Some t ∷ older) stop h = by_case (stops_now k.shape base t.instruction older) refl h (λ q. stopper k (suc base) older stop q) where
-  by_case : (b : Bool) → stops_now k.shape base t.instruction older ≡ b → (if b then stop_of t.instruction else slot_stop k.shape (suc base) older) ≡ Some stop → (slot_stop k.shape (suc base) older ≡ Some stop → Stopper k (suc base) older stop) → Stopper k base (Some t ∷ older) stop
+    record { index = suc s.index; token = s.token; older = s.older; rest = s.rest; here = s.here; stops = ap (λ n. stops_now k.shape n s.token s.older) (sym e) ∙ s.stops; word = s.word }
+stopper k base (Some t ∷ older) stop h = by_case (stops_now k.shape base t older) refl h (λ q. stopper k (suc base) older stop q) where
+  by_case : (b : Bool) → stops_now k.shape base t older ≡ b → (if b then stop_of t else slot_stop k.shape (suc base) older) ≡ Some stop → (slot_stop k.shape (suc base) older ≡ Some stop → Stopper k (suc base) older stop) → Stopper k base (Some t ∷ older) stop
   by_case true q e ih =
       let z : base ≡ base + 0 = omega arith in
-      record { index = 0; token = t; older = older; rest = refl; here = refl; stops = ap (λ n. stops_now k.shape n t.instruction older) (sym z) ∙ q; word = e }
+      record { index = 0; token = t; older = older; rest = refl; here = refl; stops = ap (λ n. stops_now k.shape n t older) (sym z) ∙ q; word = e }
   by_case false q e ih =
       let s = ih e in
       let z : suc base + s.index ≡ base + suc s.index = omega arith in
-      record { index = suc s.index; token = s.token; older = s.older; rest = s.rest; here = s.here; stops = ap (λ n. stops_now k.shape n s.token.instruction s.older) (sym z) ∙ s.stops; word = s.word }
+      record { index = suc s.index; token = s.token; older = s.older; rest = s.rest; here = s.here; stops = ap (λ n. stops_now k.shape n s.token s.older) (sym z) ∙ s.stops; word = s.word }
 
-pub stops_at : (k : Setting) (stage : ℕ) (i : Option Instruction) (older : Slots) → stops_now k.shape stage i older ≡ true → stage ≡ k.shape.ex
-stops_at k stage i older h = by_case (stage == k.shape.ex) refl h where
-  by_case : (b : Bool) → (stage == k.shape.ex) ≡ b → (b && is_some (stop_of i) && is_none (own_hold k.shape stage i older)) ≡ true → stage ≡ k.shape.ex
+pub stops_at : (k : Setting) (stage : ℕ) (t : Token) (older : Slots) → stops_now k.shape stage t older ≡ true → stage ≡ k.shape.ex
+stops_at k stage t older h = by_case (stage == k.shape.ex) refl h where
+  by_case : (b : Bool) → (stage == k.shape.ex) ≡ b → (b && is_some (stop_of t) && is_none (own_hold k.shape stage t older)) ≡ true → stage ≡ k.shape.ex
   by_case true e q = test_eq stage k.shape.ex e
   by_case false e q = cc
 
-other_stage : (k : Setting) (stage : ℕ) (i : Option Instruction) (older : Slots) → stage < k.shape.ex → stops_now k.shape stage i older ≡ false
-other_stage k stage i older lt = never (is_some (stop_of i)) (is_none (own_hold k.shape stage i older)) where
+other_stage : (k : Setting) (stage : ℕ) (t : Token) (older : Slots) → stage < k.shape.ex → stops_now k.shape stage t older ≡ false
+other_stage k stage t older lt = never (is_some (stop_of t)) (is_none (own_hold k.shape stage t older)) where
   never : (b c : Bool) → ((stage == k.shape.ex) && b && c) ≡ false
   never b c = grind (arith, nat_tests)
 
 -- the token at EX that stops the run is the one whose stop the slots make
-pub slot_stop_at : (k : Setting) (base n : ℕ) (seen older : Slots) (t : Token) (stop : Stop) → base + n ≡ k.shape.ex → drop n seen ≡ Some t ∷ older → stops_now k.shape k.shape.ex t.instruction older ≡ true → stop_of t.instruction ≡ Some stop → slot_stop k.shape base seen ≡ Some stop
+pub slot_stop_at : (k : Setting) (base n : ℕ) (seen older : Slots) (t : Token) (stop : Stop) → base + n ≡ k.shape.ex → drop n seen ≡ Some t ∷ older → stops_now k.shape k.shape.ex t older ≡ true → stop_of t ≡ Some stop → slot_stop k.shape base seen ≡ Some stop
 slot_stop_at k base n [] older t stop e d s w = nothing n d where
   nothing : {A : Type 0} (m : ℕ) → drop {A = Option Token} m [] ≡ Some t ∷ older → A
   nothing zero q = cc
@@ -63,15 +62,15 @@ slot_stop_at k base zero (Some u ∷ rest) older t stop e d s w =
     here u rest base (sym same) (sym tail) (sym at) where
       here : (u : Token) (rest : Slots) (base : ℕ) → t ≡ u → older ≡ rest → k.shape.ex ≡ base → slot_stop k.shape base (Some u ∷ rest) ≡ Some stop
       here u rest base p q r =
-          let a : stops_now k.shape base u.instruction rest ≡ true = ap (λ (v : Token). stops_now k.shape base v.instruction rest) (sym p) ∙ ap (λ l. stops_now k.shape base t.instruction l) (sym q) ∙ ap (λ n. stops_now k.shape n t.instruction older) (sym r) ∙ s in
-          let b : stop_of u.instruction ≡ Some stop = ap (λ (v : Token). stop_of v.instruction) (sym p) ∙ w in
-          if_so (stops_now k.shape base u.instruction rest) (stop_of u.instruction) _ a b where
+          let a : stops_now k.shape base u rest ≡ true = ap (λ (v : Token). stops_now k.shape base v rest) (sym p) ∙ ap (λ l. stops_now k.shape base t l) (sym q) ∙ ap (λ n. stops_now k.shape n t older) (sym r) ∙ s in
+          let b : stop_of u ≡ Some stop = ap (λ (v : Token). stop_of v) (sym p) ∙ w in
+          if_so (stops_now k.shape base u rest) (stop_of u) _ a b where
             if_so : (c : Bool) (x y : Option Stop) → c ≡ true → x ≡ Some stop → (if c then x else y) ≡ Some stop
             if_so true x y q z = z
             if_so false x y q z = cc
 slot_stop_at k base (suc n) (None ∷ rest) older t stop e d s w = slot_stop_at k (suc base) n rest older t stop (omega (arith, e)) d s w
 slot_stop_at k base (suc n) (Some u ∷ rest) older t stop e d s w =
-    if_not (stops_now k.shape base u.instruction rest) (stop_of u.instruction) _ (other_stage k base u.instruction rest (omega (arith, e))) (slot_stop_at k (suc base) n rest older t stop (omega (arith, e)) d s w) where
+    if_not (stops_now k.shape base u rest) (stop_of u) _ (other_stage k base u rest (omega (arith, e))) (slot_stop_at k (suc base) n rest older t stop (omega (arith, e)) d s w) where
       if_not : (c : Bool) (x y : Option Stop) → c ≡ false → y ≡ Some stop → (if c then x else y) ≡ Some stop
       if_not true x y q z = cc
       if_not false x y q z = z
@@ -80,15 +79,15 @@ slot_stop_at k base (suc n) (Some u ∷ rest) older t stop e d s w =
 pub no_stops : (k : Setting) (base : ℕ) (seen : Slots) → slot_stop k.shape base seen ≡ None → NoStops k base seen
 no_stops k base [] h = tt
 no_stops k base (None ∷ older) h = no_stops k (suc base) older h
-no_stops k base (Some t ∷ older) h = by_case (stops_now k.shape base t.instruction older) refl h (stop_of t.instruction) refl (λ q. no_stops k (suc base) older q) where
-  by_case : (b : Bool) → stops_now k.shape base t.instruction older ≡ b → (if b then stop_of t.instruction else slot_stop k.shape (suc base) older) ≡ None → (o : Option Stop) → stop_of t.instruction ≡ o → (slot_stop k.shape (suc base) older ≡ None → NoStops k (suc base) older) → (stops_now k.shape base t.instruction older ≡ false) × NoStops k (suc base) older
+no_stops k base (Some t ∷ older) h = by_case (stops_now k.shape base t older) refl h (stop_of t) refl (λ q. no_stops k (suc base) older q) where
+  by_case : (b : Bool) → stops_now k.shape base t older ≡ b → (if b then stop_of t else slot_stop k.shape (suc base) older) ≡ None → (o : Option Stop) → stop_of t ≡ o → (slot_stop k.shape (suc base) older ≡ None → NoStops k (suc base) older) → (stops_now k.shape base t older ≡ false) × NoStops k (suc base) older
   by_case false q e o w ih = (q, ih e)
   by_case true q e (Some stop) w ih = cc
-  by_case true q e None w ih = cc (false_then (stage_test) (is_none (own_hold k.shape base t.instruction older)) (ap (λ p. is_some p) w), q) where
+  by_case true q e None w ih = cc (false_then (stage_test) (is_none (own_hold k.shape base t older)) (ap (λ p. is_some p) w), q) where
     stage_test : Bool
     stage_test = base == k.shape.ex
 
-    false_then : (a c : Bool) → is_some (stop_of t.instruction) ≡ false → (a && is_some (stop_of t.instruction) && c) ≡ false
+    false_then : (a c : Bool) → is_some (stop_of t) ≡ false → (a && is_some (stop_of t) && c) ≡ false
     false_then true c z = rw z
     false_then false c z = refl
 

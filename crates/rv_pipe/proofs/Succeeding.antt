@@ -3,15 +3,16 @@ use Rattle.std.proofs.Common.{◌≡◌, ◌≢◌, ℕ, suc, ◌+◌, ◌<◌, 
 use Rattle.std.specs.Prelude.{◌||◌, if◌then◌else◌, ◌==◌, is_some, slice_get}
 use Rattle.rv_trace.specs.declared.row.Cell.{Cell}
 use Rattle.rv_trace.specs.declared.row.Row.{Row}
-use Rattle.rv_built.specs.declared.arch.Arch.{Arch}
 use Rattle.rv_seq.specs.declared.commit.Stop.{Stop}
 use Rattle.rv_pipe.specs.declared.stages.Token.{Token}
-use Rattle.rv_built.specs.SequentialRun.{run}
+use Rattle.rv_trace.specs.BaseRun.{run}
 use Rattle.rv_trace.specs.Trace.{Setting, Course, place, stages_of, Stands, has_serial, retirements}
 use Rattle.rv_trace.specs.LawfulTrace.{name_of, leaves, front, unless, address_after, fetch_address, plain_fetch, StopsRun, Settles, successor, IsNextYounger, HasNoYounger, IsMismatch, Successors}
-use Rattle.rv_pipe.specs.PlainMachine.{Machine, Slots, stops_now, gone, fetch_after, cells_of, seen_by, IsRowOf, settled, nearest, mismatch, struck, unheld, cleared, held_by, redirect_by, struck_by, fetch_by}
-use Rattle.rv_pipe.specs.Placed.{count, Placed, IsShape, Inv}
-use Rattle.rv_pipe.proofs.Tokens.{expected_run, going_one, test_eq, test_ne, is_none_of, Decided, own_none, not_due}
+use Rattle.rv_pipe.specs.PlainMachine.{Machine, Slots, stops_now, gone, next_of, fetch_after, cells_of, seen_by, IsRowOf, settled, nearest, mismatch, struck, unheld, cleared, held_by, redirect_by, struck_by, fetch_by}
+use Rattle.rv_pipe.specs.Doing.{next_as}
+use Rattle.rv_pipe.specs.Placed.{count, expected, Placed, IsShape, Inv}
+use Rattle.rv_pipe.proofs.Tokens.{expected_run, going_one, step_of, test_eq, test_ne, is_none_of, Decided, own_none, not_due}
+use Rattle.rv_pipe.proofs.Reading.{read_rest}
 use Rattle.rv_pipe.proofs.Flushing as F
 use Rattle.rv_pipe.proofs.Telling as T
 use Rattle.rv_pipe.proofs.Filling.{fetch_told}
@@ -43,15 +44,18 @@ module _ (k : Setting) (shape : IsShape k) (earlier : List Row) (m : Machine) (r
   -- The token of EX
 
   -- a token of EX that goes on names the pc of the run behind it
-  pub names_pc : (t : Token) (older : Slots) → drop k.shape.ex (seen_by k m) ≡ Some t ∷ older → Placed k (retirements earlier) k.shape.ex (Some t ∷ older) → Decided k k.shape.ex (Some t ∷ older) → is_some t.cell.hold ≡ false → stops_now k.shape k.shape.ex t.instruction older ≡ false
-      → (gone k.shape m.arch.x k.shape.ex t).next ≡ (run k.image (suc (retirements earlier + count older))).pc
+  pub names_pc : (t : Token) (older : Slots) → drop k.shape.ex (seen_by k m) ≡ Some t ∷ older → Placed k (retirements earlier) k.shape.ex (Some t ∷ older) → Decided k k.shape.ex (Some t ∷ older) → is_some t.cell.hold ≡ false → stops_now k.shape k.shape.ex t older ≡ false
+      → next_of t ≡ (run k.image (suc (retirements earlier + count older))).pc
   names_pc t older rest placed decided none runs =
-      let own = own_none k k.shape.ex t.instruction older t.cell.hold decided.0 none runs in
-      let due = not_due k k.shape.ex t.instruction older own runs refl in
+      let p = retirements earlier + count older in
+      let read = read_rest k (run k.image (retirements earlier)).x k.shape.ex (seen_by k m) (Some t ∷ older) (F.seen_read k shape earlier m row inv is) rest in
+      let own = own_none k k.shape.ex t older t.cell.hold decided.0 none runs in
+      let due = not_due k k.shape.ex t older own runs refl in
       let path = placed.0.at ∙ expected_run k (retirements earlier) (suc k.shape.ex) older (omega arith) in
       let past : k.shape.rd < suc k.shape.ex = (let a = shape.rd_ex in omega (arith, a)) in
-      ap (λ (z : Arch). (gone k.shape z.x k.shape.ex t).next) inv.arch
-      ∙ (going_one k shape (retirements earlier) k.shape.ex t older placed.0 placed.1 own runs).next past due path
+      let goes = going_one k shape (retirements earlier) k.shape.ex t older placed.0 placed.1 read.0 own runs in
+      let step = step_of k p (expected k (retirements earlier) (suc k.shape.ex) older) (suc k.shape.ex) (gone k.shape (run k.image (retirements earlier)).mem k.shape.ex t) goes past path due in
+      ap (λ i. next_as i t.cell.at t.x t.y) placed.0.decoded ∙ sym step.pc
 
   -- the token of EX with what is known of it
   pub at_ex : (t : Token) (older : Slots) → drop k.shape.ex (seen_by k m) ≡ Some t ∷ older → Placed k (retirements earlier) k.shape.ex (Some t ∷ older) × Decided k k.shape.ex (Some t ∷ older)
@@ -62,8 +66,8 @@ module _ (k : Setting) (shape : IsShape k) (earlier : List Row) (m : Machine) (r
       (subst (λ l. Placed k (retirements earlier) k.shape.ex l) same at.placed, subst (λ l. Decided k k.shape.ex l) same at.decided)
 
   -- which is its cell's successor
-  names_successor : (t : Token) (older : Slots) (c : Cell) → drop k.shape.ex (seen_by k m) ≡ Some t ∷ older → c.serial ≡ t.cell.serial → is_some t.cell.hold ≡ false → stops_now k.shape k.shape.ex t.instruction older ≡ false
-      → (gone k.shape m.arch.x k.shape.ex t).next ≡ successor k (row ∷ earlier) c
+  names_successor : (t : Token) (older : Slots) (c : Cell) → drop k.shape.ex (seen_by k m) ≡ Some t ∷ older → c.serial ≡ t.cell.serial → is_some t.cell.hold ≡ false → stops_now k.shape k.shape.ex t older ≡ false
+      → next_of t ≡ successor k (row ∷ earlier) c
   names_successor t older c rest serial none runs =
       let known = at_ex t older rest in
       let p = (ordered k shape earlier row (seen_by k m) told k.shape.ex t older rest known.0).0.0 in
@@ -71,20 +75,20 @@ module _ (k : Setting) (shape : IsShape k) (earlier : List Row) (m : Machine) (r
       ∙ sym (ap (λ (x : Course). x.pc (suc (place (row ∷ earlier) c.serial))) shape.course ∙ ap (λ n. (run k.image (suc n)).pc) (ap (λ n. place (row ∷ earlier) n) serial ∙ p))
 
   -- what a cell that settles names
-  settled_is : (stage : ℕ) (c : Cell) → Stands k row stage c → Settles k earlier row stage c → settled k.shape m.arch.x (drop k.shape.ex (held_by k m)) ≡ Some (successor k (row ∷ earlier) c)
+  settled_is : (stage : ℕ) (c : Cell) → Stands k row stage c → Settles k earlier row stage c → settled k.shape (drop k.shape.ex (held_by k m)) ≡ Some (successor k (row ∷ earlier) c)
   settled_is stage c s settles =
       standing (subst (λ n. Stands k row n c) settles.settling s) where
-        standing : Stands k row k.shape.ex c → settled k.shape m.arch.x (drop k.shape.ex (held_by k m)) ≡ Some (successor k (row ∷ earlier) c)
+        standing : Stands k row k.shape.ex c → settled k.shape (drop k.shape.ex (held_by k m)) ≡ Some (successor k (row ∷ earlier) c)
         standing s =
             let at = cell_at k.shape.ex c struck_ex s in
             let none : is_some at.token.cell.hold ≡ false = ap (λ (d : Cell). is_some d.hold) at.is ∙ ap (λ o. is_some o) (not_held c settles.leaves) in
             let runs = free at in
             let tail = sym (cleared_drop (struck_by k m) k.shape.ex (held_by k m) struck_ex (F.struck_inside k shape earlier m row inv is)) ∙ at.rest in
             let named = names_successor at.token at.older c at.rest (sym (ap (λ (d : Cell). d.serial) at.is)) none runs in
-            ap (λ l. settled k.shape m.arch.x l) tail ∙ rw (none, runs) (ap (λ n. Some n) named) where
-              free : (at : At k (retirements earlier) k.shape.ex c (seen_by k m)) → stops_now k.shape k.shape.ex at.token.instruction at.older ≡ false
-              free at = by_case (stops_now k.shape k.shape.ex at.token.instruction at.older) refl where
-                by_case : (b : Bool) → stops_now k.shape k.shape.ex at.token.instruction at.older ≡ b → b ≡ false
+            ap (λ l. settled k.shape l) tail ∙ rw (none, runs) (ap (λ n. Some n) named) where
+              free : (at : At k (retirements earlier) k.shape.ex c (seen_by k m)) → stops_now k.shape k.shape.ex at.token at.older ≡ false
+              free at = by_case (stops_now k.shape k.shape.ex at.token at.older) refl where
+                by_case : (b : Bool) → stops_now k.shape k.shape.ex at.token at.older ≡ b → b ≡ false
                 by_case false q = refl
                 by_case true q =
                     let x = then_stops k shape earlier row (seen_by k m) told k.shape.ex at.token at.older at.rest at.placed q in
@@ -170,7 +174,7 @@ module _ (k : Setting) (shape : IsShape k) (earlier : List Row) (m : Machine) (r
 
   redirector : (a : ℕ) → redirect_by k m ≡ Some a → Redirector a
   redirector a e =
-      let x = redirecting k m.arch.x m.fetch (held_by k m) a e in
+      let x = redirecting k m.fetch (held_by k m) a e in
       let rest : drop k.shape.ex (seen_by k m) ≡ Some x.token ∷ x.older = cleared_drop (struck_by k m) k.shape.ex (held_by k m) struck_ex (F.struck_inside k shape earlier m row inv is) ∙ x.rest in
       let here = here_of (seen_by k m) x.older x.token k.shape.ex rest in
       let stands : Stands k row k.shape.ex x.token.cell = F.stands_at k shape earlier m row inv is k.shape.ex struck_ex ∙ cell_here (seen_by k m) k.shape.ex x.token here in
@@ -182,7 +186,7 @@ module _ (k : Setting) (shape : IsShape k) (earlier : List Row) (m : Machine) (r
         successor_is = sym (names_successor x.token x.older x.token.cell rest refl x.unheld x.runs) ∙ x.named;
         differs = x.differs;
       } where
-        runs : (x : F.Redirecting k m.arch.x m.fetch (held_by k m) a) → Stands k row k.shape.ex x.token.cell → (stop : Stop) → StopsRun k earlier row k.shape.ex x.token.cell stop → ⊥
+        runs : (x : F.Redirecting k m.fetch (held_by k m) a) → Stands k row k.shape.ex x.token.cell → (stop : Stop) → StopsRun k earlier row k.shape.ex x.token.cell stop → ⊥
         runs x stands stop s =
             let rest : drop k.shape.ex (seen_by k m) ≡ Some x.token ∷ x.older = cleared_drop (struck_by k m) k.shape.ex (held_by k m) struck_ex (F.struck_inside k shape earlier m row inv is) ∙ x.rest in
             let at = cell_at k.shape.ex x.token.cell struck_ex stands in

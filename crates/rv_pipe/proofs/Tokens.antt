@@ -5,17 +5,22 @@ use Rattle.std.proofs.lemmas.Bool.{cases_lt}
 use Rattle.std.proofs.lemmas.Bool.Decides.{nat_tests}
 use Rattle.rv_trace.specs.declared.row.Hold.{Hold}
 use Rattle.rv_trace.specs.declared.row.Hold.TheVariants.{Behind}
-use Rattle.rv_built.specs.declared.instruction.Instruction.{Instruction}
-use Rattle.rv_built.specs.declared.instruction.Instruction.TheVariants.{AddImmediate, Add, Break}
 use Rattle.rv_pipe.specs.declared.stages.Token.{Token}
-use Rattle.rv_built.specs.SequentialRun.{word_at, run}
+use Rattle.rv_seq.specs.Steps.{word_at}
+use Rattle.rv_trace.specs.BaseRun.{run}
 use Rattle.rv_core.specs.declared.Shape.{Shape}
 use Rattle.rv_trace.specs.declared.row.Row.{Row}
 use Rattle.rv_trace.specs.Trace.{Setting, place, is_flushed}
-use Rattle.rv_trace.specs.LawfulTrace.{destination_of, name_of, names_of}
-use Rattle.rv_pipe.specs.PlainMachine.{Slots, or_else, writer, operand, waits_for, operand_hold, stop_of, own_hold, stops_now, is_blocked, shown, decided, value_of, next_of, gone, going, kept, advanced, leaving, first_slot, cells_of}
+use Rattle.rv_trace.specs.Asked.{source_1, source_2, destination_of, does_load, does_store}
+use Rattle.rv_trace.specs.LawfulTrace.{name_of, names_of}
+use Rattle.rv_isa.specs.declared.base.Base.{Base}
+use Rattle.rv_base.specs.declared.operation.Size.{Size}
+use Rattle.rv_base.specs.Effects.{load_at}
+use Rattle.rv_pipe.specs.Doing.{stop_as, value_in, value_as}
+use Rattle.rv_pipe.specs.PlainMachine.{Slots, or_else, oldest, is_store, writer, operand, waits_for, operand_hold, store_ahead, store_hold, stop_of, own_hold, stops_now, is_blocked, shown, decided, gone, going, kept, advanced, leaving, first_slot, cells_of}
 use Rattle.rv_pipe.specs.Placed.{one_more, count, Serials, expected_after, expected, IsPlaced, IsPlacedSlot, Placed, IsShape}
-use Rattle.rv_pipe.proofs.Runs.{run_other, run_zero, goes_on}
+use Rattle.rv_pipe.proofs.Runs.{run_other, run_memory, run_zero, GoesOn, goes_on}
+use Rattle.rv_pipe.proofs.Reading.{ReadSlot, Read}
 
 -- Tests
 
@@ -53,7 +58,7 @@ if_none false a h = refl
 abbrev pub Decided : Setting → ℕ → Slots → Type 0
 Decided k stage [] = Unit {0}
 Decided k stage (None ∷ older) = Decided k (suc stage) older
-Decided k stage (Some t ∷ older) = (t.cell.hold ≡ shown k.shape stage t.instruction older) × Decided k (suc stage) older
+Decided k stage (Some t ∷ older) = (t.cell.hold ≡ shown k.shape stage t older) × Decided k (suc stage) older
 
 pub decided_is : (k : Setting) (stage : ℕ) (slots : Slots) → Decided k stage (decided k.shape stage slots)
 decided_is k stage [] = tt
@@ -83,7 +88,7 @@ pub decided_placed : (k : Setting) (r stage : ℕ) (slots : Slots) → Placed k 
 decided_placed k r stage [] h = tt
 decided_placed k r stage (None ∷ older) h = (tt, decided_placed k r (suc stage) older h.1)
 decided_placed k r stage (Some t ∷ older) h = (
-  rw (decided_count k (suc stage) older, decided_expected k r (suc stage) older) (record { at = h.0.at; word = h.0.word; decoded = h.0.decoded; value = h.0.value; next = h.0.next; goes = h.0.goes }),
+  rw (decided_count k (suc stage) older, decided_expected k r (suc stage) older) (record { at = h.0.at; word = h.0.word; decoded = h.0.decoded; first = h.0.first; second = h.0.second; goes = h.0.goes; value = h.0.value }),
   decided_placed k r (suc stage) older h.1,
 )
 
@@ -104,7 +109,7 @@ word_of_run k r stage t older le h = ap (λ a. word_at k.image a) (sym (h.at ∙
 abbrev pub NoStops : Setting → ℕ → Slots → Type 0
 NoStops k stage [] = Unit {0}
 NoStops k stage (None ∷ older) = NoStops k (suc stage) older
-NoStops k stage (Some t ∷ older) = (stops_now k.shape stage t.instruction older ≡ false) × NoStops k (suc stage) older
+NoStops k stage (Some t ∷ older) = (stops_now k.shape stage t older ≡ false) × NoStops k (suc stage) older
 
 pub decided_tail : (k : Setting) (stage : ℕ) (s : Option Token) (older : Slots) → Decided k stage (s ∷ older) → Decided k (suc stage) older
 decided_tail k stage None older d = d
@@ -115,22 +120,32 @@ no_stops_tail k stage None older d = d
 no_stops_tail k stage (Some t) older d = d.1
 
 -- what neither is held nor stops the run has no hold of its own
-pub own_none : (k : Setting) (stage : ℕ) (i : Option Instruction) (older : Slots) (hold : Option Hold) → hold ≡ shown k.shape stage i older → is_some hold ≡ false → stops_now k.shape stage i older ≡ false → own_hold k.shape stage i older ≡ None
-own_none k stage i older hold e h n =
-    let shown_none : shown k.shape stage i older ≡ None = sym e ∙ is_none_of hold h in
-    or_else_none (own_hold k.shape stage i older) _ (rw n at shown_none)
+pub own_none : (k : Setting) (stage : ℕ) (t : Token) (older : Slots) (hold : Option Hold) → hold ≡ shown k.shape stage t older → is_some hold ≡ false → stops_now k.shape stage t older ≡ false → own_hold k.shape stage t older ≡ None
+own_none k stage t older hold e h n =
+    let shown_none : shown k.shape stage t older ≡ None = sym e ∙ is_none_of hold h in
+    or_else_none (own_hold k.shape stage t older) _ (rw n at shown_none)
 
-pub not_due : (k : Setting) (stage : ℕ) (i : Option Instruction) (older : Slots) → own_hold k.shape stage i older ≡ None → stops_now k.shape stage i older ≡ false → stage ≡ k.shape.ex → stop_of i ≡ None
-not_due k stage i older h n e = by_case (stage == k.shape.ex) (is_some (stop_of i)) refl refl (rw h at n) where
-  by_case : (a b : Bool) → (stage == k.shape.ex) ≡ a → is_some (stop_of i) ≡ b → (a && b && true) ≡ false → stop_of i ≡ None
-  by_case a false ea eb q = is_none_of (stop_of i) eb
-  by_case true true ea eb q = cc
-  by_case false true ea eb q = cc (same_test stage k.shape.ex e, ea)
+pub not_due : (k : Setting) (stage : ℕ) (t : Token) (older : Slots) → own_hold k.shape stage t older ≡ None → stops_now k.shape stage t older ≡ false → stage ≡ k.shape.ex → stop_of t ≡ None
+not_due k stage t older h n e = by_case (stage == k.shape.ex) (is_some (stop_of t)) (is_none (own_hold k.shape stage t older)) refl refl (ap (λ o. is_none o) h) n where
+  by_case : (a b c : Bool) → (stage == k.shape.ex) ≡ a → is_some (stop_of t) ≡ b → c ≡ true → (a && b && c) ≡ false → stop_of t ≡ None
+  by_case a false c ea eb ec q = is_none_of (stop_of t) eb
+  by_case true true true ea eb ec q = cc
+  by_case true true false ea eb ec q = cc
+  by_case false true c ea eb ec q = cc (same_test stage k.shape.ex e, ea)
 
-pub no_operand : (k : Setting) (stage : ℕ) (i : Option Instruction) (older : Slots) → own_hold k.shape stage i older ≡ None → stage ≡ k.shape.rd → operand_hold older i ≡ None
-no_operand k stage i older h e =
-    let same = same_test stage k.shape.rd e in
-    or_else_none (operand_hold older i) _ (rw same at h)
+pub no_operand : (k : Setting) (stage : ℕ) (t : Token) (older : Slots) → own_hold k.shape stage t older ≡ None → stage ≡ k.shape.rd → operand_hold older t.instruction ≡ None
+no_operand k stage t older h e = if_then (stage == k.shape.rd) (operand_hold older t.instruction) (same_test stage k.shape.rd e) (or_else_none (if stage == k.shape.rd then operand_hold older t.instruction else None) _ h) where
+  if_then : (b : Bool) (o : Option Hold) → b ≡ true → (if b then o else None) ≡ None → o ≡ None
+  if_then true o p q = q
+  if_then false o p q = cc
+
+pub no_store : (k : Setting) (stage : ℕ) (t : Token) (older : Slots) → own_hold k.shape stage t older ≡ None → stage ≡ k.shape.mem → store_hold older t.instruction ≡ None
+no_store k stage t older h e =
+    if_then (stage == k.shape.mem) (store_hold older t.instruction) (same_test stage k.shape.mem e)
+    (or_else_none_b _ (if stage == k.shape.mem then store_hold older t.instruction else None) (or_else_none_b _ _ (or_else_none_b (if stage == k.shape.rd then operand_hold older t.instruction else None) _ h))) where
+      if_then : (b : Bool) (o : Option Hold) → b ≡ true → (if b then o else None) ≡ None → o ≡ None
+      if_then true o p q = q
+      if_then false o p q = cc
 
 -- Operands
 
@@ -167,54 +182,104 @@ min_max_first f g a b h e = grind arith
 min_max_second : (f g : ℕ → ℕ) (a b : ℕ) → f (min a b) ≡ g (min a b) → f (max a b) ≡ g (max a b) → f b ≡ g b
 min_max_second f g a b h e = grind arith
 
-pub value_ready : (older : Slots) (o : Option Instruction) (x y : List ℕ) → ((reg : ℕ) → waits_for reg older ≡ None → slice_index x reg ≡ slice_index y reg) → operand_hold older o ≡ None → value_of o x ≡ value_of o y
-value_ready older None x y f h = refl
-value_ready older (Some Break) x y f h = refl
-value_ready older (Some (AddImmediate rd rs1 immediate)) x y f h = rw (f rs1 h)
-value_ready older (Some (Add rd rs1 rs2)) x y f h =
-    let low = f (min rs1 rs2) (or_else_none (waits_for (min rs1 rs2) older) _ h) in
-    let high = f (max rs1 rs2) (or_else_none_b (waits_for (min rs1 rs2) older) _ h) in
-    let a : slice_index x rs1 ≡ slice_index y rs1 = min_max_first (slice_index x) (slice_index y) rs1 rs2 low high in
-    let b : slice_index x rs2 ≡ slice_index y rs2 = min_max_second (slice_index x) (slice_index y) rs1 rs2 low high in
-    rw (a, b)
+-- where no operand is waited for, both are the run's
+pub operands_ready : (k : Setting) (shape : IsShape k) (r stage : ℕ) (older : Slots) (i : Option Base) → k.shape.ex ≤ stage → Placed k r stage older → operand_hold older i ≡ None
+    → (slice_index (run k.image r).x (source_1 i) ≡ slice_index (run k.image (r + count older)).x (source_1 i)) × (slice_index (run k.image r).x (source_2 i) ≡ slice_index (run k.image (r + count older)).x (source_2 i))
+operands_ready k shape r stage older i le h none =
+    let a = source_1 i in
+    let b = source_2 i in
+    let f : ℕ → ℕ = λ reg. slice_index (run k.image r).x reg in
+    let g : ℕ → ℕ = λ reg. slice_index (run k.image (r + count older)).x reg in
+    let low = operand_ready k shape r stage (min a b) older le h (or_else_none (waits_for (min a b) older) _ none) in
+    let high = operand_ready k shape r stage (max a b) older le h (or_else_none_b (waits_for (min a b) older) _ none) in
+    (min_max_first f g a b low high, min_max_second f g a b low high)
+
+-- memory that no older token stores to
+no_storer : (older : Slots) (t : Token) → oldest is_store (Some t ∷ older) ≡ None → does_store t.instruction ≡ false
+no_storer older t h = if_none (does_store t.instruction) t.cell.serial (or_else_none_b (oldest is_store older) _ h)
+
+pub unstored : (k : Setting) (shape : IsShape k) (r stage : ℕ) (older : Slots) → k.shape.ex ≤ stage → Placed k r stage older → oldest is_store older ≡ None → (run k.image (r + count older)).mem ≡ (run k.image r).mem
+unstored k shape r stage [] le h w = rw add-zero
+unstored k shape r stage (None ∷ older) le h w = unstored k shape r (suc stage) older (omega (arith, le)) h.1 w
+unstored k shape r stage (Some t ∷ older) le h w =
+    let w1 = or_else_none (oldest is_store older) _ w in
+    rw (add-suc r (count older))
+    (run_memory k.image (r + count older) t.cell.word (word_of_run k r stage t older le h.0) (sym (ap does_store h.0.decoded) ∙ no_storer older t w)
+    ∙ unstored k shape r (suc stage) older (omega (arith, le)) h.1 w1)
+
+-- what does not load asks for no memory
+value_plain : (i : Option Base) (at x y : ℕ) (m n : List ℕ) → does_load i ≡ false → value_as i at x y m ≡ value_as i at x y n
+value_plain None at x y m n h = refl
+value_plain (Some b) at x y m n h = by_case (load_at b) h where
+  by_case : (o : Option Size) → is_some o ≡ false → value_in b at x y m o ≡ value_in b at x y n o
+  by_case None e = refl
+  by_case (Some size) e = cc
+
+ahead_none : (o : Option ℕ) → store_ahead o ≡ None → o ≡ None
+ahead_none None h = refl
+ahead_none (Some j) h = cc
+
+-- what is read as MEM is left is the run's
+value_ready : (k : Setting) (shape : IsShape k) (r stage : ℕ) (older : Slots) (i : Option Base) (at x y : ℕ) → k.shape.ex ≤ stage → Placed k r stage older → store_hold older i ≡ None → value_as i at x y (run k.image r).mem ≡ value_as i at x y (run k.image (r + count older)).mem
+value_ready k shape r stage older i at x y le h none = by_case (does_load i) refl none where
+  by_case : (b : Bool) → does_load i ≡ b → (if b then store_ahead (oldest is_store older) else None) ≡ None → value_as i at x y (run k.image r).mem ≡ value_as i at x y (run k.image (r + count older)).mem
+  by_case false e q = value_plain i at x y (run k.image r).mem (run k.image (r + count older)).mem e
+  by_case true e q = ap (λ m. value_as i at x y m) (sym (unstored k shape r stage older le h (ahead_none (oldest is_store older) q)))
 
 -- Moves
 
 -- a token that goes on is placed in the next stage
-pub going_one : (k : Setting) (shape : IsShape k) (r stage : ℕ) (t : Token) (older : Slots) → IsPlaced k (r + count older) (expected k r (suc stage) older) stage t → Placed k r (suc stage) older → own_hold k.shape stage t.instruction older ≡ None → stops_now k.shape stage t.instruction older ≡ false → IsPlaced k (r + count older) (expected k r (suc stage) older) (suc stage) (gone k.shape (run k.image r).x stage t)
-going_one k shape r stage t older h hs own n =
+pub going_one : (k : Setting) (shape : IsShape k) (r stage : ℕ) (t : Token) (older : Slots) → IsPlaced k (r + count older) (expected k r (suc stage) older) stage t → Placed k r (suc stage) older → ReadSlot k (run k.image r).x stage (Some t) → own_hold k.shape stage t older ≡ None → stops_now k.shape stage t older ≡ false → IsPlaced k (r + count older) (expected k r (suc stage) older) (suc stage) (gone k.shape (run k.image r).mem stage t)
+going_one k shape r stage t older h hs read own n =
     record {
       at = h.at;
       word = h.word;
       decoded = h.decoded;
-      value = value_case (stage == k.shape.rd) refl;
-      next = next_case (stage == k.shape.rd) refl;
+      first = first_case (stage == k.shape.rd) refl;
+      second = second_case (stage == k.shape.rd) refl;
       goes = passes (stage == k.shape.ex) refl;
+      value = value_case (stage == k.shape.mem) refl;
     } where
       late : stage ≡ k.shape.rd → k.shape.ex ≤ suc stage
       late e = let near = shape.ex_rd in omega (arith, near, e)
 
-      passes : (b : Bool) → (stage == k.shape.ex) ≡ b → k.shape.ex < suc stage → stop_of t.instruction ≡ None
-      passes true e lt = not_due k stage t.instruction older own n (test_eq stage k.shape.ex e)
+      passes : (b : Bool) → (stage == k.shape.ex) ≡ b → k.shape.ex < suc stage → stop_of t ≡ None
+      passes true e lt = not_due k stage t older own n (test_eq stage k.shape.ex e)
       passes false e lt = h.goes (test_past k.shape.ex stage e lt)
 
-      next_case : (b : Bool) → (stage == k.shape.rd) ≡ b → k.shape.rd < suc stage → stop_of t.instruction ≡ None → t.cell.at ≡ (run k.image (r + count older)).pc → (if b then next_of t.cell.at else t.next) ≡ (run k.image (suc (r + count older))).pc
-      next_case true e lt s a = sym (goes_on k.image (r + count older) t.cell.at t.cell.word (sym a) h.word (sym (ap stop_of h.decoded) ∙ s)).pc
-      next_case false e lt s a = h.next (test_past k.shape.rd stage e lt) s a
+      first_case : (b : Bool) → (stage == k.shape.rd) ≡ b → k.shape.rd < suc stage → t.x ≡ slice_index (run k.image (r + count older)).x (source_1 t.instruction)
+      first_case true e lt =
+          let at = test_eq stage k.shape.rd e in
+          (read at).0 ∙ (operands_ready k shape r (suc stage) older t.instruction (late at) hs (no_operand k stage t older own at)).0
+      first_case false e lt = h.first (test_past k.shape.rd stage e lt)
 
-      value_case : (b : Bool) → (stage == k.shape.rd) ≡ b → k.shape.rd < suc stage → (if b then value_of t.instruction (run k.image r).x else t.value) ≡ value_of t.instruction (run k.image (r + count older)).x
+      second_case : (b : Bool) → (stage == k.shape.rd) ≡ b → k.shape.rd < suc stage → t.y ≡ slice_index (run k.image (r + count older)).x (source_2 t.instruction)
+      second_case true e lt =
+          let at = test_eq stage k.shape.rd e in
+          (read at).1 ∙ (operands_ready k shape r (suc stage) older t.instruction (late at) hs (no_operand k stage t older own at)).1
+      second_case false e lt = h.second (test_past k.shape.rd stage e lt)
+
+      value_case : (b : Bool) → (stage == k.shape.mem) ≡ b → k.shape.mem < suc stage → (if b then value_as t.instruction t.cell.at t.x t.y (run k.image r).mem else t.value) ≡ value_as t.instruction t.cell.at t.x t.y (run k.image (r + count older)).mem
       value_case true e lt =
-          value_ready older t.instruction (run k.image r).x (run k.image (r + count older)).x
-          (λ reg w. operand_ready k shape r (suc stage) reg older (late (test_eq stage k.shape.rd e)) hs w)
-          (no_operand k stage t.instruction older own (test_eq stage k.shape.rd e))
-      value_case false e lt = h.value (test_past k.shape.rd stage e lt)
+          let at = test_eq stage k.shape.mem e in
+          let past = shape.ex_mem in
+          value_ready k shape r (suc stage) older t.instruction t.cell.at t.x t.y (omega (arith, past, at)) hs (no_store k stage t older own at)
+      value_case false e lt = h.value (test_past k.shape.mem stage e lt)
 
-pub going_placed : (k : Setting) (shape : IsShape k) (r stage : ℕ) (s : Option Token) (older : Slots) → Placed k r stage (s ∷ older) → Decided k stage (s ∷ older) → NoStops k stage (s ∷ older) → IsPlacedSlot k (r + count older) (expected k r (suc stage) older) (suc stage) (going k.shape (run k.image r).x stage s)
-going_placed k shape r stage None older h d n = tt
-going_placed k shape r stage (Some t) older h d n = by_case (is_some t.cell.hold) refl where
-  by_case : (b : Bool) → is_some t.cell.hold ≡ b → IsPlacedSlot k (r + count older) (expected k r (suc stage) older) (suc stage) (if b then None else Some (gone k.shape (run k.image r).x stage t))
+-- a token on the path of the run that has its operands and goes on
+pub step_of : (k : Setting) (p address stage : ℕ) (t : Token) → IsPlaced k p address stage t → k.shape.rd < stage → t.cell.at ≡ (run k.image p).pc → stop_of t ≡ None → GoesOn k.image p t.cell.at t.cell.word t.x t.y
+step_of k p address stage t h lt path n =
+    goes_on k.image p t.cell.at t.cell.word t.x t.y (sym path) h.word
+    (h.first lt ∙ ap (λ i. slice_index (run k.image p).x (source_1 i)) h.decoded)
+    (h.second lt ∙ ap (λ i. slice_index (run k.image p).x (source_2 i)) h.decoded)
+    (ap (λ i. stop_as i t.cell.at t.x t.y) (sym h.decoded) ∙ n)
+
+pub going_placed : (k : Setting) (shape : IsShape k) (r stage : ℕ) (s : Option Token) (older : Slots) → Placed k r stage (s ∷ older) → ReadSlot k (run k.image r).x stage s → Decided k stage (s ∷ older) → NoStops k stage (s ∷ older) → IsPlacedSlot k (r + count older) (expected k r (suc stage) older) (suc stage) (going k.shape (run k.image r).mem stage s)
+going_placed k shape r stage None older h read d n = tt
+going_placed k shape r stage (Some t) older h read d n = by_case (is_some t.cell.hold) refl where
+  by_case : (b : Bool) → is_some t.cell.hold ≡ b → IsPlacedSlot k (r + count older) (expected k r (suc stage) older) (suc stage) (if b then None else Some (gone k.shape (run k.image r).mem stage t))
   by_case true e = tt
-  by_case false e = going_one k shape r stage t older h.0 h.1 (own_none k stage t.instruction older t.cell.hold d.0 e n.0) n.0
+  by_case false e = going_one k shape r stage t older h.0 h.1 read (own_none k stage t older t.cell.hold d.0 e n.0) n.0
 
 abbrev pub is_held : Option Token → Bool
 is_held None = false
@@ -224,8 +289,8 @@ is_held (Some t) = is_some t.cell.hold
 abbrev pub Free : Option Token → Option Token → Type 0
 Free come s = is_held s ≡ true → come ≡ None
 
-blocked_hold : (k : Setting) (stage : ℕ) (t : Token) (older : Slots) → t.cell.hold ≡ shown k.shape stage t.instruction older → stops_now k.shape stage t.instruction older ≡ false → is_blocked k.shape (suc stage) older ≡ true → is_some t.cell.hold ≡ true
-blocked_hold k stage t older d n b = ap (λ o. is_some o) (d ∙ rw (n, b) refl) ∙ any (own_hold k.shape stage t.instruction older) where
+blocked_hold : (k : Setting) (stage : ℕ) (t : Token) (older : Slots) → t.cell.hold ≡ shown k.shape stage t older → stops_now k.shape stage t older ≡ false → is_blocked k.shape (suc stage) older ≡ true → is_some t.cell.hold ≡ true
+blocked_hold k stage t older d n b = ap (λ o. is_some o) (d ∙ rw (n, b) refl) ∙ any (own_hold k.shape stage t older) where
   any : (o : Option Hold) → is_some (or_else o (Some Behind)) ≡ true
   any None = refl
   any (Some h) = refl
@@ -341,10 +406,10 @@ slot_placed k x p stage address come (Some t) f h g c = by_case (is_some t.cell.
   by_case true e = h
   by_case false e = rw (after_going k x p stage address t (λ at. g e at)) c
 
-pub placed_advanced : (k : Setting) (shape : IsShape k) (r stage : ℕ) (come : Option Token) (seen : Slots) → k.shape.ex < stage + length seen → Placed k r stage seen → Decided k stage seen → NoStops k stage seen → Free come (first_slot seen) → IsPlacedSlot k (r + count seen) (expected k r stage seen) stage come → Guessed k r stage seen → Placed k (r + one_more (leaving k.shape (run k.image r).x stage come seen) 0) stage (advanced k.shape (run k.image r).x stage come seen)
-placed_advanced k shape r stage come [] lt h d n f c g = tt
-placed_advanced k shape r stage come (s ∷ older) lt h d n f c g =
-    let x = (run k.image r).x in
+pub placed_advanced : (k : Setting) (shape : IsShape k) (r stage : ℕ) (come : Option Token) (seen : Slots) → k.shape.ex < stage + length seen → Placed k r stage seen → Read k (run k.image r).x stage seen → Decided k stage seen → NoStops k stage seen → Free come (first_slot seen) → IsPlacedSlot k (r + count seen) (expected k r stage seen) stage come → Guessed k r stage seen → Placed k (r + one_more (leaving k.shape (run k.image r).mem stage come seen) 0) stage (advanced k.shape (run k.image r).mem stage come seen)
+placed_advanced k shape r stage come [] lt h read d n f c g = tt
+placed_advanced k shape r stage come (s ∷ older) lt h read d n f c g =
+    let x = (run k.image r).mem in
     let go = going k.shape x stage s in
     let lt' : k.shape.ex < suc stage + length older = omega arith in
     let d' = decided_tail k stage s older d in
@@ -353,7 +418,7 @@ placed_advanced k shape r stage come (s ∷ older) lt h d n f c g =
     let here : IsPlacedSlot k (one_more s (r + count older)) (expected_after k (r + count older) stage s (expected k r (suc stage) older)) stage come = rw one_more_left at c in (
       rw (place_advanced k x r stage come s older d n, expected_advanced k x r (suc stage) go older lt' d' n' f' g.1)
           (slot_placed k x (r + count older) stage (expected k r (suc stage) older) come s f h.0 g.0 here),
-      placed_advanced k shape r (suc stage) go older lt' h.1 d' n' f' (going_placed k shape r stage s older h d n) g.1,
+      placed_advanced k shape r (suc stage) go older lt' h.1 read.1 d' n' f' (going_placed k shape r stage s older h read.0 d n) g.1,
     )
 
 -- each token has its serial after the moves too
@@ -382,34 +447,34 @@ serials_advanced k x rows r stage come (s ∷ older) h d n f c =
     (serials_advanced k x rows r (suc stage) go older parts.1 (decided_tail k stage s older d) (no_stops_tail k stage s older n) (free_ahead k x stage s older d n) (going_serial k.shape x rows (r + count older) stage s parts.0))
 
 -- the token that leaves has the place r
-pub leaving_placed : (k : Setting) (shape : IsShape k) (r stage : ℕ) (come : Option Token) (seen : Slots) → Placed k r stage seen → Decided k stage seen → NoStops k stage seen → IsPlacedSlot k (r + count seen) (expected k r stage seen) stage come → IsPlacedSlot k r (run k.image r).pc (stage + length seen) (leaving k.shape (run k.image r).x stage come seen)
-leaving_placed k shape r stage come [] h d n c = rw (add-zero stage) (rw (add-zero r) at c)
-leaving_placed k shape r stage come (s ∷ older) h d n c =
+pub leaving_placed : (k : Setting) (shape : IsShape k) (r stage : ℕ) (come : Option Token) (seen : Slots) → Placed k r stage seen → Read k (run k.image r).x stage seen → Decided k stage seen → NoStops k stage seen → IsPlacedSlot k (r + count seen) (expected k r stage seen) stage come → IsPlacedSlot k r (run k.image r).pc (stage + length seen) (leaving k.shape (run k.image r).mem stage come seen)
+leaving_placed k shape r stage come [] h read d n c = rw (add-zero stage) (rw (add-zero r) at c)
+leaving_placed k shape r stage come (s ∷ older) h read d n c =
     let e : suc stage + length older ≡ stage + length (s ∷ older) = omega arith in
-    subst (λ m. IsPlacedSlot k r (run k.image r).pc m (leaving k.shape (run k.image r).x stage come (s ∷ older))) e
-    (leaving_placed k shape r (suc stage) (going k.shape (run k.image r).x stage s) older h.1 (decided_tail k stage s older d) (no_stops_tail k stage s older n) (going_placed k shape r stage s older h d n))
+    subst (λ m. IsPlacedSlot k r (run k.image r).pc m (leaving k.shape (run k.image r).mem stage come (s ∷ older))) e
+    (leaving_placed k shape r (suc stage) (going k.shape (run k.image r).mem stage s) older h.1 read.1 (decided_tail k stage s older d) (no_stops_tail k stage s older n) (going_placed k shape r stage s older h read.0 d n))
 
 -- at a stage past EX no token stops the run
 pub past_ex : (k : Setting) (stage : ℕ) (seen : Slots) → k.shape.ex < stage → NoStops k stage seen
 past_ex k stage [] lt = tt
 past_ex k stage (None ∷ older) lt = past_ex k (suc stage) older (omega arith)
-past_ex k stage (Some t ∷ older) lt = (never (is_some (stop_of t.instruction)) (is_none (own_hold k.shape stage t.instruction older)), past_ex k (suc stage) older (omega arith)) where
+past_ex k stage (Some t ∷ older) lt = (never (is_some (stop_of t)) (is_none (own_hold k.shape stage t older)), past_ex k (suc stage) older (omega arith)) where
   never : (b c : Bool) → ((stage == k.shape.ex) && b && c) ≡ false
   never b c = grind (arith, nat_tests)
 
 -- also in the row of a stop the token that leaves has the place r
-pub last_placed : (k : Setting) (shape : IsShape k) (r stage : ℕ) (come : Option Token) (seen : Slots) → k.shape.ex + 1 < stage + length seen → stage ≤ k.shape.ex + 1 → Placed k r stage seen → Decided k stage seen → IsPlacedSlot k r (run k.image r).pc (stage + length seen) (leaving k.shape (run k.image r).x stage come seen)
-last_placed k shape r stage come [] lt le h d = absurd (omega arith)
-last_placed k shape r stage come (s ∷ older) lt le h d =
+pub last_placed : (k : Setting) (shape : IsShape k) (r stage : ℕ) (come : Option Token) (seen : Slots) → k.shape.ex + 1 < stage + length seen → stage ≤ k.shape.ex + 1 → Placed k r stage seen → Read k (run k.image r).x stage seen → Decided k stage seen → IsPlacedSlot k r (run k.image r).pc (stage + length seen) (leaving k.shape (run k.image r).mem stage come seen)
+last_placed k shape r stage come [] lt le h read d = absurd (omega arith)
+last_placed k shape r stage come (s ∷ older) lt le h read d =
     let e : suc stage + length older ≡ stage + length (s ∷ older) = omega arith in
     let lt' : k.shape.ex + 1 < suc stage + length older = omega arith in
-    subst (λ m. IsPlacedSlot k r (run k.image r).pc m (leaving k.shape (run k.image r).x stage come (s ∷ older))) e
+    subst (λ m. IsPlacedSlot k r (run k.image r).pc m (leaving k.shape (run k.image r).mem stage come (s ∷ older))) e
     (elim (cases_lt k.shape.ex stage) [
       | inl past ↦
           let n = past_ex k stage (s ∷ older) past in
-          leaving_placed k shape r (suc stage) (going k.shape (run k.image r).x stage s) older h.1 (decided_tail k stage s older d) (no_stops_tail k stage s older n) (going_placed k shape r stage s older h d n)
+          leaving_placed k shape r (suc stage) (going k.shape (run k.image r).mem stage s) older h.1 read.1 (decided_tail k stage s older d) (no_stops_tail k stage s older n) (going_placed k shape r stage s older h read.0 d n)
       | inr before ↦
-          last_placed k shape r (suc stage) (going k.shape (run k.image r).x stage s) older lt' (omega arith) h.1 (decided_tail k stage s older d)
+          last_placed k shape r (suc stage) (going k.shape (run k.image r).mem stage s) older lt' (omega arith) h.1 read.1 (decided_tail k stage s older d)
     ])
 
 pub advanced_length : (k : Setting) (x : List ℕ) (stage : ℕ) (come : Option Token) (seen : Slots) → length (advanced k.shape x stage come seen) ≡ length seen

@@ -14,8 +14,15 @@ use Rattle.rv_trace.specs.declared.row.Hold.TheVariants.{Drain, Behind}
 use Rattle.rv_seq.specs.declared.commit.Stop.TheVariants.{Ebreak, Fetch}
 use Rattle.rv_seq.specs.declared.commit.Slot.{Slot}
 use Rattle.rv_seq.specs.declared.commit.Slot.TheVariants.{Absent, Now, Later}
-use Rattle.rv_built.specs.Instructions.{instruction_of}
-use Rattle.rv_built.specs.SequentialRun.{Answer, Done, Stopped, step, run}
+use Rattle.rv_seq.specs.declared.answer.StepAnswer.{StepAnswer}
+use Rattle.rv_seq.specs.declared.answer.StepAnswer.TheVariants.{Done, Stopped}
+use Rattle.rv_trace.specs.BaseRun.{step, run}
+use Rattle.rv_effect.specs.Decoding.{decoded_in}
+use Rattle.rv_effect.specs.WordEffects.{effect_of, over, blocks_effect}
+use Rattle.rv_seq.specs.States.{first as first_state}
+use Rattle.rv_seq.specs.Commits.{commit_of, applied}
+use Rattle.rv_seq.specs.Steps.{attempted, step as seq_step}
+use Rattle.rv_seq.specs.Runs.{run as seq_run}
 use Rattle.rv_trace.specs.Trace.{Stands, newest, rows_without, retirements, is_flushed, place}
 use Rattle.rv_trace.specs.LawfulTrace.{Name, WaitsBehind, StopsRun, fetch_address, next_serial}
 use Rattle.rv_trace.specs.Headline.{Headline}
@@ -31,17 +38,17 @@ shape = record { stages = 3; rd = 1; ex = 1; mem = 2; lawful = three_lawful }
 
 shaped : IsShape worked
 unfolding shape
-shaped = the_shape shape worked_image
+shaped = the_shape shape worked_image []
 
 abbrev machine_0 : Machine
-machine_0 = record { slots = None ∷ None ∷ None ∷ []; fetch = 0; next = 0; arch = first_kept.arch }
+machine_0 = record { slots = None ∷ None ∷ None ∷ []; fetch = 0; next = 0; accesses = 0; stood = 0; arch = first_kept.arch }
 
 inv_0 : Inv worked [] machine_0
 unfolding shape
-inv_0 = (sound_first shape worked_image 0 (omega arith)).going refl
+inv_0 = (sound_first shape worked_image [] 0 (omega arith)).going refl
 
 is_0 : IsRowOf worked machine_0 row_0
-unfolding instruction_of decoded row_of base_patterns fields_of format_of base_formats
+unfolding decoded row_of base_patterns fields_of format_of base_formats first_state applied commit_of
 is_0 = record { cells = refl; behind = refl; retired = refl; written = refl; flushed = refl; redirect = refl; stop = refl }
 
 abbrev machine_1 : Machine
@@ -51,7 +58,7 @@ inv_1 : Inv worked (row_0 ∷ []) machine_1
 inv_1 = goes_next worked shaped ([]) machine_0 row_0 inv_0 is_0 refl
 
 is_1 : IsRowOf worked machine_1 row_1
-unfolding instruction_of decoded row_of base_patterns fields_of format_of base_formats
+unfolding decoded row_of base_patterns fields_of format_of base_formats first_state applied commit_of
 is_1 = record { cells = refl; behind = refl; retired = refl; written = refl; flushed = refl; redirect = refl; stop = refl }
 
 abbrev machine_2 : Machine
@@ -61,7 +68,7 @@ inv_2 : Inv worked (row_1 ∷ row_0 ∷ []) machine_2
 inv_2 = goes_next worked shaped (row_0 ∷ []) machine_1 row_1 inv_1 is_1 refl
 
 is_2 : IsRowOf worked machine_2 row_2
-unfolding instruction_of decoded row_of base_patterns fields_of format_of base_formats
+unfolding decoded row_of base_patterns fields_of format_of base_formats first_state applied commit_of
 is_2 = record { cells = refl; behind = refl; retired = refl; written = refl; flushed = refl; redirect = refl; stop = refl }
 
 abbrev machine_3 : Machine
@@ -71,7 +78,7 @@ inv_3 : Inv worked (row_2 ∷ row_1 ∷ row_0 ∷ []) machine_3
 inv_3 = goes_next worked shaped (row_1 ∷ row_0 ∷ []) machine_2 row_2 inv_2 is_2 refl
 
 is_3 : IsRowOf worked machine_3 row_3
-unfolding instruction_of decoded row_of base_patterns fields_of format_of base_formats
+unfolding decoded row_of base_patterns fields_of format_of base_formats first_state applied commit_of
 is_3 = record { cells = refl; behind = refl; retired = refl; written = refl; flushed = refl; redirect = refl; stop = refl }
 
 abbrev machine_4 : Machine
@@ -81,7 +88,7 @@ inv_4 : Inv worked (row_3 ∷ row_2 ∷ row_1 ∷ row_0 ∷ []) machine_4
 inv_4 = goes_next worked shaped (row_2 ∷ row_1 ∷ row_0 ∷ []) machine_3 row_3 inv_3 is_3 refl
 
 is_4 : IsRowOf worked machine_4 row_4
-unfolding instruction_of decoded row_of base_patterns fields_of format_of base_formats
+unfolding decoded row_of base_patterns fields_of format_of base_formats first_state applied commit_of
 is_4 = record { cells = refl; behind = refl; retired = refl; written = refl; flushed = refl; redirect = refl; stop = refl }
 
 abbrev machine_5 : Machine
@@ -91,10 +98,10 @@ inv_5 : Inv worked (row_4 ∷ row_3 ∷ row_2 ∷ row_1 ∷ row_0 ∷ []) machin
 inv_5 = goes_next worked shaped (row_3 ∷ row_2 ∷ row_1 ∷ row_0 ∷ []) machine_4 row_4 inv_4 is_4 refl
 
 is_5 : IsRowOf worked machine_5 row_5
-unfolding instruction_of decoded row_of base_patterns fields_of format_of base_formats
+unfolding decoded row_of base_patterns fields_of format_of base_formats first_state applied commit_of
 is_5 = record { cells = refl; behind = refl; retired = refl; written = refl; flushed = refl; redirect = refl; stop = refl }
 
-pub worked_holds : Headline worked_image three worked_rows
+pub worked_holds : Headline worked_image [] three worked_rows
 unfolding rows_without
 worked_holds = record {
   lawful = (lawful worked shaped (row_4 ∷ row_3 ∷ row_2 ∷ row_1 ∷ row_0 ∷ []) machine_5 row_5 inv_5 is_5, refl, (lawful worked shaped (row_3 ∷ row_2 ∷ row_1 ∷ row_0 ∷ []) machine_4 row_4 inv_4 is_4, refl, (lawful worked shaped (row_2 ∷ row_1 ∷ row_0 ∷ []) machine_3 row_3 inv_3 is_3, refl, (lawful worked shaped (row_1 ∷ row_0 ∷ []) machine_2 row_2 inv_2 is_2, refl, (lawful worked shaped (row_0 ∷ []) machine_1 row_1 inv_1 is_1, refl, (lawful worked shaped ([]) machine_0 row_0 inv_0 is_0, refl, tt))))));
@@ -117,7 +124,7 @@ written Absent = 0
 written (Now v) = v
 written Later = 0
 
-abbrev value_in : Answer → ℕ
+abbrev value_in : StepAnswer → ℕ
 value_in (Stopped stop) = 0
 value_in (Done c) = written c.rd
 
@@ -164,7 +171,7 @@ unfolding fetch_address next_serial
 skipped_word_refused h = apart 8 4 refl (ap address_in h.lawful.0.moves.0)
 
 pub wrong_value_refused : IsRefused wrong_value
-unfolding step run retirements instruction_of decoded row_of base_patterns fields_of format_of base_formats
+unfolding seq_step seq_run retirements decoded_in attempted effect_of over blocks_effect commit_of first_state decoded row_of base_patterns fields_of format_of base_formats
 wrong_value_refused h = apart 5 6 refl (ap value_in (h.agrees.0.recorded 0 (writes 0 5243027 1 6) refl))
 
 abbrev serial_held : Option (Option Cell) → ℕ
@@ -173,7 +180,7 @@ serial_held (Some None) = 0
 serial_held (Some (Some c)) = c.serial
 
 no_stop : (serial : ℕ) → 0 ≡ serial → step worked_image (run worked_image (place wrong_stop serial)) ≡ Stopped Ebreak → ⊥
-unfolding step run place is_flushed instruction_of decoded row_of base_patterns fields_of format_of base_formats
+unfolding seq_step seq_run place is_flushed decoded_in attempted effect_of over blocks_effect commit_of first_state decoded row_of base_patterns fields_of format_of base_formats
 no_stop serial zero_is due = apart 5 0 refl (ap value_in (subst (λ s. step worked_image (run worked_image (place wrong_stop s)) ≡ Stopped Ebreak) (sym zero_is) due))
 
 pub wrong_stop_refused : IsRefused wrong_stop

@@ -6,7 +6,8 @@ use Rattle.rv_seq.specs.declared.commit.Slot.TheVariants.{Absent, Now}
 use Rattle.rv_seq.specs.declared.commit.Commit.{Commit}
 use Rattle.rv_seq.specs.declared.commit.Stop.{Stop}
 use Rattle.rv_seq.specs.declared.commit.Stop.TheVariants.{Ebreak}
-use Rattle.rv_built.specs.SequentialRun.{Answer, Done, Stopped}
+use Rattle.rv_seq.specs.declared.answer.StepAnswer.{StepAnswer}
+use Rattle.rv_seq.specs.declared.answer.StepAnswer.TheVariants.{Done, Stopped}
 use Rattle.rv_trace.specs.Trace.{Setting}
 use Rattle.rv_trace.specs.LawfulTrace.{Lawful}
 use Rattle.rv_pipe.specs.Worked.{three, cell}
@@ -19,7 +20,7 @@ detour_image = 5243027 ∷ 7340307 ∷ 1048691 ∷ []
 abbrev pub leap : Commit
 leap = record { at = 0; word = 5243027; rd_index = 1; rd = Now 5; custom = replicate 16 Absent; store = None; next = 8 }
 
-abbrev pub detour_answer : ℕ → Answer
+abbrev pub detour_answer : ℕ → StepAnswer
 detour_answer zero = Done leap
 detour_answer (suc p) = Stopped Ebreak
 
@@ -28,7 +29,7 @@ detour_pc zero = 0
 detour_pc (suc p) = 8
 
 abbrev pub detour : Setting
-detour = record { image = detour_image; shape = three; course = record { answer = detour_answer; pc = detour_pc } }
+detour = record { image = detour_image; waits = []; shape = three; course = record { answer = detour_answer; pc = detour_pc } }
 
 -- a row with the cells of three stages, what it retires, its flushed serials, its redirect and its stop
 abbrev pub row_with : Option Cell → Option Cell → Option Cell → Option (ℕ × Commit) → List (Option ℕ) → Option ℕ → Option Stop → Row

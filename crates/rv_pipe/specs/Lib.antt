@@ -1,3 +1,4 @@
+pub mod Doing
 pub mod PlainMachine
 pub mod Placed
 pub mod Running

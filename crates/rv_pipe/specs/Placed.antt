@@ -1,15 +1,18 @@
 -- Where the tokens of the machine stand in the sequential run, and what ties the machine to the rows before.
-use Rattle.std.specs.Prelude.{◌≡◌, ℕ, zero, suc, ◌+◌, ◌%◌, ◌^◌, ◌<◌, ◌≤◌, List, [], ◌∷◌, length, Option, Some, None, false, if◌then◌else◌, nat_lt, slice_get}
+use Rattle.std.specs.Prelude.{◌≡◌, ℕ, zero, suc, ◌+◌, ◌%◌, ◌^◌, ◌<◌, ◌≤◌, List, [], ◌∷◌, drop, length, Option, Some, None, false, if◌then◌else◌, ◌==◌, nat_lt, slice_get, slice_index}
 use Rattle.rv_core.specs.declared.Shape.{Shape}
 use Rattle.rv_trace.specs.declared.row.Row.{Row}
 use Rattle.rv_pipe.specs.declared.stages.Token.{Token}
 use Rattle.rv_pipe.specs.declared.stages.Kept.{Kept}
-use Rattle.rv_built.specs.Instructions.{instruction_of}
-use Rattle.rv_built.specs.SequentialRun.{word_at, run}
-use Rattle.rv_trace.specs.Trace.{Setting, course_of, setting, stages_of, newest, place, is_flushed, is_retired, retirements, architecture, rows_without}
+use Rattle.rv_seq.specs.Steps.{word_at}
+use Rattle.rv_trace.specs.BaseRun.{run}
+use Rattle.rv_trace.specs.Asked.{instruction_of, source_1, source_2}
+use Rattle.rv_pipe.specs.Doing.{value_as}
+use Rattle.rv_waits.specs.Waits.{greatest}
+use Rattle.rv_trace.specs.Trace.{Setting, course_of, setting, accesses_before, stood, stages_of, newest, place, is_flushed, is_retired, retirements, architecture, rows_without}
 use Rattle.rv_trace.specs.LawfulTrace.{MovesInto, names_of, fetch_address, next_serial, serial_after, IsWordOf}
 use Rattle.rv_trace.specs.Headline.{Headline}
-use Rattle.rv_pipe.specs.PlainMachine.{Machine, Slots, first_slot, cell_of, cells_of, stop_of, value_of, machine_of}
+use Rattle.rv_pipe.specs.PlainMachine.{Machine, Slots, first_slot, cell_of, cells_of, stop_of, machine_of, owed_by}
 
 abbrev pub one_more : Option Token → ℕ → ℕ
 one_more None n = n
@@ -35,9 +38,10 @@ pub record IsPlaced (k : Setting) (p address stage : ℕ) (t : Token) : Type 0 w
   pub at : t.cell.at ≡ address
   pub word : word_at k.image t.cell.at ≡ Some t.cell.word
   pub decoded : t.instruction ≡ instruction_of t.cell.word
-  pub value : k.shape.rd < stage → t.value ≡ value_of t.instruction (run k.image p).x
-  pub next : k.shape.rd < stage → stop_of t.instruction ≡ None → t.cell.at ≡ (run k.image p).pc → t.next ≡ (run k.image (suc p)).pc
-  pub goes : k.shape.ex < stage → stop_of t.instruction ≡ None
+  pub first : k.shape.rd < stage → t.x ≡ slice_index (run k.image p).x (source_1 t.instruction)
+  pub second : k.shape.rd < stage → t.y ≡ slice_index (run k.image p).x (source_2 t.instruction)
+  pub goes : k.shape.ex < stage → stop_of t ≡ None
+  pub value : k.shape.mem < stage → t.value ≡ value_as t.instruction t.cell.at t.x t.y (run k.image p).mem
 
 abbrev pub IsPlacedSlot : Setting → ℕ → ℕ → ℕ → Option Token → Type 0
 IsPlacedSlot k p address stage None = Unit {0}
@@ -69,24 +73,30 @@ pub record IsShape (k : Setting) : Type 0 where
   pub rd_pos : 0 < k.shape.rd
   pub rd_ex : k.shape.rd ≤ k.shape.ex
   pub ex_rd : k.shape.ex ≤ k.shape.rd + 1
+  pub ex_mem : k.shape.ex < k.shape.mem
+  pub mem_last : k.shape.mem < k.shape.stages
   pub ex_last : k.shape.ex + 1 < k.shape.stages
 
-abbrev pub here : Option Token → ℕ → ℕ
-here None n = 0
-here (Some t) n = suc n
+-- the rows for which a token of this stage may still wait for the memory: the most before MEM, so many at MEM, none behind it
+abbrev pub may_wait : Shape → ℕ → ℕ → ℕ → ℕ
+may_wait k most owed stage = if nat_lt stage k.mem then most else if stage == k.mem then owed else 0
+
+abbrev pub here : Shape → ℕ → ℕ → ℕ → Option Token → ℕ → ℕ
+here k most owed stage None n = 0
+here k most owed stage (Some t) n = suc (n + may_wait k most owed stage)
 
 abbrev pub first_of_two : ℕ → ℕ → ℕ
 first_of_two zero b = b
 first_of_two (suc a) b = suc a
 
--- how many rows the oldest token has still to go, 0 where there is none
-abbrev pub to_go : Slots → ℕ
-to_go [] = 0
-to_go (s ∷ older) = first_of_two (to_go older) (here s (length older))
+-- how many rows the oldest token has still to go and to wait, 0 where there is none
+abbrev pub to_go : Shape → ℕ → ℕ → ℕ → Slots → ℕ
+to_go k most owed stage [] = 0
+to_go k most owed stage (s ∷ older) = first_of_two (to_go k most owed (suc stage) older) (here k most owed stage s (length older))
 
 -- the rows that may still pass without a retirement
-abbrev pub rank : ℕ → Slots → ℕ
-rank stages slots = first_of_two (to_go slots) (suc stages)
+abbrev pub rank : Shape → ℕ → ℕ → Slots → ℕ
+rank k most owed slots = first_of_two (to_go k most owed 0 slots) (suc (k.stages + most))
 
 -- what ties the machine to the rows before
 pub record Inv (k : Setting) (earlier : List Row) (m : Machine) : Type 0 where
@@ -96,6 +106,10 @@ pub record Inv (k : Setting) (earlier : List Row) (m : Machine) : Type 0 where
   pub next_first : serial_after m.next (cell_of (first_slot m.slots)) ≡ m.next
   pub fetch : m.fetch ≡ expected k (retirements earlier) 1 (tail m.slots)
   pub few : m.next ≤ length earlier
+  pub few_accesses : m.accesses ≤ length earlier
+  pub few_stood : m.stood ≤ length earlier
+  pub accesses : m.accesses ≡ accesses_before k.course (retirements earlier + count (drop (suc k.shape.mem) m.slots))
+  pub stood_is : (t : Token) (older : Slots) → drop k.shape.mem m.slots ≡ Some t ∷ older → m.stood ≡ stood k earlier t.cell.serial
   pub placed : Placed k (retirements earlier) 0 m.slots
   pub serials : Serials earlier (retirements earlier) m.slots
   pub fetch_is : m.fetch ≡ fetch_address k earlier
@@ -106,11 +120,11 @@ pub record Inv (k : Setting) (earlier : List Row) (m : Machine) : Type 0 where
   pub retired : (s : ℕ) → is_flushed earlier s ≡ false → is_retired earlier s ≡ nat_lt (place earlier s) (retirements earlier)
   pub unflushed : (s : ℕ) → m.next ≤ s → is_flushed earlier s ≡ false
   pub state : architecture earlier ≡ run k.image (retirements earlier)
-  pub progress : rows_without earlier + rank k.shape.stages m.slots ≤ k.shape.stages + 1
+  pub progress : rows_without earlier + rank k.shape (greatest k.waits) (owed_by k m) m.slots ≤ k.shape.stages + greatest k.waits + 1
 
 -- a machine over these rows, newest first, with room for so many more
-pub record IsSound (shape : Shape) (image : List ℕ) (kept : Kept) (rows : List Row) (spare : ℕ) : Type 0 where
+pub record IsSound (shape : Shape) (image waits : List ℕ) (kept : Kept) (rows : List Row) (spare : ℕ) : Type 0 where
   pub room : length rows + spare < 2 ^ 32
-  pub headline : Headline image shape rows
-  pub going : (newest rows).stop ≡ None → Inv (setting image shape) rows (machine_of shape kept)
+  pub headline : Headline image waits shape rows
+  pub going : (newest rows).stop ≡ None → Inv (setting image waits shape) rows (machine_of shape kept)
   pub state : architecture rows ≡ kept.arch

@@ -21,7 +21,7 @@ abbrev pub three : Shape
 three = record { stages = 3; rd = 1; ex = 1; mem = 2; lawful = three_lawful }
 
 abbrev pub worked : Setting
-worked = setting worked_image three
+worked = setting worked_image [] three
 
 abbrev pub cell : ℕ → ℕ → ℕ → Option Hold → Cell
 cell serial at word hold = record { serial = serial; at = at; word = word; hold = hold }
@@ -79,7 +79,7 @@ worked_rows = row_5 ∷ row_4 ∷ row_3 ∷ row_2 ∷ row_1 ∷ row_0 ∷ []
 
 -- the headline does not hold of these rows
 abbrev pub IsRefused : List Row → Type 0
-IsRefused rows = Headline worked_image three rows → ⊥
+IsRefused rows = Headline worked_image [] three rows → ⊥
 
 -- a hold that is not true: the break waits in stage 0, and says that it waits to stop
 abbrev pub untrue_hold : List Row

@@ -1,10 +1,10 @@
 ghost use Rattle.std.specs.Prelude.{◌≡◌, ◌+◌, ◌<◌, length, suc, is_some};
-ghost use Rattle.rv_trace.specs.LawfulTrace.{destination_of};
-ghost use Rattle.rv_pipe.specs.PlainMachine.{writer, waits_for, operand_hold, stop_of as specified_stop_of, staying, own_hold, stops_now, is_blocked as specified_is_blocked, shown, with_hold, decided};
+ghost use Rattle.rv_pipe.specs.PlainMachine.{writer, oldest, is_store, waits_for, operand_hold, store_hold, memory_hold, stop_of as specified_stop_of, staying, own_hold, stops_now, is_blocked as specified_is_blocked, shown, with_hold, decided};
 
+use crate::doing::{destination, does_load, does_store, source_1, source_2, stop};
 use crate::stages::Token;
-use rv_built::{Instruction, destination};
 use rv_core::Shape;
+use rv_isa::Base;
 use rv_seq::Stop;
 use rv_trace::{Cell, Hold};
 
@@ -15,7 +15,7 @@ fn oldest_writer(older: &[Option<Token>], r: u8) -> Option<u32>
     let mut found = None;
     for slot in older {
         if let Some(token) = slot {
-            if written_register(token.instruction) == r {
+            if destination(token.instruction) == r {
                 found = Some(token.cell.serial);
             }
         }
@@ -23,14 +23,19 @@ fn oldest_writer(older: &[Option<Token>], r: u8) -> Option<u32>
     found
 }
 
-/// The x register that an instruction writes; 0 where it is none.
-fn written_register(instruction: Option<Instruction>) -> u8
-    ensures { result ≡ destination_of instruction }
+/// The oldest token that stores.
+fn oldest_store(older: &[Option<Token>]) -> Option<u32>
+    ensures { result ≡ oldest is_store older.now }
 {
-    match instruction {
-        None => 0,
-        Some(instruction) => destination(instruction),
+    let mut found = None;
+    for slot in older {
+        if let Some(token) = slot {
+            if does_store(token.instruction) {
+                found = Some(token.cell.serial);
+            }
+        }
     }
+    found
 }
 
 fn waited_for(older: &[Option<Token>], r: u8) -> Option<Hold>
@@ -46,30 +51,44 @@ fn waited_for(older: &[Option<Token>], r: u8) -> Option<Hold>
 }
 
 /// The hold of an instruction that waits for an operand, the least register first.
-fn operand(older: &[Option<Token>], instruction: Option<Instruction>) -> Option<Hold>
+fn operand(older: &[Option<Token>], instruction: Option<Base>) -> Option<Hold>
     ensures { result ≡ operand_hold older.now instruction }
 {
-    match instruction {
-        None | Some(Instruction::Break) => None,
-        Some(Instruction::AddImmediate { rs1, .. }) => waited_for(older, rs1),
-        Some(Instruction::Add { rs1, rs2, .. }) => {
-            match waited_for(older, rs1.min(rs2)) {
-                None => waited_for(older, rs1.max(rs2)),
-                hold => hold,
-            }
-        }
+    let first = source_1(instruction);
+    let second = source_2(instruction);
+    match waited_for(older, first.min(second)) {
+        None => waited_for(older, first.max(second)),
+        hold => hold,
     }
 }
 
-/// The stop that an instruction makes, or that no instruction does.
-pub fn stop_of(instruction: Option<Instruction>) -> Option<Stop>
-    ensures { result ≡ specified_stop_of instruction }
+/// The hold of a load that waits for an older store.
+fn store(older: &[Option<Token>], instruction: Option<Base>) -> Option<Hold>
+    ensures { result ≡ store_hold older.now instruction }
 {
-    match instruction {
-        None => Some(Stop::Illegal),
-        Some(Instruction::Break) => Some(Stop::Ebreak),
-        Some(Instruction::AddImmediate { .. } | Instruction::Add { .. }) => None,
+    if does_load(instruction) {
+        oldest_store(older).map(|serial| Hold::StoreAhead(serial))
+    } else {
+        None
     }
+}
+
+/// The hold of an access that waits for the memory.
+fn memory(token: Token) -> Option<Hold>
+    ensures { result ≡ memory_hold token }
+{
+    if token.wait == 0 {
+        None
+    } else {
+        Some(Hold::Wait(token.wait))
+    }
+}
+
+/// The stop that a token makes, or that it makes none.
+pub fn stop_of(token: Token) -> Option<Stop>
+    ensures { result ≡ specified_stop_of token }
+{
+    stop(token.instruction, token.cell.at, token.x, token.y)
 }
 
 /// The oldest token that is not retired by the end of the row.
@@ -96,39 +115,37 @@ fn oldest_staying(older: &[Option<Token>]) -> Option<u32>
 }
 
 /// The first true hold but `Behind`.
-fn first_hold(
-    shape: Shape,
-    stage: usize,
-    instruction: Option<Instruction>,
-    older: &[Option<Token>],
-) -> Option<Hold>
-    ensures { result ≡ own_hold shape stage instruction older.now }
+fn first_hold(shape: Shape, stage: usize, token: Token, older: &[Option<Token>]) -> Option<Hold>
+    ensures { result ≡ own_hold shape stage token older.now }
 {
     if stage == usize::from(shape.rd) {
-        let hold = operand(older, instruction);
+        let hold = operand(older, token.instruction);
         if hold.is_some() {
             return hold;
         }
     }
-    if stage == usize::from(shape.ex) && stop_of(instruction).is_some() {
-        oldest_staying(older).map(|serial| Hold::Drain(serial))
-    } else {
-        None
+    if stage == usize::from(shape.ex) && stop_of(token).is_some() {
+        let hold = oldest_staying(older).map(|serial| Hold::Drain(serial));
+        if hold.is_some() {
+            return hold;
+        }
+    }
+    if stage != usize::from(shape.mem) {
+        return None;
+    }
+    match memory(token) {
+        None => store(older, token.instruction),
+        hold => hold,
     }
 }
 
-/// Whether the token of this instruction stops the run in this row.
-pub fn does_stop(
-    shape: Shape,
-    stage: usize,
-    instruction: Option<Instruction>,
-    older: &[Option<Token>],
-) -> bool
-    ensures { result ≡ stops_now shape stage instruction older.now }
+/// Whether the token stops the run in this row.
+pub fn does_stop(shape: Shape, stage: usize, token: Token, older: &[Option<Token>]) -> bool
+    ensures { result ≡ stops_now shape stage token older.now }
 {
     stage == usize::from(shape.ex)
-        && stop_of(instruction).is_some()
-        && first_hold(shape, stage, instruction, older).is_none()
+        && stop_of(token).is_some()
+        && first_hold(shape, stage, token, older).is_none()
 }
 
 /// Whether the token of this stage, the first of the slots, is held or stops the run.
@@ -139,25 +156,20 @@ fn is_blocked(shape: Shape, stage: usize, slots: &[Option<Token>]) -> bool
         [] => false,
         [None, ..] => false,
         [Some(token), older @ ..] => {
-            token.cell.hold.is_some() || does_stop(shape, stage, token.instruction, older)
+            token.cell.hold.is_some() || does_stop(shape, stage, *token, older)
         }
     }
 }
 
 /// The hold that a token shows.
-fn hold_of(
-    shape: Shape,
-    stage: usize,
-    instruction: Option<Instruction>,
-    older: &[Option<Token>],
-) -> Option<Hold>
+fn hold_of(shape: Shape, stage: usize, token: Token, older: &[Option<Token>]) -> Option<Hold>
     requires { stage < 100 }
-    ensures { result ≡ shown shape stage instruction older.now }
+    ensures { result ≡ shown shape stage token older.now }
 {
-    if does_stop(shape, stage, instruction, older) {
+    if does_stop(shape, stage, token, older) {
         return None;
     }
-    match first_hold(shape, stage, instruction, older) {
+    match first_hold(shape, stage, token, older) {
         None => {
             if is_blocked(shape, stage + 1, older) {
                 Some(Hold::Behind)
@@ -180,7 +192,7 @@ fn slot_held(
     ensures { result ≡ with_hold shape stage slot older.now }
 {
     let token = slot?;
-    let hold = hold_of(shape, stage, token.instruction, older);
+    let hold = hold_of(shape, stage, token, older);
     let cell = Cell { hold, ..token.cell };
     Some(Token { cell, ..token })
 }

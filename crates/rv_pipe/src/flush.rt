@@ -2,7 +2,7 @@ ghost use Rattle.std.specs.Prelude.{◌≡◌, ◌≤◌, length, take, drop, re
 ghost use Rattle.rv_pipe.specs.PlainMachine.{settled, nearest, redirect_of, struck as specified_struck, freed as specified_freed, unheld, cleared, serial_in as specified_serial_in, flushed_of, cell_of, cells_of};
 
 use crate::decide::does_stop;
-use crate::engine::token_going;
+use crate::doing::next;
 use crate::stages::Token;
 use rv_core::Shape;
 use rv_trace::Cell;
@@ -34,19 +34,21 @@ fn cells_in(slots: &[Option<Token>]) -> [Option<Cell>; 5]
 }
 
 /// The address that the token of EX, the first of the slots, names as it goes on.
-fn settled_in(shape: Shape, x: &[u32; 32], slots: &[Option<Token>]) -> Option<u32>
-    ensures { result ≡ settled shape x.now slots.now }
+fn settled_in(shape: Shape, slots: &[Option<Token>]) -> Option<u32>
+    ensures { result ≡ settled shape slots.now }
 {
-    let ex = usize::from(shape.ex);
     match slots {
         [] => None,
         [None, ..] => None,
         [Some(token), older @ ..] => {
-            if does_stop(shape, ex, token.instruction, older) {
+            let token = *token;
+            if token.cell.hold.is_some() {
                 return None;
             }
-            let going = token_going(shape, x, ex, Some(*token))?;
-            Some(going.next)
+            if does_stop(shape, usize::from(shape.ex), token, older) {
+                return None;
+            }
+            Some(next(token.instruction, token.cell.at, token.x, token.y))
         }
     }
 }
@@ -65,12 +67,12 @@ fn nearest_address(fetch: u32, younger: &[Option<Token>]) -> u32
 }
 
 /// The address to which the token of EX redirects the fetch: its successor's, where another one stands next.
-fn redirect_in(shape: Shape, x: &[u32; 32], fetch: u32, slots: &[Option<Token>]) -> Option<u32>
+fn redirect_in(shape: Shape, fetch: u32, slots: &[Option<Token>]) -> Option<u32>
     requires { shape.ex ≤ length slots.now }
-    ensures { result ≡ redirect_of shape x.now fetch slots.now }
+    ensures { result ≡ redirect_of shape fetch slots.now }
 {
     let ex = usize::from(shape.ex);
-    let address = settled_in(shape, x, &slots[ex..])?;
+    let address = settled_in(shape, &slots[ex..])?;
     if address == nearest_address(fetch, &slots[..ex]) {
         None
     } else {
@@ -127,16 +129,16 @@ fn free(slots: &mut [Option<Token>])
 }
 
 /// Flushes the tokens below EX where the token of EX names another address than the next one, and tells what is shown.
-pub fn flush(shape: Shape, x: &[u32; 32], fetch: u32, slots: &mut [Option<Token>]) -> Shown
+pub fn flush(shape: Shape, fetch: u32, slots: &mut [Option<Token>]) -> Shown
     requires long { shape.ex ≤ length slots.old }
     requires few { length slots.old ≤ 5 }
-    ensures redirect { result.redirect ≡ redirect_of shape x.now fetch slots.old }
-    ensures slots { slots.new ≡ cleared (specified_struck shape (redirect_of shape x.now fetch slots.old)) slots.old }
-    ensures cells { take (length slots.old) result.cells ≡ cells_of (unheld (specified_struck shape (redirect_of shape x.now fetch slots.old)) slots.old) }
+    ensures redirect { result.redirect ≡ redirect_of shape fetch slots.old }
+    ensures slots { slots.new ≡ cleared (specified_struck shape (redirect_of shape fetch slots.old)) slots.old }
+    ensures cells { take (length slots.old) result.cells ≡ cells_of (unheld (specified_struck shape (redirect_of shape fetch slots.old)) slots.old) }
     ensures behind { drop (length slots.old) result.cells ≡ drop (length slots.old) (replicate 5 None) }
-    ensures flushed { result.flushed ≡ flushed_of (take (specified_struck shape (redirect_of shape x.now fetch slots.old)) slots.old) }
+    ensures flushed { result.flushed ≡ flushed_of (take (specified_struck shape (redirect_of shape fetch slots.old)) slots.old) }
 {
-    let redirect = redirect_in(shape, x, fetch, slots);
+    let redirect = redirect_in(shape, fetch, slots);
     let count = struck(shape, redirect);
     let flushed = serials_in(&slots[..count]);
     free(&mut slots[..count]);

@@ -1,3 +1,4 @@
+ghost use Rattle.std.specs.Prelude.{[]};
 ghost use Rattle.rv_trace.specs.LawfulTrace.{Lawful};
 ghost use Rattle.rv_trace.specs.Headline.{Headline};
 ghost use Rattle.rv_pipe.specs.Detour.{detour, detour_rows, IsUnlawful, unflushed_younger, other_redirect, flushed_twice, flushed_retires, after_stop, missing_stop, cell_behind};
@@ -6,7 +7,7 @@ ghost use Rattle.rv_pipe.specs.Worked.{worked_image, three, worked_rows, IsRefus
 
 /// The headline, tried on the run that adds five and seven: it holds of its rows, and of none in which one thing is changed.
 pub fn worked_run()
-    ensures rows { Headline worked_image three worked_rows }
+    ensures rows { Headline worked_image [] three worked_rows }
     ensures untrue_hold { IsRefused untrue_hold }
     ensures later_hold { IsRefused later_hold }
     ensures idle_cell { IsRefused idle_cell }

@@ -2,6 +2,7 @@
 #![tactic(auto)]
 
 mod decide;
+mod doing;
 mod engine;
 mod flush;
 mod laws;

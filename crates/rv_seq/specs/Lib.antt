@@ -1,4 +1,5 @@
 pub mod States
+pub mod Bare
 pub mod Commits
 pub mod Stops
 pub mod Steps

@@ -3,6 +3,7 @@ ghost use Rattle.ix_extension.specs.Extensions.{view_extension};
 ghost use Rattle.ix_extension.specs.WellFormed.{IsWellFormed};
 ghost use Rattle.rv_effect.specs.WordEffects.{AreWide};
 ghost use Rattle.rv_seq.specs.States.{first, initials, initial_of};
+ghost use Rattle.rv_seq.specs.Bare.{bare};
 
 use ix_bits::{Bits, Memory};
 use ix_tree::{Extension, Register};
@@ -50,6 +51,23 @@ impl Arch {
         ensures wide { IfOk result (λ arch. AreWide (view_extension ext.now) arch.custom) }
     {
         let custom = initials_of(ext.registers.as_slice());
+        match RandomAccess::new(alloc) {
+            Ok(mem) => Ok(Arch {
+                pc: 0,
+                x: [0; 32],
+                custom,
+                mem,
+            }),
+            Err(error) => Err(error),
+        }
+    }
+
+    /// The first state of a core with an extension without sections.
+    #[tactic(auto, unfolding(crate::specs::States::first))]
+    pub fn bare(alloc: Global) -> Result<Arch, Memory>
+        ensures { IfOk result (λ arch. arch ≡ first bare) }
+    {
+        let custom = initials_of(&[]);
         match RandomAccess::new(alloc) {
             Ok(mem) => Ok(Arch {
                 pc: 0,

@@ -1,6 +1,4 @@
 ghost use Rattle.std.specs.Prelude.{◌≡◌};
-ghost use Rattle.ix_extension.specs.Extensions.{ExtensionTree};
-ghost use Rattle.rv_effect.specs.Decoding.{IsIn};
 ghost use Rattle.rv_seq.specs.Stops.{access_stop as specified_access_stop, load_stop as specified_load_stop, store_stop as specified_store_stop, call_stop as specified_call_stop, target_stop as specified_target_stop, stop_of as specified_stop_of};
 
 use crate::commit::Stop;
@@ -44,7 +42,6 @@ fn store_stop(store: Option<(Access, u32)>) -> Option<Stop>
 
 // The stop of ECALL and EBREAK.
 fn call_stop(decoded: Decoded) -> Option<Stop>
-    requires { (x : ExtensionTree) × IsIn x decoded }
     ensures { result ≡ specified_call_stop decoded }
 {
     match decoded {
@@ -69,7 +66,6 @@ fn target_stop(decoded: Decoded, target: Option<u32>) -> Option<Stop>
 
 /// Why an instruction with this effect stops the run, if it does.
 pub fn stop_of(decoded: Decoded, effect: &Effect) -> Option<Stop>
-    requires { (x : ExtensionTree) × IsIn x decoded }
     ensures { result ≡ specified_stop_of decoded effect.now }
 {
     call_stop(decoded)

@@ -12,6 +12,10 @@ pub record Told (before now : Option (List ℕ)) (left rest whole : List ℕ) : 
 abbrev pub Carries : Option (List ℕ) → List ℕ → List ℕ → Option (List ℕ) → List ℕ → List ℕ → Type 0
 Carries now left rest now' left' rest' = (before : Option (List ℕ)) (whole : List ℕ) → Told before now left rest whole → Told before now' left' rest' whole
 
+-- whatever was told before, the whole was sent
+abbrev pub Completes : Option (List ℕ) → List ℕ → List ℕ → Option (List ℕ) → Type 0
+Completes now left rest now' = (before : Option (List ℕ)) (whole : List ℕ) → Told before now left rest whole → Appends before now' whole
+
 -- whatever was told before, a front of the whole was sent
 abbrev pub Breaks : Option (List ℕ) → List ℕ → List ℕ → Option (List ℕ) → Type 0
 Breaks now left rest now' = (before : Option (List ℕ)) (whole : List ℕ) → Told before now left rest whole → AppendsFront before now' whole

@@ -5,3 +5,4 @@ mod running;
 mod writing;
 
 pub use running::{RunErr, write_run};
+pub use writing::{make_room, write_state};

@@ -4,7 +4,9 @@ use Rattle.rv_core.specs.declared.Shape.{Shape}
 use Rattle.rv_trace.specs.declared.row.Row.{Row}
 use Rattle.rv_seq.specs.declared.commit.Commit.{Commit}
 use Rattle.rv_seq.specs.declared.commit.Stop.{Stop}
-use Rattle.rv_built.specs.SequentialRun.{step, run, Done, Stopped}
+use Rattle.rv_seq.specs.declared.answer.StepAnswer.TheVariants.{Done, Stopped}
+use Rattle.rv_trace.specs.BaseRun.{step, run}
+use Rattle.rv_waits.specs.Waits.{greatest}
 use Rattle.rv_trace.specs.Trace.{Setting, setting, place, retirements, architecture, rows_without}
 use Rattle.rv_trace.specs.LawfulTrace.{Lawful}
 
@@ -29,9 +31,9 @@ abbrev pub Progressing : ℕ → List Row → Type 0
 Progressing bound [] = Unit {0}
 Progressing bound (row ∷ earlier) = (rows_without (row ∷ earlier) ≤ bound) × Progressing bound earlier
 
--- the headline: the rows of an image on a core, the newest first, are lawful, what they retire is a prefix of the image's run with its states and its stop,
--- and they go on; this core has no custom register and its memory never waits
-pub record Headline (image : List ℕ) (shape : Shape) (rows : List Row) : Type 0 where
-  pub lawful : Lawful (setting image shape) rows
-  pub agrees : Agreeing (setting image shape) rows
-  pub progress : Progressing (progress_bound shape.stages 0 0) rows
+-- the headline: the rows of an image on a core whose memory has these waits, the newest first, are lawful, what they retire is a prefix of the image's run with its
+-- states and its stop, and they go on; this core has no custom register
+pub record Headline (image waits : List ℕ) (shape : Shape) (rows : List Row) : Type 0 where
+  pub lawful : Lawful (setting image waits shape) rows
+  pub agrees : Agreeing (setting image waits shape) rows
+  pub progress : Progressing (progress_bound shape.stages 0 (greatest waits)) rows

@@ -7,12 +7,14 @@ use Rattle.rv_trace.specs.declared.row.Target.TheVariants.{X, Custom as custom_t
 use Rattle.rv_trace.specs.declared.row.Hold.{Hold}
 use Rattle.rv_trace.specs.declared.row.Hold.TheVariants.{Operand, Board, Custom, Late, Drain, Wait, StoreAhead, Tail, UnitFull, Port, Behind}
 use Rattle.rv_seq.specs.declared.commit.Commit.{Commit}
-use Rattle.rv_built.specs.declared.instruction.Instruction.{Instruction}
 use Rattle.rv_seq.specs.declared.commit.Stop.{Stop}
 use Rattle.rv_seq.specs.declared.commit.Stop.TheVariants.{Fetch}
-use Rattle.rv_built.specs.Instructions.{instruction_of}
-use Rattle.rv_built.specs.SequentialRun.{word_at, destination, does_read, Stopped}
-use Rattle.rv_trace.specs.Trace.{Setting, stages_of, Stands, has_serial, is_flushed, is_retired, place, newest}
+use Rattle.rv_seq.specs.declared.answer.StepAnswer.TheVariants.{Stopped}
+use Rattle.rv_seq.specs.Steps.{word_at}
+use Rattle.rv_isa.specs.declared.base.Base.{Base}
+use Rattle.rv_trace.specs.Asked.{instruction_of, destination_of, reads_of, does_load, does_store}
+use Rattle.rv_waits.specs.Waits.{wait_at}
+use Rattle.rv_trace.specs.Trace.{Setting, makes_access, accesses_before, stages_of, Stands, stood, has_serial, is_flushed, is_retired, place, newest}
 
 -- Moves and fetch
 
@@ -106,14 +108,6 @@ pub record Retires (k : Setting) (row : Row) (stage : ℕ) : Type 0 where
 
 -- True holds
 
-abbrev pub destination_of : Option Instruction → ℕ
-destination_of None = 0
-destination_of (Some i) = destination i
-
-abbrev pub reads_of : Option Instruction → ℕ → Bool
-reads_of None r = false
-reads_of (Some i) r = does_read i r
-
 -- a row of these has a cell of this serial with this word
 abbrev pub IsWordOf : Setting → List Row → ℕ → ℕ → Type 0
 IsWordOf k [] s word = ⊥
@@ -144,15 +138,29 @@ pub record WaitsToDrain (k : Setting) (earlier : List Row) (row : Row) (stage : 
   pub older : IsOlder (row ∷ earlier) c.serial j
   pub unretired : is_retired (row ∷ earlier) j ≡ false
 
--- a hold of the cell's own is true of it; the built rows write no custom register, no pc but the next, no memory, and use no unit
+-- Wait: at MEM the cell accesses the memory, and has stood there for fewer rows than this access waits
+pub record WaitsForMemory (k : Setting) (earlier : List Row) (row : Row) (stage : ℕ) (c : Cell) (left : ℕ) : Type 0 where
+  pub waiting : stage ≡ k.shape.mem
+  pub accesses : makes_access (k.course.answer (place (row ∷ earlier) c.serial)) ≡ true
+  pub still : left + stood k earlier c.serial ≡ wait_at k.waits (accesses_before k.course (place (row ∷ earlier) c.serial))
+  pub some : 0 < left
+
+-- StoreAhead: at MEM the cell loads, and an older store stands in a later stage
+pub record WaitsForStore (k : Setting) (earlier : List Row) (row : Row) (stage : ℕ) (c : Cell) (j : ℕ) : Type 0 where
+  pub loading : stage ≡ k.shape.mem
+  pub loads : does_load (instruction_of c.word) ≡ true
+  pub older : IsOlder (row ∷ earlier) c.serial j
+  pub stands : (later : ℕ) × (d : Cell) × (stage < later) × Stands k row later d × (d.serial ≡ j) × (does_store (instruction_of d.word) ≡ true)
+
+-- a hold of the cell's own is true of it; the base set writes no custom register and no pc behind EX, and uses no unit
 abbrev pub OwnHold : Setting → List Row → Row → ℕ → Cell → Hold → Type 0
 OwnHold k earlier row stage c (Operand r j) = WaitsForOperand k earlier row stage c r j
 OwnHold k earlier row stage c (Drain j) = WaitsToDrain k earlier row stage c j
 OwnHold k earlier row stage c (Board t j) = ⊥
 OwnHold k earlier row stage c (Custom r j) = ⊥
 OwnHold k earlier row stage c (Late j) = ⊥
-OwnHold k earlier row stage c (Wait left) = ⊥
-OwnHold k earlier row stage c (StoreAhead j) = ⊥
+OwnHold k earlier row stage c (Wait left) = WaitsForMemory k earlier row stage c left
+OwnHold k earlier row stage c (StoreAhead j) = WaitsForStore k earlier row stage c j
 OwnHold k earlier row stage c (Tail left) = ⊥
 OwnHold k earlier row stage c (UnitFull u) = ⊥
 OwnHold k earlier row stage c (Port j) = ⊥
@@ -236,7 +244,7 @@ pub record ShowsHold (k : Setting) (earlier : List Row) (row : Row) (stage : ℕ
 -- Successors
 
 -- does the instruction write the pc at a time above EX? The pc write of a base row stands at EX
-abbrev pub is_late : Option Instruction → Bool
+abbrev pub is_late : Option Base → Bool
 is_late i = false
 
 -- the stage from which a cell settles its successor: EX, or the last one where its instruction writes the pc late

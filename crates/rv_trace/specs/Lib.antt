@@ -1,3 +1,5 @@
+pub mod BaseRun
+pub mod Asked
 pub mod Trace
 pub mod LawfulTrace
 pub mod Headline

@@ -4,27 +4,42 @@ use Rattle.rv_core.specs.declared.Shape.{Shape}
 use Rattle.rv_trace.specs.declared.row.Cell.{Cell}
 use Rattle.rv_trace.specs.declared.row.Row.{Row}
 use Rattle.rv_seq.specs.declared.commit.Commit.{Commit}
-use Rattle.rv_built.specs.declared.arch.Arch.{Arch}
-use Rattle.rv_built.specs.SequentialRun.{Answer, step, run, applied, first}
+use Rattle.rv_seq.specs.declared.arch.Arch.{Arch}
+use Rattle.rv_seq.specs.declared.answer.StepAnswer.{StepAnswer}
+use Rattle.rv_seq.specs.declared.answer.StepAnswer.TheVariants.{Done, Stopped}
+use Rattle.rv_seq.specs.Commits.{applied}
+use Rattle.rv_trace.specs.Asked.{instruction_of, does_access}
+use Rattle.rv_trace.specs.BaseRun.{first, step, run}
 
 -- a run as a trace is judged against it: what the step at each place does, and the pc there
 pub record Course : Type 0 where
-  pub answer : ℕ → Answer
+  pub answer : ℕ → StepAnswer
   pub pc : ℕ → ℕ
 
 -- the run of an image
 abbrev pub course_of : List ℕ → Course
 course_of image = record { answer = λ p. step image (run image p); pc = λ p. (run image p).pc }
 
--- what a trace is judged against: the image, the shape of the core, and the run
+-- what a trace is judged against: the image, the waits of the memory, the shape of the core, and the run
 pub record Setting : Type 0 where
   pub image : List ℕ
+  pub waits : List ℕ
   pub shape : Shape
   pub course : Course
 
--- an image on a core
-abbrev pub setting : List ℕ → Shape → Setting
-setting image shape = record { image = image; shape = shape; course = course_of image }
+-- an image on a core whose memory has these waits
+abbrev pub setting : List ℕ → List ℕ → Shape → Setting
+setting image waits shape = record { image = image; waits = waits; shape = shape; course = course_of image }
+
+-- a load or a store accesses the memory in each step that does not stop
+abbrev pub makes_access : StepAnswer → Bool
+makes_access (Done c) = does_access (instruction_of c.word)
+makes_access (Stopped stop) = false
+
+-- how many accesses the steps before this place make: the number of the access of the step there, from 0
+unfoldable pub accesses_before : Course → ℕ → ℕ
+accesses_before run zero = 0
+accesses_before run (suc p) = if makes_access (run.answer p) then suc (accesses_before run p) else accesses_before run p
 
 -- the cells of the core's stages, stage 0 first
 abbrev pub stages_of : Setting → Row → List (Option Cell)
@@ -33,6 +48,17 @@ stages_of k row = take k.shape.stages row.cells
 -- the cell stands in this stage in the row
 abbrev pub Stands : Setting → Row → ℕ → Cell → Type 0
 Stands k row stage c = slice_get (stages_of k row) stage ≡ Some (Some c)
+
+-- is the cell of this stage one of this serial?
+abbrev pub has_cell : Option (Option Cell) → ℕ → Bool
+has_cell None s = false
+has_cell (Some None) s = false
+has_cell (Some (Some c)) s = c.serial == s
+
+-- for how many rows in succession, up to the last of these, the cell of this serial stood in MEM
+unfoldable pub stood : Setting → List Row → ℕ → ℕ
+stood k [] s = 0
+stood k (row ∷ earlier) s = if has_cell (slice_get (stages_of k row) k.shape.mem) s then suc (stood k earlier s) else 0
 
 -- is the serial among these flushed ones?
 abbrev pub has_serial : List (Option ℕ) → ℕ → Bool

@@ -10,7 +10,6 @@ use Rattle.rv_trace.specs.declared.row.Target.TheVariants.{X, Custom as custom_t
 use Rattle.rv_trace.specs.declared.row.Hold.{Hold}
 use Rattle.rv_trace.specs.declared.row.Hold.TheVariants.{Operand, Board, Custom, Late, Drain, Wait, StoreAhead, Tail, UnitFull, Port, Behind}
 use Rattle.ix_eval.specs.declared.access.Access.{Access}
-use Rattle.rv_built.specs.declared.arch.Arch.{Arch}
 use Rattle.rv_seq.specs.declared.commit.Commit.{Commit}
 use Rattle.rv_seq.specs.declared.commit.Slot.{Slot}
 use Rattle.rv_seq.specs.declared.commit.Slot.TheVariants.{Absent, Now, Later}
@@ -147,7 +146,3 @@ register_text n value = if value == 0 then [] else codes "x" ++ decimal n ++ cod
 abbrev pub registers_text : ℕ → List ℕ → List ℕ
 registers_text n [] = []
 registers_text n (value ∷ rest) = register_text n value ++ registers_text (suc n) rest
-
--- the lines of a state
-unfoldable pub state_text : Arch → List ℕ
-state_text arch = codes "state\npc " ++ hex_word_text arch.pc ++ codes "\n" ++ registers_text 0 arch.x

@@ -7,5 +7,6 @@ mod row_text;
 mod trace;
 
 pub use row::{Cell, Hold, Row, Target};
-pub use row_text::{put_registers, put_retired, put_row, put_small, put_state, put_stop, put_word};
+pub use row_text::{put_registers, put_retired, put_row, put_small, put_stop, put_word};
+pub use rv_waits::Waits;
 pub use trace::Trace;

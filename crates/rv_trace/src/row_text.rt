@@ -2,12 +2,11 @@ ghost use Rattle.std.specs.Prelude.{◌≡◌, ◌+◌, ◌*◌, ◌/◌, ◌%�
 ghost use Rattle.std.specs.List.{flat_map};
 ghost use Rattle.ix_io.specs.Out.{hex_digits};
 ghost use Rattle.rv_trace.specs.Trace.{has_serial};
-ghost use Rattle.rv_trace.specs.TraceText.{hex_word_text, stop_text, hold_text, held_text, stage_text, mark_text, retired_serial as specified_retired_serial, written_serial as specified_written_serial, redirect_text, row_stop_text, x_write_text, custom_write_text, custom_writes_text, store_text, next_text, writes_text, retired_text, written_text, row_line, row_text, register_text, registers_text, state_text};
+ghost use Rattle.rv_trace.specs.TraceText.{hex_word_text, stop_text, hold_text, held_text, stage_text, mark_text, retired_serial as specified_retired_serial, written_serial as specified_written_serial, redirect_text, row_stop_text, x_write_text, custom_write_text, custom_writes_text, store_text, next_text, writes_text, retired_text, written_text, row_line, row_text, register_text, registers_text};
 
 use crate::row::{Cell, Hold, Row, Target};
 use ix_bits::Bits;
 use ix_io::Out;
-use rv_built::Arch;
 use rv_core::Shape;
 use rv_seq::{Access, Commit, Slot, Stop};
 
@@ -409,17 +408,4 @@ pub fn put_registers(out: &mut Out, x: &[u32; 32])
     for n in 0..32u8 {
         put_register(out, n, x[n as usize]);
     }
-}
-
-/// Appends the lines of a state: the pc, and each x register that is not 0. Needs room for 2,048 bytes, and takes no memory.
-#[tactic(auto, unfolding(crate::specs::TraceText::state_text))]
-pub fn put_state(out: &mut Out, arch: &Arch)
-    requires { length out.old + 2048 ≤ 65536 }
-    ensures text { out.new ≡ out.old ++ state_text arch.now }
-    ensures few { length out.new ≤ length out.old + 2048 }
-{
-    out.text("state\npc ");
-    put_word(out, arch.pc);
-    out.text("\n");
-    put_registers(out, &arch.x);
 }

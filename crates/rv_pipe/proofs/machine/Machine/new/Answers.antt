@@ -8,5 +8,5 @@ pub invariant_of-result : goal.invariant_of-result
 invariant_of-result g c =
     let few = c.ranges.cycles.fits in
     let fits : c.args.cycles < 2 ^ 32 = omega (arith, few) in
-    rw (c.first_kept.ensures, c.as_slice.ensures.words, ap (λ (l : List Row). reverse l) c.in_ok-trace.ensures.rows, c.in_ok-trace.ensures.spare)
-    (sound_first c.shape_of.result c.args.image.now c.args.cycles fits)
+    rw (c.in_ok-kept.ensures, c.as_slice.ensures.words, ap (λ (l : List Row). reverse l) c.in_ok-trace.ensures.rows, c.in_ok-trace.ensures.spare)
+    (sound_first c.shape_of.result c.args.image.now c.args.waits.now c.args.cycles fits)
