@@ -5,48 +5,54 @@ use Rattle.ix_io.specs.Limits.{most_bytes}
 use Rattle.ix_io.specs.Shelf.{NamedFiles, told_file}
 use Rattle.ix_io.specs.Sink.{Appends}
 use Rattle.ix_tool.specs.declared.status.Status.{Status}
-use Rattle.ix_tool.specs.declared.status.Status.TheVariants.{Ok as ok_status, Usage, ReadFault, WriteFault, TooLong, Extension as extension_status, Image as image_status, Certificate, Memory, Source}
+use Rattle.ix_tool.specs.declared.status.Status.TheVariants.{Ok as ok_status, Usage, ReadFault, WriteFault, TooLong, Extension as extension_status, Image as image_status, Sheet as sheet_status, NoSchedule, Certificate, Memory, Source}
 use Rattle.ix_tool.specs.declared.command.Command.{Command}
 use Rattle.ix_tool.specs.declared.command.FileKind.{FileKind}
-use Rattle.ix_tool.specs.declared.command.FileKind.TheVariants.{Image, Program, Report, Extension, Source as source_kind}
+use Rattle.ix_tool.specs.declared.command.FileKind.TheVariants.{Image, Report, Extension, Sheet, Source as source_kind}
+use Rattle.ix_schedules.specs.declared.text.TextErr.{TextErr}
+use Rattle.ix_schedules.specs.declared.text.TextErr.TheVariants as T
+use Rattle.ix_schedules.specs.ScheduleText.{IsRefusedText as IsRefusedSchedule}
 use Rattle.ix_tool.specs.Readings.{Reading}
 use Rattle.ix_tool.specs.CommandLine.{command_of, slots_of, behind}
-use Rattle.ix_tool.specs.CommandOutput.{Outcome, RoseIn, NoneRises, file_line, refusal_status, IsRefusedText, IsRefusedFile, not_read, too_long, bad_text, IsFirstRefused, IsAnswer, IsDue, due_usage, due_file, due_answer, UsageAnswer, ReadFaultAnswer, WriteFaultAnswer, TooLongAnswer, IsFileOf, TextAnswer, OutputAnswer, SourceAnswer, AreRead, IsBuiltAnswer, IsStatusOr, Premises, Completes}
+use Rattle.ix_tool.specs.CommandOutput.{Outcome, RoseIn, NoneRises, file_line, refusal_status, IsRefusedFile, not_read, too_long, bad_text, IsFirstRefused, IsAnswer, IsDue, due_usage, due_file, due_answer, UsageAnswer, ReadFaultAnswer, WriteFaultAnswer, TooLongAnswer, IsFileOf, TextAnswer, OutputAnswer, SourceAnswer, IsToldAs, IsScheduleRefusal, UnscheduledAnswer, NoScheduleAnswer, ExtensionAnswer, AreRead, IsBuiltAnswer, IsStatusOr, Premises, Completes}
 use Rattle.ix_tool.proofs.Reading.{at_found}
-use Rattle.ix_tool.proofs.Due.{all_one, not_refused, own_status, commanded, usage_alone, due_one}
+use Rattle.ix_tool.proofs.Due.{all_one, not_refused, told_status, own_status, commanded, usage_alone, due_one}
 
 -- ---- statuses are apart
 -- a status that refuses a text is none of these
-no_text : (s : Status) → (image_status ≡ s → ⊥) → (Certificate ≡ s → ⊥) → (extension_status ≡ s → ⊥) → (Source ≡ s → ⊥) → (kind : FileKind) → refusal_status kind ≡ s → ⊥
-no_text s i r x o Image e = i e
-no_text s i r x o Program e = i e
-no_text s i r x o Report e = r e
-no_text s i r x o Extension e = x e
-no_text s i r x o source_kind e = o e
+no_text : (s : Status) → (sheet_status ≡ s → ⊥) → (image_status ≡ s → ⊥) → (Certificate ≡ s → ⊥) → (extension_status ≡ s → ⊥) → (Source ≡ s → ⊥) → (kind : FileKind) → refusal_status kind ≡ s → ⊥
+no_text s d i r x o Image e = i e
+no_text s d i r x o Report e = r e
+no_text s d i r x o Extension e = x e
+no_text s d i r x o Sheet e = d e
+no_text s d i r x o source_kind e = o e
 
 text_no_usage : (kind : FileKind) → refusal_status kind ≡ Usage → ⊥
-text_no_usage = no_text Usage (λ q. cc) (λ q. cc) (λ q. cc) (λ q. cc)
+text_no_usage = no_text Usage (λ q. cc) (λ q. cc) (λ q. cc) (λ q. cc) (λ q. cc)
 
 text_no_read_fault : (kind : FileKind) → refusal_status kind ≡ ReadFault → ⊥
-text_no_read_fault = no_text ReadFault (λ q. cc) (λ q. cc) (λ q. cc) (λ q. cc)
+text_no_read_fault = no_text ReadFault (λ q. cc) (λ q. cc) (λ q. cc) (λ q. cc) (λ q. cc)
 
 text_no_write_fault : (kind : FileKind) → refusal_status kind ≡ WriteFault → ⊥
-text_no_write_fault = no_text WriteFault (λ q. cc) (λ q. cc) (λ q. cc) (λ q. cc)
+text_no_write_fault = no_text WriteFault (λ q. cc) (λ q. cc) (λ q. cc) (λ q. cc) (λ q. cc)
 
 text_not_long : (kind : FileKind) → refusal_status kind ≡ TooLong → ⊥
-text_not_long = no_text TooLong (λ q. cc) (λ q. cc) (λ q. cc) (λ q. cc)
+text_not_long = no_text TooLong (λ q. cc) (λ q. cc) (λ q. cc) (λ q. cc) (λ q. cc)
 
 text_not_ok : (kind : FileKind) → refusal_status kind ≡ ok_status → ⊥
-text_not_ok = no_text ok_status (λ q. cc) (λ q. cc) (λ q. cc) (λ q. cc)
+text_not_ok = no_text ok_status (λ q. cc) (λ q. cc) (λ q. cc) (λ q. cc) (λ q. cc)
 
 text_no_memory : (kind : FileKind) → refusal_status kind ≡ Memory → ⊥
-text_no_memory = no_text Memory (λ q. cc) (λ q. cc) (λ q. cc) (λ q. cc)
+text_no_memory = no_text Memory (λ q. cc) (λ q. cc) (λ q. cc) (λ q. cc) (λ q. cc)
+
+text_no_schedule : (kind : FileKind) → refusal_status kind ≡ NoSchedule → ⊥
+text_no_schedule = no_text NoSchedule (λ q. cc) (λ q. cc) (λ q. cc) (λ q. cc) (λ q. cc)
 
 text_is_built : (kind : FileKind) → IsBuiltAnswer (refusal_status kind)
 text_is_built Image = tt
-text_is_built Program = tt
 text_is_built Report = tt
 text_is_built Extension = tt
+text_is_built Sheet = tt
 text_is_built source_kind = tt
 
 -- the status of a file's refusal, by what is so of each
@@ -61,28 +67,28 @@ of_first P f l t files R command words status line h =
     of_refusal P f l t files R found.0 found.1 status line found.2
 
 -- the status of a command's answer, by what is so of each
-of_answer : (P : Status → Type 0) → P ok_status → P Source → (command : Command) (vs : List Reading) (status : Status) (bytes : List ℕ) → IsAnswer command vs status bytes → P status
-of_answer P o s command vs status bytes (inl own) = own_status P s command vs status bytes own
-of_answer P o s command vs status bytes (inr out) = subst P (sym out.0) o
+of_answer : (P : Status → Type 0) → P ok_status → P Source → P extension_status → P NoSchedule → (command : Command) (vs : List Reading) (status : Status) (bytes : List ℕ) → IsAnswer command vs status bytes → P status
+of_answer P o s x n command vs status bytes (inl own) = own_status P s x n command vs status bytes own
+of_answer P o s x n command vs status bytes (inr out) = subst P (sym out.0) o
 
 -- a status that is due, by what is so of each
-of_due : (P : Status → Type 0) → P ok_status → P Usage → P ReadFault → P TooLong → ((kind : FileKind) → P (refusal_status kind)) → (files : Option NamedFiles) (R : List ℕ → Type 0) (words : List (List ℕ)) (status : Status) (bytes : List ℕ) → IsDue files R words status bytes → P status
-of_due P o u f l t files R words _ _ (due_usage none) = u
-of_due P o u f l t files R words _ _ (due_file command status line is first) = of_first P f l t files R command words status line first
-of_due P o u f l t files R words _ _ (due_answer command vs status bytes is read answer) = of_answer P o (t source_kind) command vs status bytes answer
+of_due : (P : Status → Type 0) → P ok_status → P Usage → P ReadFault → P TooLong → ((kind : FileKind) → P (refusal_status kind)) → P NoSchedule → (files : Option NamedFiles) (R : List ℕ → Type 0) (words : List (List ℕ)) (status : Status) (bytes : List ℕ) → IsDue files R words status bytes → P status
+of_due P o u f l t n files R words _ _ (due_usage none) = u
+of_due P o u f l t n files R words _ _ (due_file command status line is first) = of_first P f l t files R command words status line first
+of_due P o u f l t n files R words _ _ (due_answer command vs status bytes is read answer) = of_answer P o (t source_kind) (t Extension) n command vs status bytes answer
 
 due_no_fault : (files : Option NamedFiles) (R : List ℕ → Type 0) (words : List (List ℕ)) (status : Status) (bytes : List ℕ) → IsDue files R words status bytes → status ≡ WriteFault → ⊥
-due_no_fault = of_due (λ s. s ≡ WriteFault → ⊥) (λ e. cc) (λ e. cc) (λ e. cc) (λ e. cc) text_no_write_fault
+due_no_fault = of_due (λ s. s ≡ WriteFault → ⊥) (λ e. cc) (λ e. cc) (λ e. cc) (λ e. cc) text_no_write_fault (λ e. cc)
 
 due_no_memory : (files : Option NamedFiles) (R : List ℕ → Type 0) (words : List (List ℕ)) (status : Status) (bytes : List ℕ) → IsDue files R words status bytes → status ≡ Memory → ⊥
-due_no_memory = of_due (λ s. s ≡ Memory → ⊥) (λ e. cc) (λ e. cc) (λ e. cc) (λ e. cc) text_no_memory
+due_no_memory = of_due (λ s. s ≡ Memory → ⊥) (λ e. cc) (λ e. cc) (λ e. cc) (λ e. cc) text_no_memory (λ e. cc)
 
 -- ---- what is due, by its status
 usage_of : (files : Option NamedFiles) (R : List ℕ → Type 0) (words : List (List ℕ)) (before now : Option (List ℕ)) (status : Status) (bytes : List ℕ) → IsDue files R words status bytes → status ≡ Usage → Appends before now bytes → UsageAnswer words before now
 usage_of files R words before now _ _ (due_usage none) e a = (none, a)
 usage_of files R words before now _ _ (due_file command status line is first) e a =
     absurd (of_first (λ s. s ≡ Usage → ⊥) (λ q. cc) (λ q. cc) text_no_usage files R command words status line first e)
-usage_of files R words before now _ _ (due_answer command vs status bytes is read answer) e a = absurd (of_answer (λ s. s ≡ Usage → ⊥) (λ q. cc) (λ q. cc) command vs status bytes answer e)
+usage_of files R words before now _ _ (due_answer command vs status bytes is read answer) e a = absurd (of_answer (λ s. s ≡ Usage → ⊥) (λ q. cc) (λ q. cc) (λ q. cc) (λ q. cc) command vs status bytes answer e)
 
 fault_of : (files : Option NamedFiles) (counts counts_now : List ℕ → ℕ) (before now : Option (List ℕ)) (kind : FileKind) (name : List ℕ) (status : Status) (line : List ℕ) → IsRefusedFile files (RoseIn counts counts_now) kind name status line → status ≡ ReadFault → Appends before now line
     → RoseIn counts counts_now name × Appends before now (file_line (codes "ReadFault") name)
@@ -96,7 +102,7 @@ read_fault_of files counts counts_now words before now _ _ (due_file command sta
     let found = at_found files (λ kind name. IsRefusedFile files (RoseIn counts counts_now) kind name status line) (slots_of command) (behind words) first in
     let cause = fault_of files counts counts_now before now found.0 found.1 status line found.2 e a in
     record { command = command; kind = found.0; name = found.1; command_is = is; file = found.3; rose = cause.0; line = cause.1 }
-read_fault_of files counts counts_now words before now _ _ (due_answer command vs status bytes is read answer) e a = absurd (of_answer (λ s. s ≡ ReadFault → ⊥) (λ q. cc) (λ q. cc) command vs status bytes answer e)
+read_fault_of files counts counts_now words before now _ _ (due_answer command vs status bytes is read answer) e a = absurd (of_answer (λ s. s ≡ ReadFault → ⊥) (λ q. cc) (λ q. cc) (λ q. cc) (λ q. cc) command vs status bytes answer e)
 
 long_of : (files : Option NamedFiles) (R : List ℕ → Type 0) (before now : Option (List ℕ)) (kind : FileKind) (name : List ℕ) (status : Status) (line : List ℕ) → IsRefusedFile files R kind name status line → status ≡ TooLong → Appends before now line
     → IfSome (told_file files name) (λ file. most_bytes < length file) × Appends before now (file_line (codes "TooLong") name)
@@ -110,7 +116,7 @@ too_long_of files R words before now _ _ (due_file command status line is first)
     let found = at_found files (λ kind name. IsRefusedFile files R kind name status line) (slots_of command) (behind words) first in
     let cause = long_of files R before now found.0 found.1 status line found.2 e a in
     record { command = command; kind = found.0; name = found.1; command_is = is; file = found.3; long = cause.0; line = cause.1 }
-too_long_of files R words before now _ _ (due_answer command vs status bytes is read answer) e a = absurd (of_answer (λ s. s ≡ TooLong → ⊥) (λ q. cc) (λ q. cc) command vs status bytes answer e)
+too_long_of files R words before now _ _ (due_answer command vs status bytes is read answer) e a = absurd (of_answer (λ s. s ≡ TooLong → ⊥) (λ q. cc) (λ q. cc) (λ q. cc) (λ q. cc) command vs status bytes answer e)
 
 bad_of : (files : Option NamedFiles) (R : List ℕ → Type 0) (words : List (List ℕ)) (wanted : Status) (before now : Option (List ℕ)) (command : Command) (found : FileKind) (name : List ℕ) (status : Status) (line : List ℕ) → command_of words ≡ Some command → IsRefusedFile files R found name status line
     → IsFileOf files found name (slots_of command) (behind words) → status ≡ wanted → (ReadFault ≡ wanted → ⊥) → (TooLong ≡ wanted → ⊥) → Appends before now line → TextAnswer files words wanted before now
@@ -131,19 +137,19 @@ bad_of files R words wanted before now command found name _ _ is (bad_text bytes
       written = a;
     }
 
-text_of_kind : (files : Option NamedFiles) (R : List ℕ → Type 0) (words : List (List ℕ)) (kind : FileKind) → (refusal_status kind ≡ Source → ⊥) → (before now : Option (List ℕ)) (status : Status) (bytes : List ℕ) → IsDue files R words status bytes → status ≡ refusal_status kind → Appends before now bytes → TextAnswer files words (refusal_status kind) before now
-text_of_kind files R words kind apart before now _ _ (due_usage none) e a = absurd (text_no_usage kind (sym e))
-text_of_kind files R words kind apart before now _ _ (due_file command status line is first) e a =
+text_of_kind : (files : Option NamedFiles) (R : List ℕ → Type 0) (words : List (List ℕ)) (kind : FileKind) → (refusal_status kind ≡ Source → ⊥) → (refusal_status kind ≡ extension_status → ⊥) → (before now : Option (List ℕ)) (status : Status) (bytes : List ℕ) → IsDue files R words status bytes → status ≡ refusal_status kind → Appends before now bytes → TextAnswer files words (refusal_status kind) before now
+text_of_kind files R words kind apart other before now _ _ (due_usage none) e a = absurd (text_no_usage kind (sym e))
+text_of_kind files R words kind apart other before now _ _ (due_file command status line is first) e a =
     let found = at_found files (λ other name. IsRefusedFile files R other name status line) (slots_of command) (behind words) first in
     bad_of files R words (refusal_status kind) before now command found.0 found.1 status line is found.2 found.3 e (λ q. text_no_read_fault kind (sym q)) (λ q. text_not_long kind (sym q)) a
-text_of_kind files R words kind apart before now _ _ (due_answer command vs status bytes is read answer) e a =
-    absurd (of_answer (λ s. s ≡ refusal_status kind → ⊥) (λ q. text_not_ok kind (sym q)) (λ q. apart (sym q)) command vs status bytes answer e)
+text_of_kind files R words kind apart other before now _ _ (due_answer command vs status bytes is read answer) e a =
+    absurd (of_answer (λ s. s ≡ refusal_status kind → ⊥) (λ q. text_not_ok kind (sym q)) (λ q. apart (sym q)) (λ q. other (sym q)) (λ q. text_no_schedule kind (sym q)) command vs status bytes answer e)
 
 output_of : (files : Option NamedFiles) (R : List ℕ → Type 0) (words : List (List ℕ)) (before now : Option (List ℕ)) (status : Status) (bytes : List ℕ) → IsDue files R words status bytes → status ≡ ok_status → Appends before now bytes → OutputAnswer files words before now
 output_of files R words before now _ _ (due_usage none) e a = absurd cc
 output_of files R words before now _ _ (due_file command status line is first) e a =
     absurd (of_first (λ s. s ≡ ok_status → ⊥) (λ q. cc) (λ q. cc) text_not_ok files R command words status line first e)
-output_of files R words before now _ _ (due_answer command vs status bytes is read (inl own)) e a = absurd (own_status (λ s. s ≡ ok_status → ⊥) (λ q. cc) command vs status bytes own e)
+output_of files R words before now _ _ (due_answer command vs status bytes is read (inl own)) e a = absurd (own_status (λ s. s ≡ ok_status → ⊥) (λ q. cc) (λ q. cc) (λ q. cc) command vs status bytes own e)
 output_of files R words before now _ _ (due_answer command vs status bytes is read (inr out)) e a = record { command = command; values = vs; text = bytes; command_is = is; read = read; output = out.1; written = a }
 
 -- a source's file is never refused by its text alone
@@ -151,9 +157,9 @@ no_source_file : (files : Option NamedFiles) (R : List ℕ → Type 0) (kind : F
 no_source_file files R kind name _ _ (not_read rose) e = cc
 no_source_file files R kind name _ _ (too_long long) e = cc
 no_source_file files R Image name _ _ (bad_text bytes line file bad) e = cc
-no_source_file files R Program name _ _ (bad_text bytes line file bad) e = cc
 no_source_file files R Report name _ _ (bad_text bytes line file bad) e = cc
 no_source_file files R Extension name _ _ (bad_text bytes line file bad) e = cc
+no_source_file files R Sheet name _ _ (bad_text bytes line file bad) e = cc
 no_source_file files R source_kind name _ _ (bad_text bytes line file bad) e = bad
 
 source_answer_of : (files : Option NamedFiles) (R : List ℕ → Type 0) (words : List (List ℕ)) (before now : Option (List ℕ)) (status : Status) (bytes : List ℕ) → IsDue files R words status bytes → status ≡ Source → Appends before now bytes → SourceAnswer files words before now
@@ -161,7 +167,8 @@ source_answer_of files R words before now _ _ (due_usage none) e a = absurd cc
 source_answer_of files R words before now _ _ (due_file command status line is first) e a =
     let found = at_found files (λ kind name. IsRefusedFile files R kind name status line) (slots_of command) (behind words) first in
     absurd (no_source_file files R found.0 found.1 status line found.2 e)
-source_answer_of files R words before now _ _ (due_answer command vs status bytes is read (inl own)) e a =
+source_answer_of files R words before now _ _ (due_answer command vs status bytes is read (inl (inr own))) e a = absurd (told_status (λ s. s ≡ Source → ⊥) (λ q. cc) (λ q. cc) own.error status bytes own.told e)
+source_answer_of files R words before now _ _ (due_answer command vs status bytes is read (inl (inl own))) e a =
     record {
       values = vs;
       extension = own.extension;
@@ -175,6 +182,52 @@ source_answer_of files R words before now _ _ (due_answer command vs status byte
       written = subst (λ l. Appends before now l) own.line_is a;
     }
 source_answer_of files R words before now _ _ (due_answer command vs status bytes is read (inr out)) e a = absurd (let ok = out.0 in grind (arith, ok, e))
+
+-- ---- behaviours that are not scheduled
+unscheduled : (files : Option NamedFiles) (words : List (List ℕ)) (before now : Option (List ℕ)) (command : Command) (vs : List Reading) (status : Status) (bytes text : List ℕ) (error : List ℕ → TextErr) → command_of words ≡ Some command → AreRead files (slots_of command) (behind words) vs
+    → (own : IsScheduleRefusal command vs status bytes) → own.error ≡ error text → bytes ≡ text → Appends before now bytes → UnscheduledAnswer files words error before now
+unscheduled files words before now command vs status bytes text error is read own e same a = record {
+  command = command;
+  schedules = own.schedules;
+  values = vs;
+  extension = own.extension;
+  sheet = own.sheet;
+  text = text;
+  command_is = is;
+  read = read;
+  values_are = own.values_are;
+  refused = subst (λ f. IsRefusedSchedule own.extension own.sheet f) e own.refused;
+  written = subst (λ l. Appends before now l) same a;
+}
+
+none_by : (files : Option NamedFiles) (words : List (List ℕ)) (before now : Option (List ℕ)) (command : Command) (vs : List Reading) (status : Status) (bytes : List ℕ) (error : TextErr) → command_of words ≡ Some command → AreRead files (slots_of command) (behind words) vs
+    → (own : IsScheduleRefusal command vs status bytes) → own.error ≡ error → IsToldAs error status bytes → status ≡ NoSchedule → Appends before now bytes → NoScheduleAnswer files words before now
+none_by files words before now command vs status bytes (T.NoSchedule text) is read own same told e a = unscheduled files words before now command vs status bytes text (λ t. T.NoSchedule t) is read own same told.1 a
+none_by files words before now command vs status bytes (T.TooManyOps text) is read own same told e a = absurd (let x = sym told.0 ∙ e in cc)
+none_by files words before now command vs status bytes T.Memory is read own same told e a = absurd told
+
+large_by : (files : Option NamedFiles) (words : List (List ℕ)) (before now : Option (List ℕ)) (command : Command) (vs : List Reading) (status : Status) (bytes : List ℕ) (error : TextErr) → command_of words ≡ Some command → AreRead files (slots_of command) (behind words) vs
+    → (own : IsScheduleRefusal command vs status bytes) → own.error ≡ error → IsToldAs error status bytes → status ≡ extension_status → Appends before now bytes → UnscheduledAnswer files words (λ text. T.TooManyOps text) before now
+large_by files words before now command vs status bytes (T.TooManyOps text) is read own same told e a = unscheduled files words before now command vs status bytes text (λ t. T.TooManyOps t) is read own same told.1 a
+large_by files words before now command vs status bytes (T.NoSchedule text) is read own same told e a = absurd (let x = sym told.0 ∙ e in cc)
+large_by files words before now command vs status bytes T.Memory is read own same told e a = absurd told
+
+no_schedule_of : (files : Option NamedFiles) (R : List ℕ → Type 0) (words : List (List ℕ)) (before now : Option (List ℕ)) (status : Status) (bytes : List ℕ) → IsDue files R words status bytes → status ≡ NoSchedule → Appends before now bytes → NoScheduleAnswer files words before now
+no_schedule_of files R words before now _ _ (due_usage none) e a = absurd cc
+no_schedule_of files R words before now _ _ (due_file command status line is first) e a =
+    absurd (of_first (λ s. s ≡ NoSchedule → ⊥) (λ q. cc) (λ q. cc) text_no_schedule files R command words status line first e)
+no_schedule_of files R words before now _ _ (due_answer command vs status bytes is read (inl (inl own))) e a = absurd (let x = sym own.status_is ∙ e in cc)
+no_schedule_of files R words before now _ _ (due_answer command vs status bytes is read (inl (inr own))) e a = none_by files words before now command vs status bytes own.error is read own refl own.told e a
+no_schedule_of files R words before now _ _ (due_answer command vs status bytes is read (inr out)) e a = absurd (let ok = out.0 in grind (arith, ok, e))
+
+extension_of_due : (files : Option NamedFiles) (R : List ℕ → Type 0) (words : List (List ℕ)) (before now : Option (List ℕ)) (status : Status) (bytes : List ℕ) → IsDue files R words status bytes → status ≡ extension_status → Appends before now bytes → ExtensionAnswer files words before now
+extension_of_due files R words before now _ _ (due_usage none) e a = absurd cc
+extension_of_due files R words before now _ _ (due_file command status line is first) e a =
+    let found = at_found files (λ other name. IsRefusedFile files R other name status line) (slots_of command) (behind words) first in
+    inl (bad_of files R words extension_status before now command found.0 found.1 status line is found.2 found.3 e (λ q. cc) (λ q. cc) a)
+extension_of_due files R words before now _ _ (due_answer command vs status bytes is read (inl (inl own))) e a = absurd (let x = sym own.status_is ∙ e in cc)
+extension_of_due files R words before now _ _ (due_answer command vs status bytes is read (inl (inr own))) e a = inr (large_by files words before now command vs status bytes own.error is read own refl own.told e a)
+extension_of_due files R words before now _ _ (due_answer command vs status bytes is read (inr out)) e a = absurd (let ok = out.0 in grind (arith, ok, e))
 
 -- ---- from the outcome
 module _ (files : Option NamedFiles) (counts counts_now : List ℕ → ℕ) (words : List (List ℕ)) (before now : Option (List ℕ)) (faults faults_now : ℕ) (result : Status)
@@ -199,13 +252,19 @@ module _ (files : Option NamedFiles) (counts counts_now : List ℕ → ℕ) (wor
   too_long_answer e = let w = written (λ q. grind (arith, e, q)) (λ q. grind (arith, e, q)) in too_long_of files (RoseIn counts counts_now) words before now result w.0 w.1 e w.2
 
   pub image : result ≡ image_status → TextAnswer files words image_status before now
-  image e = let w = written (λ q. grind (arith, e, q)) (λ q. grind (arith, e, q)) in text_of_kind files (RoseIn counts counts_now) words Image (λ q. cc) before now result w.0 w.1 e w.2
+  image e = let w = written (λ q. grind (arith, e, q)) (λ q. grind (arith, e, q)) in text_of_kind files (RoseIn counts counts_now) words Image (λ q. cc) (λ q. cc) before now result w.0 w.1 e w.2
 
   pub certificate : result ≡ Certificate → TextAnswer files words Certificate before now
-  certificate e = let w = written (λ q. grind (arith, e, q)) (λ q. grind (arith, e, q)) in text_of_kind files (RoseIn counts counts_now) words Report (λ q. cc) before now result w.0 w.1 e w.2
+  certificate e = let w = written (λ q. grind (arith, e, q)) (λ q. grind (arith, e, q)) in text_of_kind files (RoseIn counts counts_now) words Report (λ q. cc) (λ q. cc) before now result w.0 w.1 e w.2
 
-  pub extension : result ≡ extension_status → TextAnswer files words extension_status before now
-  extension e = let w = written (λ q. grind (arith, e, q)) (λ q. grind (arith, e, q)) in text_of_kind files (RoseIn counts counts_now) words Extension (λ q. cc) before now result w.0 w.1 e w.2
+  pub extension : result ≡ extension_status → ExtensionAnswer files words before now
+  extension e = let w = written (λ q. grind (arith, e, q)) (λ q. grind (arith, e, q)) in extension_of_due files (RoseIn counts counts_now) words before now result w.0 w.1 e w.2
+
+  pub sheet : result ≡ sheet_status → TextAnswer files words sheet_status before now
+  sheet e = let w = written (λ q. grind (arith, e, q)) (λ q. grind (arith, e, q)) in text_of_kind files (RoseIn counts counts_now) words Sheet (λ q. cc) (λ q. cc) before now result w.0 w.1 e w.2
+
+  pub no_schedule : result ≡ NoSchedule → NoScheduleAnswer files words before now
+  no_schedule e = let w = written (λ q. grind (arith, e, q)) (λ q. grind (arith, e, q)) in no_schedule_of files (RoseIn counts counts_now) words before now result w.0 w.1 e w.2
 
   pub source : result ≡ Source → SourceAnswer files words before now
   source e = let w = written (λ q. grind (arith, e, q)) (λ q. grind (arith, e, q)) in source_answer_of files (RoseIn counts counts_now) words before now result w.0 w.1 e w.2
@@ -235,7 +294,7 @@ module _ (files : Option NamedFiles) (counts counts_now : List ℕ → ℕ) (wor
   built = elim outcome [
     | inl memory ↦ subst IsBuiltAnswer (sym memory.1) tt
     | inr due ↦ elim due.3 [
-      | inl whole ↦ subst IsBuiltAnswer (sym whole.0) (of_due IsBuiltAnswer tt tt tt tt text_is_built files (RoseIn counts counts_now) words due.0 due.1 due.2)
+      | inl whole ↦ subst IsBuiltAnswer (sym whole.0) (of_due IsBuiltAnswer tt tt tt tt text_is_built tt files (RoseIn counts counts_now) words due.0 due.1 due.2)
       | inr front ↦ subst IsBuiltAnswer (sym front.0) tt
     ]
   ]

@@ -5,23 +5,28 @@ use Rattle.ix_io.specs.Limits.{most_bytes}
 use Rattle.ix_io.specs.Shelf.{NamedFiles, told_file, file_named}
 use Rattle.ix_cert.proofs.Verdicts.{faultless_not_refused}
 use Rattle.ix_tool.specs.declared.status.Status.{Status}
-use Rattle.ix_tool.specs.declared.status.Status.TheVariants.{Usage, ReadFault, Source}
-use Rattle.ix_tool.specs.declared.command.Command.TheVariants.{Assemble}
+use Rattle.ix_tool.specs.declared.status.Status.TheVariants.{Usage, ReadFault, Source, Extension as extension_status, NoSchedule}
+use Rattle.ix_tool.specs.declared.command.Command.TheVariants.{RunImage, Check, Certify, Assemble, Seq, Schedule, Build}
 use Rattle.ix_tool.specs.declared.command.Command.{Command}
 use Rattle.ix_tool.specs.declared.command.FileKind.{FileKind}
-use Rattle.ix_tool.specs.declared.command.FileKind.TheVariants.{Image, Program, Report, Extension, Source as source_kind}
+use Rattle.ix_tool.specs.declared.command.FileKind.TheVariants.{Image, Report, Extension, Sheet, Source as source_kind}
 use Rattle.ix_tool.specs.declared.command.Slot.{Slot}
 use Rattle.ix_tool.specs.declared.command.Slot.TheVariants.{Number, File}
-use Rattle.ix_tool.specs.Readings.{Reading, number_read, image_read, report_read, extension_read, source_read}
-use Rattle.rv_asm.specs.ImageText.{IsImageText}
-use Rattle.ix_tool.specs.BuiltImages.{AllBuilt}
+use Rattle.ix_tool.specs.Readings.{Reading, number_read, image_read, report_read, extension_read, sheet_read, source_read}
 use Rattle.ix_tool.specs.CommandLine.{command_of, slots_of, behind, number_within}
-use Rattle.ix_tool.specs.CommandOutput.{IsRefusedImage, bad_line, unbuilt_line, IsRefusedText, IsReadAs, IsFile, IsRead, AreRead, IsRefusedFile, not_read, too_long, bad_text, IsFirstRefused, IsOwnRefusal, IsOutput, IsAnswer, IsDue, due_usage, due_file, due_answer, NoneRises, NoFileRises}
+use Rattle.ix_tool.specs.CommandOutput.{IsRefusedText, IsReadAs, IsFile, IsRead, AreRead, IsRefusedFile, not_read, too_long, bad_text, IsFirstRefused, IsSourceRefusal, IsToldAs, Schedules, IsScheduleRefusal, IsOwnRefusal, IsOutput, IsAnswer, IsDue, due_usage, due_file, due_answer, NoneRises, NoFileRises}
 use Rattle.ix_listing.proofs.OneExtension.{same_extension, extension_not_refused}
 use Rattle.rv_asm.proofs.ImageLemmas.{image_not_refused}
 use Rattle.rv_asm.proofs.Placing.{only_memory}
 use Rattle.rv_asm.specs.Sources.{assembled}
-use Rattle.ix_tool.proofs.BuiltWords.{built_not_refused}
+use Rattle.ix_sheet.specs.declared.sheet.Sheet.{Sheet as Datasheet}
+use Rattle.ix_extension.specs.Extensions.{ExtensionTree}
+use Rattle.ix_schedules.specs.declared.text.TextErr.{TextErr}
+use Rattle.ix_schedules.specs.declared.text.TextErr.TheVariants as T
+use Rattle.ix_schedules.specs.ScheduleText.{IsRefusedText as IsRefusedSchedule}
+use Rattle.ix_schedules.proofs.OneAnswer.{scheduled_not_refused, one_refusal}
+use Rattle.ix_modules.proofs.OneText.{built_not_refused as modules_not_refused}
+use Rattle.ix_tool.proofs.OneSheet.{one_sheet, sheet_not_refused}
 
 -- no value is some and none; one value is some of one thing
 pub both : {A : Type 0} (o : Option A) (a : A) → o ≡ Some a → o ≡ None → ⊥
@@ -31,79 +36,89 @@ pub one : {A : Type 0} (o : Option A) (a b : A) → o ≡ Some a → o ≡ Some 
 one o a b s t = grind (arith, s, t)
 
 -- ---- a text is read as one value, or refused
-image_apart : (bytes image : List ℕ) (number : ℕ) → IsImageText bytes image → AllBuilt image → IsRefusedImage bytes number → ⊥
-image_apart bytes image _ t b (bad_line number bad) = image_not_refused bytes image number t bad
-image_apart bytes image _ t b (unbuilt_line other number u bad) = built_not_refused bytes image number t.words_are b bad
-
 text_apart : (kind : FileKind) (bytes line : List ℕ) (v : Reading) → IsReadAs kind bytes v → IsRefusedText kind bytes line → ⊥
-text_apart Image bytes line (image_read image) r bad = image_apart bytes image bad.0 r.0 r.1 bad.1
+text_apart Image bytes line (image_read image) r bad = image_not_refused bytes image bad.0 r bad.1
 text_apart Image bytes line (number_read n) r bad = r
 text_apart Image bytes line report_read r bad = r
 text_apart Image bytes line (extension_read x) r bad = r
+text_apart Image bytes line (sheet_read x) r bad = r
 text_apart Image bytes line (source_read x) r bad = r
-text_apart Program bytes line (image_read image) r bad = image_not_refused bytes image bad.0 r bad.1
-text_apart Program bytes line (number_read n) r bad = r
-text_apart Program bytes line report_read r bad = r
-text_apart Program bytes line (extension_read x) r bad = r
-text_apart Program bytes line (source_read x) r bad = r
 text_apart Report bytes line report_read r bad = faultless_not_refused bytes bad.0 r bad.1
 text_apart Report bytes line (image_read image) r bad = r
 text_apart Report bytes line (number_read n) r bad = r
 text_apart Report bytes line (extension_read x) r bad = r
+text_apart Report bytes line (sheet_read x) r bad = r
 text_apart Report bytes line (source_read x) r bad = r
 text_apart Extension bytes line (extension_read x) r bad = extension_not_refused bytes x bad.0 r bad.1
 text_apart Extension bytes line (image_read image) r bad = r
 text_apart Extension bytes line (number_read n) r bad = r
 text_apart Extension bytes line report_read r bad = r
+text_apart Extension bytes line (sheet_read x) r bad = r
 text_apart Extension bytes line (source_read x) r bad = r
+text_apart Sheet bytes line (sheet_read x) r bad = sheet_not_refused bytes x bad.0 r.sheet_is bad.1
+text_apart Sheet bytes line (image_read image) r bad = r
+text_apart Sheet bytes line (number_read n) r bad = r
+text_apart Sheet bytes line report_read r bad = r
+text_apart Sheet bytes line (extension_read x) r bad = r
+text_apart Sheet bytes line (source_read x) r bad = r
 text_apart source_kind bytes line v r bad = bad
 
 text_one : (kind : FileKind) (bytes : List ℕ) (v u : Reading) → IsReadAs kind bytes v → IsReadAs kind bytes u → v ≡ u
-text_one Image bytes (image_read i) (image_read j) r s = ap (λ x. image_read x) (r.0.words_are ∙ sym s.0.words_are)
+text_one Image bytes (image_read i) (image_read j) r s = ap (λ x. image_read x) (r.words_are ∙ sym s.words_are)
 text_one Image bytes (image_read i) (number_read n) r s = absurd s
 text_one Image bytes (image_read i) report_read r s = absurd s
 text_one Image bytes (image_read i) (extension_read y) r s = absurd s
 text_one Image bytes (image_read i) (source_read y) r s = absurd s
+text_one Image bytes (image_read i) (sheet_read y) r s = absurd s
 text_one Image bytes (number_read n) u r s = absurd r
 text_one Image bytes report_read u r s = absurd r
 text_one Image bytes (extension_read x) u r s = absurd r
 text_one Image bytes (source_read x) u r s = absurd r
-text_one Program bytes (image_read i) (image_read j) r s = ap (λ x. image_read x) (r.words_are ∙ sym s.words_are)
-text_one Program bytes (image_read i) (number_read n) r s = absurd s
-text_one Program bytes (image_read i) report_read r s = absurd s
-text_one Program bytes (image_read i) (extension_read y) r s = absurd s
-text_one Program bytes (image_read i) (source_read y) r s = absurd s
-text_one Program bytes (number_read n) u r s = absurd r
-text_one Program bytes report_read u r s = absurd r
-text_one Program bytes (extension_read x) u r s = absurd r
-text_one Program bytes (source_read x) u r s = absurd r
+text_one Image bytes (sheet_read x) u r s = absurd r
 text_one Report bytes report_read report_read r s = refl
 text_one Report bytes report_read (image_read i) r s = absurd s
 text_one Report bytes report_read (number_read n) r s = absurd s
 text_one Report bytes report_read (extension_read y) r s = absurd s
 text_one Report bytes report_read (source_read y) r s = absurd s
+text_one Report bytes report_read (sheet_read y) r s = absurd s
 text_one Report bytes (number_read n) u r s = absurd r
 text_one Report bytes (image_read i) u r s = absurd r
 text_one Report bytes (extension_read x) u r s = absurd r
 text_one Report bytes (source_read x) u r s = absurd r
+text_one Report bytes (sheet_read x) u r s = absurd r
 text_one Extension bytes (extension_read x) (extension_read y) r s = ap (λ z. extension_read z) (same_extension bytes x y r s)
 text_one Extension bytes (extension_read x) (image_read i) r s = absurd s
 text_one Extension bytes (extension_read x) (number_read n) r s = absurd s
 text_one Extension bytes (extension_read x) report_read r s = absurd s
 text_one Extension bytes (extension_read x) (source_read y) r s = absurd s
+text_one Extension bytes (extension_read x) (sheet_read y) r s = absurd s
 text_one Extension bytes (image_read i) u r s = absurd r
 text_one Extension bytes (number_read n) u r s = absurd r
 text_one Extension bytes report_read u r s = absurd r
 text_one Extension bytes (source_read x) u r s = absurd r
+text_one Extension bytes (sheet_read x) u r s = absurd r
 text_one source_kind bytes (source_read x) (source_read y) r s = ap (λ z. source_read z) (r ∙ sym s)
 text_one source_kind bytes (source_read x) (image_read i) r s = absurd s
 text_one source_kind bytes (source_read x) (number_read n) r s = absurd s
 text_one source_kind bytes (source_read x) report_read r s = absurd s
 text_one source_kind bytes (source_read x) (extension_read y) r s = absurd s
+text_one source_kind bytes (source_read x) (sheet_read y) r s = absurd s
 text_one source_kind bytes (image_read i) u r s = absurd r
 text_one source_kind bytes (number_read n) u r s = absurd r
 text_one source_kind bytes report_read u r s = absurd r
 text_one source_kind bytes (extension_read x) u r s = absurd r
+text_one source_kind bytes (sheet_read x) u r s = absurd r
+text_one Sheet bytes (sheet_read x) (sheet_read y) r s = ap (λ z. sheet_read z) (one_sheet bytes x y r s)
+text_one Sheet bytes (sheet_read x) (image_read i) r s = absurd s
+text_one Sheet bytes (sheet_read x) (number_read n) r s = absurd s
+text_one Sheet bytes (sheet_read x) report_read r s = absurd s
+text_one Sheet bytes (sheet_read x) (extension_read y) r s = absurd s
+text_one Sheet bytes (sheet_read x) (source_read y) r s = absurd s
+text_one Sheet bytes (image_read i) u r s = absurd r
+text_one Sheet bytes (number_read n) u r s = absurd r
+text_one Sheet bytes report_read u r s = absurd r
+text_one Sheet bytes (extension_read x) u r s = absurd r
+text_one Sheet bytes (source_read x) u r s = absurd r
 
 -- ---- a told file has one text
 same_file : (files : Option NamedFiles) (name a b : List ℕ) → files ≢ None → IsFile files name a → IsFile files name b → a ≡ b
@@ -191,21 +206,80 @@ none_rises (File kind ∷ slots) [] = tt
 none_rises (Number most ∷ slots) (word ∷ words) = none_rises slots words
 none_rises (File kind ∷ slots) (word ∷ words) = (λ rose. rose, none_rises slots words)
 
--- ---- a command's own refusals, which are those of sources
+-- ---- a command's own refusals, of sources and of behaviours
+pub told_status : (P : Status → Type 0) → P extension_status → P NoSchedule → (e : TextErr) (status : Status) (line : List ℕ) → IsToldAs e status line → P status
+told_status P x n (T.TooManyOps text) status line told = subst P (sym told.0) x
+told_status P x n (T.NoSchedule text) status line told = subst P (sym told.0) n
+told_status P x n T.Memory status line told = absurd told
+
 -- their statuses, by what is so of each
-pub own_status : (P : Status → Type 0) → P Source → (command : Command) (vs : List Reading) (status : Status) (line : List ℕ) → IsOwnRefusal command vs status line → P status
-own_status P s command vs status line own = subst P (sym own.status_is) s
+pub own_status : (P : Status → Type 0) → P Source → P extension_status → P NoSchedule → (command : Command) (vs : List Reading) (status : Status) (line : List ℕ) → IsOwnRefusal command vs status line → P status
+own_status P s x n command vs status line (inl own) = subst P (sym own.status_is) s
+own_status P s x n command vs status line (inr own) = told_status P x n own.error status line own.told
 
 -- a source that is refused has no words
-own_apart : (command : Command) (vs : List Reading) (s : Status) (a b : List ℕ) → IsOwnRefusal command vs s a → IsOutput command vs b → ⊥
-own_apart command vs s a b own out =
+source_apart : (command : Command) (vs : List Reading) (s : Status) (a b : List ℕ) → IsSourceRefusal command vs s a → IsOutput command vs b → ⊥
+source_apart command vs s a b own out =
     let there : IsOutput Assemble (extension_read own.extension ∷ source_read own.source ∷ []) b =
     subst (λ us. IsOutput Assemble us b) own.values_are (subst (λ c. IsOutput c vs b) own.command_is out) in
     own.no_memory (only_memory (assembled own.extension own.source) own.error there.0 own.refused there.1)
 
+told_some : (e : TextErr) (status : Status) (line : List ℕ) → IsToldAs e status line → e ≢ T.Memory
+told_some (T.TooManyOps text) status line told e = cc
+told_some (T.NoSchedule text) status line told e = cc
+told_some T.Memory status line told e = told
+
+-- an extension of which a behaviour is refused has no report, and no modules
+sheet_apart : (command : Command) (x : ExtensionTree) (sheet : Datasheet) (b : List ℕ) (e : TextErr) → Schedules command → e ≢ T.Memory → IsOutput command (extension_read x ∷ sheet_read sheet ∷ []) b → IsRefusedSchedule x sheet e → ⊥
+sheet_apart Schedule x sheet b e h some out refused = scheduled_not_refused x sheet b e some out refused
+sheet_apart Build x sheet b e h some out refused = modules_not_refused x sheet b e some out refused
+sheet_apart RunImage x sheet b e h some out refused = h
+sheet_apart Check x sheet b e h some out refused = h
+sheet_apart Certify x sheet b e h some out refused = h
+sheet_apart Assemble x sheet b e h some out refused = h
+sheet_apart Seq x sheet b e h some out refused = h
+
+schedule_apart : (command : Command) (vs : List Reading) (s : Status) (a b : List ℕ) → IsScheduleRefusal command vs s a → IsOutput command vs b → ⊥
+schedule_apart command vs s a b own out =
+    sheet_apart command own.extension own.sheet b own.error own.schedules (told_some own.error s a own.told) (subst (λ us. IsOutput command us b) own.values_are out) own.refused
+
+own_apart : (command : Command) (vs : List Reading) (s : Status) (a b : List ℕ) → IsOwnRefusal command vs s a → IsOutput command vs b → ⊥
+own_apart command vs s a b (inl own) out = source_apart command vs s a b own out
+own_apart command vs s a b (inr own) out = schedule_apart command vs s a b own out
+
+-- a behaviour is refused with one status
+refused_one : (x : ExtensionTree) (sheet : Datasheet) (e f : TextErr) (s t : Status) (a b : List ℕ) → IsRefusedSchedule x sheet e → IsRefusedSchedule x sheet f → IsToldAs e s a → IsToldAs f t b → s ≡ t
+refused_one x sheet (T.TooManyOps k) (T.TooManyOps l) s t a b p q told other = told.0 ∙ sym other.0
+refused_one x sheet (T.NoSchedule k) (T.NoSchedule l) s t a b p q told other = told.0 ∙ sym other.0
+refused_one x sheet (T.TooManyOps k) (T.NoSchedule l) s t a b p q told other = absurd (one_refusal x sheet k l p q)
+refused_one x sheet (T.NoSchedule k) (T.TooManyOps l) s t a b p q told other = absurd (one_refusal x sheet l k q p)
+refused_one x sheet T.Memory f s t a b p q told other = absurd told
+refused_one x sheet (T.TooManyOps k) T.Memory s t a b p q told other = absurd other
+refused_one x sheet (T.NoSchedule k) T.Memory s t a b p q told other = absurd other
+
+read_parts : (x y : ExtensionTree) (s t : Datasheet) → extension_read x ∷ sheet_read s ∷ [] ≡ extension_read y ∷ sheet_read t ∷ [] → (x ≡ y) × (s ≡ t)
+read_parts x y s t e = (cc, cc)
+
+schedules_one : (command : Command) (vs : List Reading) (s t : Status) (a b : List ℕ) → IsScheduleRefusal command vs s a → IsScheduleRefusal command vs t b → s ≡ t
+schedules_one command vs s t a b own other =
+    let same = read_parts own.extension other.extension own.sheet other.sheet (sym own.values_are ∙ other.values_are) in
+    refused_one own.extension own.sheet own.error other.error s t a b own.refused
+    (subst (λ x. IsRefusedSchedule x own.sheet other.error) (sym same.0) (subst (λ d. IsRefusedSchedule other.extension d other.error) (sym same.1) other.refused))
+    own.told other.told
+
+-- an assembly schedules nothing
+no_scheduling : (command : Command) → command ≡ Assemble → Schedules command → ⊥
+no_scheduling command e h = subst Schedules e h
+
+own_one : (command : Command) (vs : List Reading) (s t : Status) (a b : List ℕ) → IsOwnRefusal command vs s a → IsOwnRefusal command vs t b → s ≡ t
+own_one command vs s t a b (inl own) (inl other) = own.status_is ∙ sym other.status_is
+own_one command vs s t a b (inl own) (inr other) = absurd (no_scheduling command own.command_is other.schedules)
+own_one command vs s t a b (inr own) (inl other) = absurd (no_scheduling command other.command_is own.schedules)
+own_one command vs s t a b (inr own) (inr other) = schedules_one command vs s t a b own other
+
 -- a command answers its values with one status
 answer_one : (command : Command) (vs : List Reading) (s t : Status) (a b : List ℕ) → IsAnswer command vs s a → IsAnswer command vs t b → s ≡ t
-answer_one command vs s t a b (inl own) (inl other) = own.status_is ∙ sym other.status_is
+answer_one command vs s t a b (inl own) (inl other) = own_one command vs s t a b own other
 answer_one command vs s t a b (inl own) (inr out) = absurd (own_apart command vs s a b own out.1)
 answer_one command vs s t a b (inr out) (inl own) = absurd (own_apart command vs t b a own out.1)
 answer_one command vs s t a b (inr out) (inr other) = out.0 ∙ sym other.0

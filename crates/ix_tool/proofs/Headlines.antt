@@ -9,18 +9,20 @@ use Rattle.ix_io.specs.Sink.{Appends}
 use Rattle.ix_cert.specs.Certificates.{IsFaultless}
 use Rattle.ix_cert.proofs.Verdicts.{faultless_certified}
 use Rattle.ix_tool.specs.declared.command.Command.{Command}
-use Rattle.ix_tool.specs.declared.command.Command.TheVariants.{RunImage, Check, Certify, Seq, Assemble}
-use Rattle.ix_tool.specs.declared.command.FileKind.TheVariants.{Image, Program, Report, Extension, Source as source_kind}
-use Rattle.ix_tool.specs.Readings.{Reading, number_read, image_read, report_read, extension_read, source_read}
+use Rattle.ix_tool.specs.declared.command.Command.TheVariants.{RunImage, Check, Certify, Schedule, Build, Seq, Assemble}
+use Rattle.ix_tool.specs.declared.command.FileKind.TheVariants.{Image, Report, Extension, Sheet, Source as source_kind}
+use Rattle.ix_tool.specs.Readings.{Reading, number_read, image_read, report_read, extension_read, sheet_read, source_read}
 use Rattle.rv_asm.specs.ImageText.{IsImageText}
 use Rattle.ix_extension.specs.Extensions.{ExtensionTree}
 use Rattle.ix_elab.specs.Elaborating.{Elaborates}
 use Rattle.ix_listing.specs.Listing.{listing_text}
 use Rattle.rv_record.specs.RunText.{run_text}
 use Rattle.ix_listing.proofs.OneExtension.{is_well_formed}
-use Rattle.ix_tool.specs.BuiltImages.{AllBuilt}
-use Rattle.ix_tool.specs.CommandLine.{command_of, commands, first_command, is_command, slots_of, fits_slots, behind, number_within, run_of, run_command, SeqCommand, seq_command, seq_of, AsmCommand, extension_of, report_of, source_of}
-use Rattle.ix_tool.specs.CommandOutput.{IsReadAs, IsFile, AreRead, IsOutput, Takes, OutputAnswer, RunAnswer, ListedAnswer, CertifiedAnswer, SteppedAnswer, AssembledAnswer, image_of_run, told_of}
+use Rattle.ix_tool.specs.CommandLine.{word_of, command_of, commands, first_command, is_command, slots_of, fits_slots, behind, number_within, run_of, run_command, SeqCommand, seq_command, seq_of, AsmCommand, ScheduleCommand, extension_of, report_of, source_of, schedule_of}
+use Rattle.ix_tool.specs.CommandOutput.{IsReadAs, IsFile, AreRead, IsOutput, TakesSheet, Takes, OutputAnswer, RunAnswer, ListedAnswer, CertifiedAnswer, SteppedAnswer, AssembledAnswer, IsSheetRead, ScheduledAnswer, image_of_run, told_of}
+use Rattle.ix_sheet.specs.declared.sheet.Sheet.{Sheet as Datasheet}
+use Rattle.ix_schedules.specs.ScheduleText.{IsScheduleText}
+use Rattle.ix_schedules.proofs.Named.{names_are}
 use Rattle.ix_tool.proofs.Due.{both, one}
 
 -- ---- the words of a command
@@ -45,19 +47,13 @@ fit_behind [] command e = cc
 fit_behind (word ∷ rest) command e = (and_parts _ _ (is_of (word ∷ rest) command e)).1
 
 -- ---- what a command takes
-image_of : (bytes : List ℕ) (v : Reading) → IsReadAs Image bytes v → (image : List ℕ) × (v ≡ image_read image) × IsImageText bytes image × AllBuilt image
-image_of bytes (image_read image) r = (image, refl, r.0, r.1)
+image_of : (bytes : List ℕ) (v : Reading) → IsReadAs Image bytes v → (image : List ℕ) × (v ≡ image_read image) × IsImageText bytes image
+image_of bytes (image_read image) r = (image, refl, r)
 image_of bytes (number_read n) r = absurd r
 image_of bytes report_read r = absurd r
 image_of bytes (extension_read x) r = absurd r
 image_of bytes (source_read x) r = absurd r
-
-program_of : (bytes : List ℕ) (v : Reading) → IsReadAs Program bytes v → (image : List ℕ) × (v ≡ image_read image) × IsImageText bytes image
-program_of bytes (image_read image) r = (image, refl, r)
-program_of bytes (number_read n) r = absurd r
-program_of bytes report_read r = absurd r
-program_of bytes (extension_read x) r = absurd r
-program_of bytes (source_read x) r = absurd r
+image_of bytes (sheet_read x) r = absurd r
 
 report_in : (bytes : List ℕ) (v : Reading) → IsReadAs Report bytes v → (v ≡ report_read) × IsFaultless bytes
 report_in bytes report_read r = (refl, r)
@@ -65,6 +61,7 @@ report_in bytes (image_read image) r = absurd r
 report_in bytes (number_read n) r = absurd r
 report_in bytes (extension_read x) r = absurd r
 report_in bytes (source_read x) r = absurd r
+report_in bytes (sheet_read x) r = absurd r
 
 extension_in : (bytes : List ℕ) (v : Reading) → IsReadAs Extension bytes v → (x : ExtensionTree) × (v ≡ extension_read x) × Elaborates bytes x
 extension_in bytes (extension_read x) r = (x, refl, r)
@@ -72,6 +69,7 @@ extension_in bytes (image_read image) r = absurd r
 extension_in bytes (number_read n) r = absurd r
 extension_in bytes report_read r = absurd r
 extension_in bytes (source_read x) r = absurd r
+extension_in bytes (sheet_read x) r = absurd r
 
 source_in : (bytes : List ℕ) (v : Reading) → IsReadAs source_kind bytes v → v ≡ source_read bytes
 source_in bytes (source_read text) r = ap (λ t. source_read t) r
@@ -79,6 +77,15 @@ source_in bytes (image_read image) r = absurd r
 source_in bytes (number_read n) r = absurd r
 source_in bytes report_read r = absurd r
 source_in bytes (extension_read x) r = absurd r
+source_in bytes (sheet_read x) r = absurd r
+
+sheet_in : (bytes : List ℕ) (v : Reading) → IsReadAs Sheet bytes v → (sheet : Datasheet) × (v ≡ sheet_read sheet) × IsSheetRead bytes sheet
+sheet_in bytes (sheet_read sheet) r = (sheet, refl, r)
+sheet_in bytes (image_read image) r = absurd r
+sheet_in bytes (number_read n) r = absurd r
+sheet_in bytes report_read r = absurd r
+sheet_in bytes (extension_read x) r = absurd r
+sheet_in bytes (source_read x) r = absurd r
 
 pub record IsRunRead (files : Option NamedFiles) (rest : List (List ℕ)) (vs : List Reading) : Type 0 where
   pub name : List ℕ
@@ -90,10 +97,9 @@ pub record IsRunRead (files : Option NamedFiles) (rest : List (List ℕ)) (vs : 
   pub values : vs ≡ image_read image ∷ number_read cycles ∷ []
   pub file : IsFile files name bytes
   pub text : IsImageText bytes image
-  pub are_built : AllBuilt image
   pub within : number_within 200000 number ≡ Some cycles
 
-run_read : (files : Option NamedFiles) (rest : List (List ℕ)) (vs : List Reading) → AreRead files (slots_of RunImage) rest vs → IsRunRead files rest vs
+pub run_read : (files : Option NamedFiles) (rest : List (List ℕ)) (vs : List Reading) → AreRead files (slots_of RunImage) rest vs → IsRunRead files rest vs
 run_read files [] vs h = absurd h
 run_read files (a ∷ rest) [] h = absurd h
 run_read files (a ∷ []) (v ∷ vs) h = absurd h.1
@@ -112,7 +118,6 @@ run_read files (a ∷ b ∷ []) (v ∷ u ∷ []) h =
       values = ap (λ x. x ∷ u ∷ []) i.1 ∙ ap (λ y. image_read i.0 ∷ y ∷ []) h.1.0.2;
       file = h.0.1;
       text = i.2;
-      are_built = i.3;
       within = h.1.0.1;
     }
 
@@ -124,7 +129,7 @@ pub record IsReportRead (files : Option NamedFiles) (rest : List (List ℕ)) (vs
   pub file : IsFile files name bytes
   pub faultless : IsFaultless bytes
 
-report_is_read : (files : Option NamedFiles) (rest : List (List ℕ)) (vs : List Reading) → AreRead files (slots_of Certify) rest vs → IsReportRead files rest vs
+pub report_is_read : (files : Option NamedFiles) (rest : List (List ℕ)) (vs : List Reading) → AreRead files (slots_of Certify) rest vs → IsReportRead files rest vs
 report_is_read files [] vs h = absurd h
 report_is_read files (a ∷ rest) [] h = absurd h
 report_is_read files (a ∷ b ∷ rest) (v ∷ vs) h = absurd h.1
@@ -142,7 +147,7 @@ pub record IsExtensionRead (files : Option NamedFiles) (rest : List (List ℕ)) 
   pub file : IsFile files name bytes
   pub elaborates : Elaborates bytes extension
 
-extension_is_read : (files : Option NamedFiles) (rest : List (List ℕ)) (vs : List Reading) → AreRead files (slots_of Check) rest vs → IsExtensionRead files rest vs
+pub extension_is_read : (files : Option NamedFiles) (rest : List (List ℕ)) (vs : List Reading) → AreRead files (slots_of Check) rest vs → IsExtensionRead files rest vs
 extension_is_read files [] vs h = absurd h
 extension_is_read files (a ∷ rest) [] h = absurd h
 extension_is_read files (a ∷ b ∷ rest) (v ∷ vs) h = absurd h.1
@@ -163,7 +168,7 @@ pub record IsSourceRead (files : Option NamedFiles) (rest : List (List ℕ)) (vs
   pub elaborates : Elaborates bytes extension
   pub source_file : IsFile files other source
 
-source_is_read : (files : Option NamedFiles) (rest : List (List ℕ)) (vs : List Reading) → AreRead files (slots_of Assemble) rest vs → IsSourceRead files rest vs
+pub source_is_read : (files : Option NamedFiles) (rest : List (List ℕ)) (vs : List Reading) → AreRead files (slots_of Assemble) rest vs → IsSourceRead files rest vs
 source_is_read files [] vs h = absurd h
 source_is_read files (a ∷ rest) [] h = absurd h
 source_is_read files (a ∷ []) (v ∷ vs) h = absurd h.1
@@ -185,6 +190,45 @@ source_is_read files (a ∷ b ∷ []) (v ∷ u ∷ []) h =
       source_file = h.1.0.1;
     }
 
+pub record IsScheduleRead (files : Option NamedFiles) (rest : List (List ℕ)) (vs : List Reading) : Type 0 where
+  pub name : List ℕ
+  pub other : List ℕ
+  pub bytes : List ℕ
+  pub extension : ExtensionTree
+  pub sheet_bytes : List ℕ
+  pub sheet : Datasheet
+  pub words : rest ≡ name ∷ other ∷ []
+  pub values : vs ≡ extension_read extension ∷ sheet_read sheet ∷ []
+  pub file : IsFile files name bytes
+  pub elaborates : Elaborates bytes extension
+  pub sheet_file : IsFile files other sheet_bytes
+  pub sheet_is : IsSheetRead sheet_bytes sheet
+
+pub schedule_is_read : (files : Option NamedFiles) (rest : List (List ℕ)) (vs : List Reading) → AreRead files (slots_of Schedule) rest vs → IsScheduleRead files rest vs
+schedule_is_read files [] vs h = absurd h
+schedule_is_read files (a ∷ rest) [] h = absurd h
+schedule_is_read files (a ∷ []) (v ∷ vs) h = absurd h.1
+schedule_is_read files (a ∷ b ∷ rest) (v ∷ []) h = absurd h.1
+schedule_is_read files (a ∷ b ∷ c ∷ rest) (v ∷ u ∷ vs) h = absurd h.1.1
+schedule_is_read files (a ∷ b ∷ []) (v ∷ u ∷ w ∷ vs) h = absurd h.1.1
+schedule_is_read files (a ∷ b ∷ []) (v ∷ u ∷ []) h =
+    let x = extension_in h.0.0 v h.0.2 in
+    let d = sheet_in h.1.0.0 u h.1.0.2 in
+    record {
+      name = a;
+      other = b;
+      bytes = h.0.0;
+      extension = x.0;
+      sheet_bytes = h.1.0.0;
+      sheet = d.0;
+      words = refl;
+      values = ap (λ y. y ∷ u ∷ []) x.1 ∙ ap (λ y. extension_read x.0 ∷ y ∷ []) d.1;
+      file = h.0.1;
+      elaborates = x.2;
+      sheet_file = h.1.0.1;
+      sheet_is = d.2;
+    }
+
 pub record IsSeqRead (files : Option NamedFiles) (rest : List (List ℕ)) (vs : List Reading) : Type 0 where
   pub name : List ℕ
   pub other : List ℕ
@@ -202,7 +246,7 @@ pub record IsSeqRead (files : Option NamedFiles) (rest : List (List ℕ)) (vs : 
   pub text : IsImageText program image
   pub within : number_within 200000 number ≡ Some steps
 
-seq_read : (files : Option NamedFiles) (rest : List (List ℕ)) (vs : List Reading) → AreRead files (slots_of Seq) rest vs → IsSeqRead files rest vs
+pub seq_read : (files : Option NamedFiles) (rest : List (List ℕ)) (vs : List Reading) → AreRead files (slots_of Seq) rest vs → IsSeqRead files rest vs
 seq_read files [] vs h = absurd h
 seq_read files (a ∷ rest) [] h = absurd h
 seq_read files (a ∷ []) (v ∷ vs) h = absurd h.1
@@ -213,7 +257,7 @@ seq_read files (a ∷ b ∷ c ∷ d ∷ rest) (v ∷ u ∷ w ∷ vs) h = absurd 
 seq_read files (a ∷ b ∷ c ∷ []) (v ∷ u ∷ w ∷ z ∷ vs) h = absurd h.1.1.1
 seq_read files (a ∷ b ∷ c ∷ []) (v ∷ u ∷ w ∷ []) h =
     let x = extension_in h.0.0 v h.0.2 in
-    let i = program_of h.1.0.0 u h.1.0.2 in
+    let i = image_of h.1.0.0 u h.1.0.2 in
     record {
       name = a;
       other = b;
@@ -232,6 +276,11 @@ seq_read files (a ∷ b ∷ c ∷ []) (v ∷ u ∷ w ∷ []) h =
       within = h.1.1.0.1;
     }
 
+sheet_takes : (files : Option NamedFiles) (rest : List (List ℕ)) (vs : List Reading) → AreRead files (slots_of Schedule) rest vs → TakesSheet vs
+sheet_takes files rest vs h =
+    let r = schedule_is_read files rest vs h in
+    subst TakesSheet (sym r.values) (is_well_formed r.bytes r.extension r.elaborates, names_are r.bytes r.extension r.elaborates, r.sheet_is.valid)
+
 -- the values of the words are those that the command takes
 pub takes : (files : Option NamedFiles) (command : Command) (rest : List (List ℕ)) (vs : List Reading) → AreRead files (slots_of command) rest vs → Takes command vs
 takes files RunImage rest vs h = subst (λ x. Takes RunImage x) (sym (run_read files rest vs h).values) tt
@@ -241,6 +290,8 @@ takes files Assemble rest vs h = let r = source_is_read files rest vs h in subst
 takes files Seq rest vs h =
     let r = seq_read files rest vs h in
     subst (λ x. Takes Seq x) (sym r.values) (is_well_formed r.bytes r.extension r.elaborates)
+takes files Schedule rest vs h = sheet_takes files rest vs h
+takes files Build rest vs h = sheet_takes files rest vs h
 
 -- ---- the headline
 -- the words of a run
@@ -275,24 +326,24 @@ two_no_seq [] name number command is e = absurd (true≢false (sym is))
 two_no_seq (word ∷ rest) name number command is e = ap (λ r. seq_of (word ∷ r)) e
 
 -- the word of one command is none of another
-not_its_word : (a b c : List ℕ) → bytes_eq b c ≡ false → bytes_eq a b ≡ true → bytes_eq a c ≡ false
+pub not_its_word : (a b c : List ℕ) → bytes_eq b c ≡ false → bytes_eq a b ≡ true → bytes_eq a c ≡ false
 not_its_word a b c unlike same = subst (λ w. bytes_eq w c ≡ false) (sym ((bytes_eq-Decides a b).0 same)) unlike
 
 none_where : (b : Bool) (name : List ℕ) → b ≡ false → (if b then Some name else None) ≡ None
 none_where true name e = absurd (true≢false e)
 none_where false name e = refl
 
--- the words of an assembly are no run
+-- the words of another command are no run
 no_run : (b : Bool) (name : List ℕ) (o : Option ℕ) → b ≡ false → run_command b name o ≡ None
 no_run b name None e = refl
 no_run true name (Some n) e = absurd (true≢false e)
 no_run false name (Some n) e = refl
 
-asm_no_run : (words : List (List ℕ)) (name other : List ℕ) → is_command Assemble words ≡ true → behind words ≡ name ∷ other ∷ [] → run_of words ≡ None
-asm_no_run [] name other is e = absurd (true≢false (sym is))
-asm_no_run (word ∷ rest) name other is e =
+pair_no_run : (command : Command) → bytes_eq (word_of command) (codes "run") ≡ false → (words : List (List ℕ)) (name other : List ℕ) → is_command command words ≡ true → behind words ≡ name ∷ other ∷ [] → run_of words ≡ None
+pair_no_run command unlike [] name other is e = absurd (true≢false (sym is))
+pair_no_run command unlike (word ∷ rest) name other is e =
     ap (λ r. run_of (word ∷ r)) e
-    ∙ no_run (bytes_eq word (codes "run")) name (number_within 200000 other) (not_its_word word (codes "asm") (codes "run") refl (and_parts _ _ is).0)
+    ∙ no_run (bytes_eq word (codes "run")) name (number_within 200000 other) (not_its_word word (word_of command) (codes "run") unlike (and_parts _ _ is).0)
 
 told_is : (files : Option NamedFiles) (name bytes : List ℕ) → told_file files name ≢ None → IsFile files name bytes → told_file files name ≡ Some bytes
 told_is None name bytes told f = absurd (told refl)
@@ -308,7 +359,13 @@ headline_of files words before now Check vs text is read out a told =
     absurd (told (ap (λ o. image_of_run files o) (two_no_run words r.name Check is r.words)))
 headline_of files words before now Assemble vs text is read out a told =
     let r = source_is_read files (behind words) vs read in
-    absurd (told (ap (λ o. image_of_run files o) (asm_no_run words r.name r.other is r.words)))
+    absurd (told (ap (λ o. image_of_run files o) (pair_no_run Assemble refl words r.name r.other is r.words)))
+headline_of files words before now Schedule vs text is read out a told =
+    let r = schedule_is_read files (behind words) vs read in
+    absurd (told (ap (λ o. image_of_run files o) (pair_no_run Schedule refl words r.name r.other is r.words)))
+headline_of files words before now Build vs text is read out a told =
+    let r = schedule_is_read files (behind words) vs read in
+    absurd (told (ap (λ o. image_of_run files o) (pair_no_run Build refl words r.name r.other is r.words)))
 headline_of files words before now Seq vs text is read out a told =
     let r = seq_read files (behind words) vs read in
     absurd (told (ap (λ o. image_of_run files o) (four_no_other words r.name r.other r.number is r.words).0))
@@ -323,7 +380,6 @@ headline_of files words before now RunImage vs text is read out a told =
       text = text;
       run = record { command_is = run; file_is = file ∙ told_is files r.name r.bytes (λ e. told (file ∙ e)) r.file; within = r.file.within };
       read = r.text;
-      built = r.are_built;
       output = subst (λ x. IsOutput RunImage x text) r.values out;
       written = a;
     }
@@ -356,6 +412,12 @@ certified_of files words before now Check vs text report is read out a e =
 certified_of files words before now Assemble vs text report is read out a e =
     let r = source_is_read files (behind words) vs read in
     absurd (both (report_of words) report e (three_no_file words r.name r.other Assemble is r.words).1)
+certified_of files words before now Schedule vs text report is read out a e =
+    let r = schedule_is_read files (behind words) vs read in
+    absurd (both (report_of words) report e (three_no_file words r.name r.other Schedule is r.words).1)
+certified_of files words before now Build vs text report is read out a e =
+    let r = schedule_is_read files (behind words) vs read in
+    absurd (both (report_of words) report e (three_no_file words r.name r.other Build is r.words).1)
 certified_of files words before now Seq vs text report is read out a e =
     let r = seq_read files (behind words) vs read in
     absurd (both (report_of words) report e (four_no_other words r.name r.other r.number is r.words).2)
@@ -400,6 +462,12 @@ listed_of files words before now Certify vs text name is read out a e =
 listed_of files words before now Assemble vs text name is read out a e =
     let r = source_is_read files (behind words) vs read in
     absurd (both (extension_of words) name e (three_no_file words r.name r.other Assemble is r.words).0)
+listed_of files words before now Schedule vs text name is read out a e =
+    let r = schedule_is_read files (behind words) vs read in
+    absurd (both (extension_of words) name e (three_no_file words r.name r.other Schedule is r.words).0)
+listed_of files words before now Build vs text name is read out a e =
+    let r = schedule_is_read files (behind words) vs read in
+    absurd (both (extension_of words) name e (three_no_file words r.name r.other Build is r.words).0)
 listed_of files words before now Seq vs text name is read out a e =
     let r = seq_read files (behind words) vs read in
     absurd (both (extension_of words) name e (four_no_other words r.name r.other r.number is r.words).1)
@@ -442,6 +510,12 @@ stepped_of files words before now Check vs text asked is read out a e =
 stepped_of files words before now Assemble vs text asked is read out a e =
     let r = source_is_read files (behind words) vs read in
     absurd (both (seq_of words) asked e (two_no_seq words r.name r.other Assemble is r.words))
+stepped_of files words before now Schedule vs text asked is read out a e =
+    let r = schedule_is_read files (behind words) vs read in
+    absurd (both (seq_of words) asked e (two_no_seq words r.name r.other Schedule is r.words))
+stepped_of files words before now Build vs text asked is read out a e =
+    let r = schedule_is_read files (behind words) vs read in
+    absurd (both (seq_of words) asked e (two_no_seq words r.name r.other Build is r.words))
 stepped_of files words before now Seq vs text asked is read out a e =
     let r = seq_read files (behind words) vs read in
     let run : text ≡ run_text r.extension r.image r.steps = subst (λ x. IsOutput Seq x text) r.values out in
@@ -484,23 +558,29 @@ three_no_asm : (words : List (List ℕ)) (a b c : List ℕ) (command : Command) 
 three_no_asm [] a b c command is e = absurd (true≢false (sym is))
 three_no_asm (word ∷ rest) a b c command is e = ap (λ r. source_of (word ∷ r)) e
 
-run_no_asm : (words : List (List ℕ)) (name number : List ℕ) → is_command RunImage words ≡ true → behind words ≡ name ∷ number ∷ [] → source_of words ≡ None
-run_no_asm [] name number is e = absurd (true≢false (sym is))
-run_no_asm (word ∷ rest) name number is e =
+pair_no_asm : (command : Command) → bytes_eq (word_of command) (codes "asm") ≡ false → (words : List (List ℕ)) (name other : List ℕ) → is_command command words ≡ true → behind words ≡ name ∷ other ∷ [] → source_of words ≡ None
+pair_no_asm command unlike [] name other is e = absurd (true≢false (sym is))
+pair_no_asm command unlike (word ∷ rest) name other is e =
     ap (λ r. source_of (word ∷ r)) e
-    ∙ none_asm (bytes_eq word (codes "asm")) (record { extension = name; source = number }) (not_its_word word (codes "run") (codes "asm") refl (and_parts _ _ is).0)
+    ∙ none_asm (bytes_eq word (codes "asm")) (record { extension = name; source = other }) (not_its_word word (word_of command) (codes "asm") unlike (and_parts _ _ is).0)
 
 assembled_of : (files : Option NamedFiles) (words : List (List ℕ)) (before now : Option (List ℕ)) (command : Command) (vs : List Reading) (text : List ℕ) (asked : AsmCommand) → is_command command words ≡ true → AreRead files (slots_of command) (behind words) vs → IsOutput command vs text → Appends before now text
     → source_of words ≡ Some asked → AssembledAnswer files asked before now
 assembled_of files words before now RunImage vs text asked is read out a e =
     let r = run_read files (behind words) vs read in
-    absurd (both (source_of words) asked e (run_no_asm words r.name r.number is r.words))
+    absurd (both (source_of words) asked e (pair_no_asm RunImage refl words r.name r.number is r.words))
 assembled_of files words before now Check vs text asked is read out a e =
     let r = extension_is_read files (behind words) vs read in
     absurd (both (source_of words) asked e (two_no_asm words r.name Check is r.words))
 assembled_of files words before now Certify vs text asked is read out a e =
     let r = report_is_read files (behind words) vs read in
     absurd (both (source_of words) asked e (two_no_asm words r.name Certify is r.words))
+assembled_of files words before now Schedule vs text asked is read out a e =
+    let r = schedule_is_read files (behind words) vs read in
+    absurd (both (source_of words) asked e (pair_no_asm Schedule refl words r.name r.other is r.words))
+assembled_of files words before now Build vs text asked is read out a e =
+    let r = schedule_is_read files (behind words) vs read in
+    absurd (both (source_of words) asked e (pair_no_asm Build refl words r.name r.other is r.words))
 assembled_of files words before now Seq vs text asked is read out a e =
     let r = seq_read files (behind words) vs read in
     absurd (both (source_of words) asked e (three_no_asm words r.name r.other r.number Seq is r.words))
@@ -522,3 +602,72 @@ assembled_of files words before now Assemble vs text asked is read out a e =
 
 pub assembled : (files : Option NamedFiles) (words : List (List ℕ)) (before now : Option (List ℕ)) → OutputAnswer files words before now → (asked : AsmCommand) → source_of words ≡ Some asked → AssembledAnswer files asked before now
 assembled files words before now o asked e = assembled_of files words before now o.command o.values o.text asked (is_of words o.command o.command_is) o.read o.output o.written e
+
+-- ---- an extension that is scheduled
+none_schedule : (b : Bool) (o : ScheduleCommand) → b ≡ false → (if b then Some o else None) ≡ None
+none_schedule true o e = absurd (true≢false e)
+none_schedule false o e = refl
+
+schedule_words_are : (words : List (List ℕ)) (name other : List ℕ) (command : ScheduleCommand) → is_command Schedule words ≡ true → behind words ≡ name ∷ other ∷ [] → schedule_of words ≡ Some command → record { extension = name; sheet = other } ≡ command
+schedule_words_are [] name other command is e h = absurd (true≢false (sym is))
+schedule_words_are (word ∷ rest) name other command is e h =
+    let first = (and_parts _ _ is).0 in
+    let asked : ScheduleCommand = record { extension = name; sheet = other } in
+    let named : schedule_of (word ∷ rest) ≡ Some asked = ap (λ r. schedule_of (word ∷ r)) e ∙ ap (λ b. if b then Some asked else None) first in
+    one (schedule_of (word ∷ rest)) asked command named h
+
+two_no_schedule : (words : List (List ℕ)) (name : List ℕ) (command : Command) → is_command command words ≡ true → behind words ≡ name ∷ [] → schedule_of words ≡ None
+two_no_schedule [] name command is e = absurd (true≢false (sym is))
+two_no_schedule (word ∷ rest) name command is e = ap (λ r. schedule_of (word ∷ r)) e
+
+three_no_schedule : (words : List (List ℕ)) (a b c : List ℕ) (command : Command) → is_command command words ≡ true → behind words ≡ a ∷ b ∷ c ∷ [] → schedule_of words ≡ None
+three_no_schedule [] a b c command is e = absurd (true≢false (sym is))
+three_no_schedule (word ∷ rest) a b c command is e = ap (λ r. schedule_of (word ∷ r)) e
+
+pair_no_schedule : (command : Command) → bytes_eq (word_of command) (codes "schedule") ≡ false → (words : List (List ℕ)) (name other : List ℕ) → is_command command words ≡ true → behind words ≡ name ∷ other ∷ [] → schedule_of words ≡ None
+pair_no_schedule command unlike [] name other is e = absurd (true≢false (sym is))
+pair_no_schedule command unlike (word ∷ rest) name other is e =
+    ap (λ r. schedule_of (word ∷ r)) e
+    ∙ none_schedule (bytes_eq word (codes "schedule")) (record { extension = name; sheet = other }) (not_its_word word (word_of command) (codes "schedule") unlike (and_parts _ _ is).0)
+
+scheduled_of : (files : Option NamedFiles) (words : List (List ℕ)) (before now : Option (List ℕ)) (command : Command) (vs : List Reading) (text : List ℕ) (asked : ScheduleCommand) → is_command command words ≡ true → AreRead files (slots_of command) (behind words) vs → IsOutput command vs text → Appends before now text
+    → schedule_of words ≡ Some asked → ScheduledAnswer files asked before now
+scheduled_of files words before now RunImage vs text asked is read out a e =
+    let r = run_read files (behind words) vs read in
+    absurd (both (schedule_of words) asked e (pair_no_schedule RunImage refl words r.name r.number is r.words))
+scheduled_of files words before now Check vs text asked is read out a e =
+    let r = extension_is_read files (behind words) vs read in
+    absurd (both (schedule_of words) asked e (two_no_schedule words r.name Check is r.words))
+scheduled_of files words before now Certify vs text asked is read out a e =
+    let r = report_is_read files (behind words) vs read in
+    absurd (both (schedule_of words) asked e (two_no_schedule words r.name Certify is r.words))
+scheduled_of files words before now Seq vs text asked is read out a e =
+    let r = seq_read files (behind words) vs read in
+    absurd (both (schedule_of words) asked e (three_no_schedule words r.name r.other r.number Seq is r.words))
+scheduled_of files words before now Assemble vs text asked is read out a e =
+    let r = source_is_read files (behind words) vs read in
+    absurd (both (schedule_of words) asked e (pair_no_schedule Assemble refl words r.name r.other is r.words))
+scheduled_of files words before now Build vs text asked is read out a e =
+    let r = schedule_is_read files (behind words) vs read in
+    absurd (both (schedule_of words) asked e (pair_no_schedule Build refl words r.name r.other is r.words))
+scheduled_of files words before now Schedule vs text asked is read out a e =
+    let r = schedule_is_read files (behind words) vs read in
+    let report : IsScheduleText r.extension r.sheet text = subst (λ x. IsOutput Schedule x text) r.values out in
+    subst (λ k. ScheduledAnswer files k before now) (schedule_words_are words r.name r.other asked is r.words e)
+    (record {
+      bytes = r.bytes;
+      extension = r.extension;
+      sheet_bytes = r.sheet_bytes;
+      sheet = r.sheet;
+      text = text;
+      file = r.file;
+      elaborates = r.elaborates;
+      well_formed = is_well_formed r.bytes r.extension r.elaborates;
+      sheet_file = r.sheet_file;
+      sheet_read = r.sheet_is;
+      scheduled = report;
+      written = a;
+    })
+
+pub scheduled : (files : Option NamedFiles) (words : List (List ℕ)) (before now : Option (List ℕ)) → OutputAnswer files words before now → (asked : ScheduleCommand) → schedule_of words ≡ Some asked → ScheduledAnswer files asked before now
+scheduled files words before now o asked e = scheduled_of files words before now o.command o.values o.text asked (is_of words o.command o.command_is) o.read o.output o.written e

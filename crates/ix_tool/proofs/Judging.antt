@@ -5,9 +5,9 @@ use Rattle.std.specs.declared.alloc.Global.{Global}
 use Rattle.ix_io.specs.Limits.{most_bytes}
 use Rattle.ix_io.specs.Shelf.{NamedFiles, told_file}
 use Rattle.ix_tool.specs.declared.status.Status.{Status}
-use Rattle.ix_tool.specs.declared.status.Status.TheVariants.{ReadFault, TooLong, Certificate, Extension as extension_status}
+use Rattle.ix_tool.specs.declared.status.Status.TheVariants.{ReadFault, TooLong, Certificate, Extension as extension_status, Sheet as sheet_status}
 use Rattle.ix_tool.specs.declared.command.FileKind.{FileKind}
-use Rattle.ix_tool.specs.declared.command.FileKind.TheVariants.{Report, Extension}
+use Rattle.ix_tool.specs.declared.command.FileKind.TheVariants.{Report, Extension, Sheet}
 use Rattle.ix_cert.specs.declared.report.CertErr.{CertErr}
 use Rattle.ix_cert.specs.declared.report.CertErr.TheVariants.{Memory as cert_memory}
 use Rattle.ix_cert.specs.Certificates.{IsRefused as IsRefusedReport}
@@ -15,11 +15,14 @@ use Rattle.ix_elab.specs.declared.error.FrontErr.{FrontErr}
 use Rattle.ix_elab.specs.declared.error.FrontErr.TheVariants.{Memory as front_memory}
 use Rattle.ix_elab.specs.Refusing.{IsCause}
 use Rattle.ix_listing.specs.RefusalLine.{refusal_line}
+use Rattle.ix_sheet.specs.declared.sheet.SheetErr.{SheetErr}
+use Rattle.ix_sheet.specs.declared.sheet.SheetErr.TheVariants.{Memory as sheet_memory}
+use Rattle.ix_sheet.specs.Datasheets.{IsRefusalOf}
 use Rattle.ix_tool.specs.declared.command.Slot.TheVariants.{File}
 use Rattle.ix_tool.specs.declared.value.Value.{Value}
 use Rattle.ix_tool.specs.declared.value.Refusal.{Refusal}
 use Rattle.ix_tool.specs.declared.value.Refusal.TheVariants as refusal
-use Rattle.ix_tool.specs.CommandOutput.{file_line, certificate_line, IsRefusedText, refusal_status, Refuses, Judged, IsFile, IsRefusedFile, not_read, too_long, bad_text, WordRead}
+use Rattle.ix_tool.specs.CommandOutput.{file_line, certificate_line, sheet_line, IsRefusedText, refusal_status, Refuses, Judged, IsFile, IsRefusedFile, not_read, too_long, bad_text, WordRead}
 
 -- the parts of a line, joined from the left or from the right
 pub line_joined : (number kind : List ℕ) → number ++ 32 ∷ (kind ++ 10 ∷ []) ≡ number ++ 32 ∷ [] ++ kind ++ 10 ∷ []
@@ -44,6 +47,12 @@ pub extension_judged : (bytes : List ℕ) (e : FrontErr) (why : Refusal) → IsC
 extension_judged bytes e refusal.Memory cause memory told = tt
 extension_judged bytes e (refusal.Line status text) cause memory told =
     judged_err Extension bytes (refusal_line e) (refusal.Line status text) (e, record { some = λ m. line_no_memory status text (memory m); cause = cause }, refl) told
+
+-- a datasheet is refused with the line of its error, or memory was not found
+pub sheet_judged : (bytes : List ℕ) (e : SheetErr) (why : Refusal) → (e ≢ sheet_memory → IsRefusalOf bytes e) → (e ≡ sheet_memory → why ≡ refusal.Memory) → Refuses sheet_status (sheet_line e) why → Judged Sheet bytes (Err why)
+sheet_judged bytes e refusal.Memory refused memory told = tt
+sheet_judged bytes e (refusal.Line status text) refused memory told =
+    judged_err Sheet bytes (sheet_line e) (refusal.Line status text) (e, refused (λ m. line_no_memory status text (memory m)), refl) told
 
 told_as : (files : Option NamedFiles) (R : List ℕ → Type 0) (kind : FileKind) (name line : List ℕ) (status : Status) (why : Refusal) → IsRefusedFile files R kind name status line → Refuses status line why → WordRead files R (File kind) name (Err why)
 told_as files R kind name line status refusal.Memory bad told = tt

@@ -1,11 +1,11 @@
 mod Answering
-pub mod BuiltWords
+mod SheetValues
 pub mod Words
 pub mod Judging
 pub mod Reading
+pub mod OneSheet
 pub mod Due
 pub mod Outcomes
 pub mod Clauses
 pub mod Headlines
-pub mod Writing
-pub mod RunOutputs
+pub mod ModulesShown

@@ -4,8 +4,8 @@ use Rattle.std.specs.Option.{option_and_then}
 use Rattle.std.specs.Str.{bytes_eq}
 use Rattle.std.specs.declared.alloc.Global.{Global}
 use Rattle.ix_tool.specs.declared.command.Command.{Command}
-use Rattle.ix_tool.specs.declared.command.Command.TheVariants.{RunImage, Check, Certify, Seq, Assemble}
-use Rattle.ix_tool.specs.declared.command.FileKind.TheVariants.{Image, Program, Report, Extension, Source}
+use Rattle.ix_tool.specs.declared.command.Command.TheVariants.{RunImage, Check, Certify, Schedule, Build, Seq, Assemble}
+use Rattle.ix_tool.specs.declared.command.FileKind.TheVariants.{Image, Report, Extension, Sheet, Source}
 use Rattle.ix_tool.specs.declared.command.Slot.{Slot}
 use Rattle.ix_tool.specs.declared.command.Slot.TheVariants.{Number, File}
 
@@ -37,18 +37,22 @@ word_of Check = codes "check"
 word_of Certify = codes "certify"
 word_of Assemble = codes "asm"
 word_of Seq = codes "seq"
+word_of Schedule = codes "schedule"
+word_of Build = codes "build"
 
 -- numbers and files, in the order of the words
 abbrev pub slots_of : Command → List Slot
 slots_of RunImage = File Image ∷ Number 200000 ∷ []
 slots_of Check = File Extension ∷ []
 slots_of Certify = File Report ∷ []
-slots_of Seq = File Extension ∷ File Program ∷ Number 200000 ∷ []
+slots_of Seq = File Extension ∷ File Image ∷ Number 200000 ∷ []
 slots_of Assemble = File Extension ∷ File Source ∷ []
+slots_of Schedule = File Extension ∷ File Sheet ∷ []
+slots_of Build = File Extension ∷ File Sheet ∷ []
 
 -- the commands, in the order in which words are tried
 abbrev pub commands : List Command
-commands = RunImage ∷ Check ∷ Certify ∷ Seq ∷ Assemble ∷ []
+commands = RunImage ∷ Check ∷ Certify ∷ Seq ∷ Assemble ∷ Schedule ∷ Build ∷ []
 
 -- ---- which command words are
 -- any word names a file; a number is at most the given one
@@ -127,6 +131,32 @@ source_of (command ∷ []) = None
 source_of (command ∷ extension ∷ []) = None
 source_of (command ∷ extension ∷ source ∷ []) = if bytes_eq command (codes "asm") then Some (record { extension = extension; source = source }) else None
 source_of (command ∷ extension ∷ source ∷ more ∷ rest) = None
+
+-- ---- schedule EXT SHEET
+-- the extension and the datasheet for which these words ask for a report, if they do
+pub record ScheduleCommand : Type 0 where
+  pub extension : List ℕ
+  pub sheet : List ℕ
+
+abbrev pub schedule_of : List (List ℕ) → Option ScheduleCommand
+schedule_of [] = None
+schedule_of (command ∷ []) = None
+schedule_of (command ∷ extension ∷ []) = None
+schedule_of (command ∷ extension ∷ sheet ∷ []) = if bytes_eq command (codes "schedule") then Some (record { extension = extension; sheet = sheet }) else None
+schedule_of (command ∷ extension ∷ sheet ∷ more ∷ rest) = None
+
+-- ---- build EXT SHEET
+-- the extension and the datasheet for which these words ask for modules, if they do
+pub record BuildCommand : Type 0 where
+  pub extension : List ℕ
+  pub sheet : List ℕ
+
+abbrev pub build_of : List (List ℕ) → Option BuildCommand
+build_of [] = None
+build_of (command ∷ []) = None
+build_of (command ∷ extension ∷ []) = None
+build_of (command ∷ extension ∷ sheet ∷ []) = if bytes_eq command (codes "build") then Some (record { extension = extension; sheet = sheet }) else None
+build_of (command ∷ extension ∷ sheet ∷ more ∷ rest) = None
 
 -- ---- seq EXT IMAGE STEPS, with 0 to 200,000 steps
 pub record SeqCommand : Type 0 where

@@ -1,23 +1,17 @@
 -- What a command answers and writes, from its words and the bytes of its files (this project's choice).
-use Rattle.std.specs.Prelude.{◌≡◌, ◌≢◌, IfSome, ℕ, ◌<◌, ◌≤◌, List, [], ◌∷◌, ◌++◌, length, reverse, Option, Some, None, codes, decimal, ◌⊎◌, string_bytes, Result, Ok, Err}
-use Rattle.rv_trace.specs.declared.row.Row.{Row}
+use Rattle.std.specs.Prelude.{◌≡◌, ◌≢◌, IfSome, ℕ, ◌<◌, ◌≤◌, List, [], ◌∷◌, ◌++◌, length, Option, Some, None, codes, decimal, ◌⊎◌, string_bytes, Result, Ok, Err}
 use Rattle.ix_tool.specs.declared.status.Status.{Status}
-use Rattle.ix_tool.specs.declared.status.Status.TheVariants.{Ok as ok_status, Usage, ReadFault, WriteFault, TooLong, Extension as extension_status, Sheet, Image as image_status, NoSchedule, Certificate, Memory, Source, Waits}
+use Rattle.ix_tool.specs.declared.status.Status.TheVariants.{Ok as ok_status, Usage, ReadFault, WriteFault, TooLong, Extension as extension_status, Sheet as sheet_status, Image as image_status, NoSchedule, Certificate, Memory, Source, Waits}
 use Rattle.ix_tool.specs.declared.command.Command.{Command}
-use Rattle.ix_tool.specs.declared.command.Command.TheVariants.{RunImage, Check, Certify, Seq, Assemble}
+use Rattle.ix_tool.specs.declared.command.Command.TheVariants.{RunImage, Check, Certify, Schedule, Build, Seq, Assemble}
 use Rattle.ix_tool.specs.declared.command.FileKind.{FileKind}
-use Rattle.ix_tool.specs.declared.command.FileKind.TheVariants.{Image, Program, Report, Extension, Source as source_kind}
+use Rattle.ix_tool.specs.declared.command.FileKind.TheVariants.{Image, Report, Extension, Sheet, Source as source_kind}
 use Rattle.ix_tool.specs.declared.command.Slot.{Slot}
 use Rattle.ix_tool.specs.declared.command.Slot.TheVariants.{Number, File}
 use Rattle.ix_tool.specs.declared.value.Value.{Value}
 use Rattle.ix_tool.specs.declared.value.Refusal.{Refusal}
 use Rattle.ix_tool.specs.declared.value.Refusal.TheVariants as refusal
-use Rattle.rv_core.specs.declared.Shape.{Shape}
-use Rattle.rv_core.specs.declared.cores.CoreKind.TheVariants.{Three}
-use Rattle.rv_core.specs.Kinds.{IsShapeOf}
-use Rattle.rv_trace.specs.Trace.{newest, architecture}
-use Rattle.rv_trace.specs.Headline.{Headline}
-use Rattle.rv_trace.specs.TraceText.{trace_text, state_text}
+use Rattle.rv_show.specs.PipelineText.{IsPipelineText}
 use Rattle.rv_record.specs.RunText.{run_text}
 use Rattle.rv_asm.specs.ImageText.{IsImageText, IsBadLine, image_text}
 use Rattle.rv_asm.specs.Sources.{Assembles, IsRefusedAs}
@@ -31,9 +25,18 @@ use Rattle.ix_elab.specs.Elaborating.{Elaborates}
 use Rattle.ix_elab.specs.Refusing.{IsRefused as IsRefusedExtension}
 use Rattle.ix_listing.specs.Listing.{listing_text}
 use Rattle.ix_listing.specs.RefusalLine.{refusal_line}
-use Rattle.ix_tool.specs.BuiltImages.{AllBuilt, IsUnbuiltLine}
-use Rattle.ix_tool.specs.Readings.{Reading, number_read, image_read, report_read, extension_read, source_read, reading_of}
-use Rattle.ix_tool.specs.CommandLine.{RunCommand, SeqCommand, AsmCommand, run_of, report_of, command_of, slots_of, behind, number_within}
+use Rattle.ix_tool.specs.Readings.{Reading, number_read, image_read, report_read, extension_read, sheet_read, source_read, reading_of}
+use Rattle.ix_tool.specs.CommandLine.{RunCommand, SeqCommand, AsmCommand, ScheduleCommand, BuildCommand, run_of, report_of, command_of, slots_of, behind, number_within}
+use Rattle.ix_sheet.specs.declared.sheet.Sheet.{Sheet as Datasheet}
+use Rattle.ix_sheet.specs.declared.sheet.SheetErr.{SheetErr}
+use Rattle.ix_sheet.specs.declared.sheet.SheetErr.TheVariants as S
+use Rattle.ix_sheet.specs.Sheets.{IsValidSheet}
+use Rattle.ix_sheet.specs.Datasheets.{IsSheetOf, IsRefusalOf as IsRefusedSheet}
+use Rattle.ix_schedules.specs.declared.text.TextErr.{TextErr}
+use Rattle.ix_schedules.specs.declared.text.TextErr.TheVariants as T
+use Rattle.ix_schedules.specs.Scheduling.{AreNamed}
+use Rattle.ix_schedules.specs.ScheduleText.{IsScheduleText, IsRefusedText as IsRefusedSchedule}
+use Rattle.ix_modules.specs.Modules.{IsModulesText}
 use Rattle.ix_cert.specs.declared.report.CertErr.{CertErr}
 use Rattle.ix_cert.specs.Certificates.{IsCertifiedText, IsFaultless, IsRefused as IsRefusedReport}
 use Rattle.ix_cert.specs.Words.{line_number, kind_word}
@@ -43,16 +46,9 @@ use Rattle.ix_io.specs.Shelf.{NamedFiles, told_file}
 use Rattle.ix_io.specs.Sink.{Appends, AppendsFront}
 
 -- ---- the texts of outputs and of refusals
--- the text of a run on the core of three stages: that of rows which the headline holds of, as many as the cycles, or fewer where the last one has a stop,
--- and the state after them
-pub record IsRunOutput (image : List ℕ) (cycles : ℕ) (text : List ℕ) : Type 0 where
-  pub shape : Shape
-  pub core : IsShapeOf Three shape
-  pub rows : List Row
-  pub headline : Headline image shape rows
-  pub few : length rows ≤ cycles
-  pub whole : (newest rows).stop ≡ None → length rows ≡ cycles
-  pub text_is : text ≡ trace_text 3 0 (reverse rows) ++ state_text (architecture rows)
+-- the text of a run on the core of three stages
+abbrev pub IsRunOutput : List ℕ → ℕ → List ℕ → Type 0
+IsRunOutput image cycles text = IsPipelineText 3 1 1 2 image [] cycles text
 
 -- a refusal that names a file
 abbrev pub file_line : List ℕ → List ℕ → List ℕ
@@ -77,38 +73,54 @@ source_line (A.Reach at) = source_text (codes "Reach") at
 source_line (A.Size at) = source_text (codes "Size") at
 source_line A.Memory = []
 
+-- a refusal of a datasheet, which names the rule and the key; `-` where there is none
+abbrev pub sheet_text : List ℕ → List ℕ → List ℕ
+sheet_text kind name = codes "refused Sheet " ++ kind ++ codes " " ++ name ++ codes "\n"
+
+abbrev pub sheet_line : SheetErr → List ℕ
+sheet_line S.Utf8 = sheet_text (codes "Utf8") (codes "-")
+sheet_line S.Toml = sheet_text (codes "Toml") (codes "-")
+sheet_line (S.Key name) = sheet_text (codes "Key") name
+sheet_line (S.Kind name) = sheet_text (codes "Kind") name
+sheet_line S.Core = sheet_text (codes "Core") (codes "core")
+sheet_line (S.Window name) = sheet_text (codes "Window") name
+sheet_line (S.Number name) = sheet_text (codes "Number") name
+sheet_line S.Memory = []
+
 -- ---- what judges a file
--- a line of the image is refused: the first that is none, or else the first whose word is not built
-pub data IsRefusedImage (bytes : List ℕ) : ℕ → Type 0 where
-  bad_line : (number : ℕ) → IsBadLine bytes number → IsRefusedImage bytes number
-  unbuilt_line : (image : List ℕ) (number : ℕ) → IsImageText bytes image → IsUnbuiltLine bytes number → IsRefusedImage bytes number
+-- the datasheet of the text, which is valid, with a delay for each kind and a window for each of the ten first
+pub record IsSheetRead (bytes : List ℕ) (sheet : Datasheet) : Type 0 where
+  pub sheet_is : IsSheetOf bytes sheet
+  pub valid : IsValidSheet sheet
+  pub delays : length sheet.delay ≡ 34
+  pub windows : length sheet.window ≡ 10
 
 -- the text of a file of this kind is refused with this line
 abbrev pub IsRefusedText : FileKind → List ℕ → List ℕ → Type 0
-IsRefusedText Image bytes line = (number : ℕ) × IsRefusedImage bytes number × (line ≡ image_line number)
-IsRefusedText Program bytes line = (number : ℕ) × IsBadLine bytes number × (line ≡ image_line number)
+IsRefusedText Image bytes line = (number : ℕ) × IsBadLine bytes number × (line ≡ image_line number)
 IsRefusedText Report bytes line = (e : CertErr) × IsRefusedReport bytes e × (line ≡ certificate_line e)
 IsRefusedText Extension bytes line = (e : FrontErr) × IsRefusedExtension bytes e × (line ≡ refusal_line e)
+IsRefusedText Sheet bytes line = (e : SheetErr) × IsRefusedSheet bytes e × (line ≡ sheet_line e)
 IsRefusedText source_kind bytes line = ⊥
 
 -- the status of that refusal
 abbrev pub refusal_status : FileKind → Status
 refusal_status Image = image_status
-refusal_status Program = image_status
 refusal_status Report = Certificate
 refusal_status Extension = extension_status
+refusal_status Sheet = sheet_status
 refusal_status source_kind = Source
 
 -- the text of a file of this kind is read as this value
 abbrev pub IsReadAs : FileKind → List ℕ → Reading → Type 0
-IsReadAs Image bytes (image_read image) = IsImageText bytes image × AllBuilt image
+IsReadAs Image bytes (image_read image) = IsImageText bytes image
 IsReadAs Image bytes v = ⊥
-IsReadAs Program bytes (image_read image) = IsImageText bytes image
-IsReadAs Program bytes v = ⊥
 IsReadAs Report bytes report_read = IsFaultless bytes
 IsReadAs Report bytes v = ⊥
 IsReadAs Extension bytes (extension_read x) = Elaborates bytes x
 IsReadAs Extension bytes v = ⊥
+IsReadAs Sheet bytes (sheet_read sheet) = IsSheetRead bytes sheet
+IsReadAs Sheet bytes v = ⊥
 IsReadAs source_kind bytes (source_read text) = text ≡ bytes
 IsReadAs source_kind bytes v = ⊥
 
@@ -153,10 +165,12 @@ IsOutput Check (extension_read x ∷ []) text = text ≡ listing_text x
 IsOutput Certify (report_read ∷ []) text = text ≡ codes "yes\n"
 IsOutput Assemble (extension_read x ∷ source_read bytes ∷ []) text = (words : List ℕ) × Assembles x bytes words × (text ≡ image_text words)
 IsOutput Seq (extension_read x ∷ image_read image ∷ number_read steps ∷ []) text = text ≡ run_text x image steps
+IsOutput Schedule (extension_read x ∷ sheet_read sheet ∷ []) text = IsScheduleText x sheet text
+IsOutput Build (extension_read x ∷ sheet_read sheet ∷ []) text = IsModulesText x sheet text
 IsOutput command values text = ⊥
 
--- a refusal of the command's own, behind those of its files: of a source with the extension before it
-pub record IsOwnRefusal (command : Command) (values : List Reading) (status : Status) (line : List ℕ) : Type 0 where
+-- a refusal of a source with the extension before it
+pub record IsSourceRefusal (command : Command) (values : List Reading) (status : Status) (line : List ℕ) : Type 0 where
   pub command_is : command ≡ Assemble
   pub extension : ExtensionTree
   pub source : List ℕ
@@ -166,6 +180,32 @@ pub record IsOwnRefusal (command : Command) (values : List Reading) (status : St
   pub refused : IsRefusedAs extension source error
   pub status_is : status ≡ Source
   pub line_is : line ≡ source_line error
+
+-- the status and the text of a behaviour that is not scheduled
+abbrev pub IsToldAs : TextErr → Status → List ℕ → Type 0
+IsToldAs (T.TooManyOps text) status line = (status ≡ extension_status) × (line ≡ text)
+IsToldAs (T.NoSchedule text) status line = (status ≡ NoSchedule) × (line ≡ text)
+IsToldAs T.Memory status line = ⊥
+
+-- the command schedules the behaviours of an extension
+abbrev pub Schedules : Command → Type 0
+Schedules Schedule = Unit {0}
+Schedules Build = Unit {0}
+Schedules command = ⊥
+
+-- a refusal of the first behaviour of an extension that is not scheduled on the core of the datasheet
+pub record IsScheduleRefusal (command : Command) (values : List Reading) (status : Status) (line : List ℕ) : Type 0 where
+  pub schedules : Schedules command
+  pub extension : ExtensionTree
+  pub sheet : Datasheet
+  pub values_are : values ≡ extension_read extension ∷ sheet_read sheet ∷ []
+  pub error : TextErr
+  pub refused : IsRefusedSchedule extension sheet error
+  pub told : IsToldAs error status line
+
+-- a refusal of the command's own, behind those of its files
+abbrev pub IsOwnRefusal : Command → List Reading → Status → List ℕ → Type 0
+IsOwnRefusal command values status line = IsSourceRefusal command values status line ⊎ IsScheduleRefusal command values status line
 
 -- what the command answers: its own refusal, or its output
 abbrev pub IsAnswer : Command → List Reading → Status → List ℕ → Type 0
@@ -178,12 +218,6 @@ pub data IsDue (files : Option NamedFiles) (Rises : List ℕ → Type 0) (words 
   due_answer : (command : Command) (values : List Reading) (status : Status) (bytes : List ℕ) → command_of words ≡ Some command → AreRead files (slots_of command) (behind words) values → IsAnswer command values status bytes → IsDue files Rises words status bytes
 
 -- ---- what was written
--- a front of the bytes was written, and the rest is what is left
-pub record Sends (before now : Option (List ℕ)) (bytes left : List ℕ) : Type 0 where
-  pub sent : List ℕ
-  pub appends : Appends before now sent
-  pub parts : sent ++ left ≡ bytes
-
 -- the bytes were written whole with this status, or the sink's count rose and a front of them was written
 abbrev pub Writes : Status → List ℕ → Option (List ℕ) → Option (List ℕ) → ℕ → ℕ → Status → Type 0
 Writes status bytes before now faults faults_now result =
@@ -228,6 +262,11 @@ abbrev pub WordsRefused : Option NamedFiles → (List ℕ → Type 0) → List S
 WordsRefused files Rises slots words refusal.Memory = Unit {0}
 WordsRefused files Rises slots words (refusal.Line status text) = IsFirstRefused files Rises slots words status (string_bytes text)
 
+-- the values are a well-formed extension, whose behaviours have names of the language, and a datasheet
+abbrev pub TakesSheet : List Reading → Type 0
+TakesSheet (extension_read x ∷ sheet_read sheet ∷ []) = ((text : TypedTextTree) × IsOf text x) × AreNamed x × IsValidSheet sheet
+TakesSheet values = ⊥
+
 -- the values are those that the command takes
 abbrev pub Takes : Command → List Reading → Type 0
 Takes RunImage (image_read image ∷ number_read cycles ∷ []) = Unit {0}
@@ -235,6 +274,8 @@ Takes Check (extension_read x ∷ []) = Unit {0}
 Takes Certify (report_read ∷ []) = Unit {0}
 Takes Assemble (extension_read x ∷ source_read bytes ∷ []) = length bytes ≤ most_bytes
 Takes Seq (extension_read x ∷ image_read image ∷ number_read steps ∷ []) = (text : TypedTextTree) × IsOf text x
+Takes Schedule values = TakesSheet values
+Takes Build values = TakesSheet values
 Takes command values = ⊥
 
 -- what a command with these values did
@@ -335,7 +376,6 @@ pub record RunAnswer (words : List (List ℕ)) (told before now : Option (List �
   pub text : List ℕ
   pub run : IsRunOf words told command file
   pub read : IsImageText file image
-  pub built : AllBuilt image
   pub output : IsRunOutput image command.cycles text
   pub written : Appends before now text
 
@@ -381,6 +421,62 @@ pub record SourceAnswer (files : Option NamedFiles) (words : List (List ℕ)) (b
   pub refused : IsRefusedAs extension source error
   pub written : Appends before now (source_line error)
 
+-- the files are the texts of this extension, which is well formed, and of this datasheet; of each behaviour, the instructions first and then the
+-- always-blocks, the report has the mode by the rule, the behaviour's own graph and its problem on the core in that mode, and the chosen schedule with its cost
+-- and a flow that shows it; the check of a report finds no fault in its text, which was written whole
+pub record ScheduledAnswer (files : Option NamedFiles) (command : ScheduleCommand) (before now : Option (List ℕ)) : Type 0 where
+  pub bytes : List ℕ
+  pub extension : ExtensionTree
+  pub sheet_bytes : List ℕ
+  pub sheet : Datasheet
+  pub text : List ℕ
+  pub file : IsFile files command.extension bytes
+  pub elaborates : Elaborates bytes extension
+  pub well_formed : (typed : TypedTextTree) × IsOf typed extension
+  pub sheet_file : IsFile files command.sheet sheet_bytes
+  pub sheet_read : IsSheetRead sheet_bytes sheet
+  pub scheduled : IsScheduleText extension sheet text
+  pub written : Appends before now text
+
+-- The files are the texts of this extension, which is well formed, and of this datasheet. The text that was written whole denotes one net for each behaviour, the
+-- instructions first and then the always-blocks; each serves its behaviour by the chosen schedule in the mode of the rule, for all inputs and all lists of enables.
+pub record ModulesAnswer (files : Option NamedFiles) (command : BuildCommand) (before now : Option (List ℕ)) : Type 0 where
+  pub bytes : List ℕ
+  pub extension : ExtensionTree
+  pub sheet_bytes : List ℕ
+  pub sheet : Datasheet
+  pub text : List ℕ
+  pub file : IsFile files command.extension bytes
+  pub elaborates : Elaborates bytes extension
+  pub well_formed : (typed : TypedTextTree) × IsOf typed extension
+  pub sheet_file : IsFile files command.sheet sheet_bytes
+  pub sheet_read : IsSheetRead sheet_bytes sheet
+  pub modules : IsModulesText extension sheet text
+  pub written : Appends before now text
+
+-- the first behaviour that is not scheduled was refused and its text written
+pub record UnscheduledAnswer (files : Option NamedFiles) (words : List (List ℕ)) (error : List ℕ → TextErr) (before now : Option (List ℕ)) : Type 0 where
+  pub command : Command
+  pub schedules : Schedules command
+  pub values : List Reading
+  pub extension : ExtensionTree
+  pub sheet : Datasheet
+  pub text : List ℕ
+  pub command_is : command_of words ≡ Some command
+  pub read : AreRead files (slots_of command) (behind words) values
+  pub values_are : values ≡ extension_read extension ∷ sheet_read sheet ∷ []
+  pub refused : IsRefusedSchedule extension sheet (error text)
+  pub written : Appends before now text
+
+-- a behaviour has no legal schedule in the widest windows that it may have, and those before it have one: the line that names it was written, and the report of
+-- its problem there, with a cycle that shows it
+abbrev pub NoScheduleAnswer : Option NamedFiles → List (List ℕ) → Option (List ℕ) → Option (List ℕ) → Type 0
+NoScheduleAnswer files words before now = UnscheduledAnswer files words (λ text. T.NoSchedule text) before now
+
+-- the text of an extension is refused, or a behaviour has more than 256 operations, and those before it have a schedule
+abbrev pub ExtensionAnswer : Option NamedFiles → List (List ℕ) → Option (List ℕ) → Option (List ℕ) → Type 0
+ExtensionAnswer files words before now = TextAnswer files words extension_status before now ⊎ UnscheduledAnswer files words (λ text. T.TooManyOps text) before now
+
 -- the files are the texts of this extension, which is well formed, and of this image, whatever its words; and the text of the image's run on a core with
 -- the extension, one instruction at a time, was written whole
 pub record SteppedAnswer (files : Option NamedFiles) (command : SeqCommand) (before now : Option (List ℕ)) : Type 0 where
@@ -406,8 +502,8 @@ IsBuiltAnswer extension_status = Unit {0}
 IsBuiltAnswer image_status = Unit {0}
 IsBuiltAnswer Certificate = Unit {0}
 IsBuiltAnswer Memory = Unit {0}
-IsBuiltAnswer Sheet = ⊥
-IsBuiltAnswer NoSchedule = ⊥
+IsBuiltAnswer sheet_status = Unit {0}
+IsBuiltAnswer NoSchedule = Unit {0}
 IsBuiltAnswer Source = Unit {0}
 IsBuiltAnswer Waits = ⊥
 

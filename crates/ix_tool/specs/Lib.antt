@@ -1,4 +1,3 @@
-pub mod BuiltImages
 pub mod Codes
 pub mod CommandLine
 pub mod Readings

@@ -14,19 +14,23 @@ pub enum Command {
     Assemble,
     /// `seq EXT IMAGE STEPS`, with 0 to 200,000 steps.
     Seq,
+    /// `schedule EXT SHEET`.
+    Schedule,
+    /// `build EXT SHEET`.
+    Build,
 }
 
 /// What a file is read as.
 #[derive(Clone, Copy, Debug, PartialEq, Eq)]
 pub enum FileKind {
-    /// The words of a program, each a built instruction of the pipeline.
-    Image,
     /// The words of a program.
-    Program,
+    Image,
     /// A report of schedules.
     Report,
     /// The text of an extension.
     Extension,
+    /// A datasheet.
+    Sheet,
     /// An assembly source.
     Source,
 }
@@ -41,12 +45,14 @@ pub enum Slot {
 }
 
 /// The commands, in the order in which words are tried.
-const COMMANDS: [Command; 5] = [
+const COMMANDS: [Command; 7] = [
     Command::RunImage,
     Command::Check,
     Command::Certify,
     Command::Seq,
     Command::Assemble,
+    Command::Schedule,
+    Command::Build,
 ];
 
 /// What stands behind `run` for an image alone.
@@ -61,7 +67,7 @@ const CERTIFY: [Slot; 1] = [Slot::File(FileKind::Report)];
 /// What stands behind `seq`.
 const SEQ: [Slot; 3] = [
     Slot::File(FileKind::Extension),
-    Slot::File(FileKind::Program),
+    Slot::File(FileKind::Image),
     Slot::Number(200_000),
 ];
 
@@ -70,6 +76,9 @@ const ASSEMBLE: [Slot; 2] = [
     Slot::File(FileKind::Extension),
     Slot::File(FileKind::Source),
 ];
+
+/// What stands behind `schedule` and `build`.
+const SCHEDULE: [Slot; 2] = [Slot::File(FileKind::Extension), Slot::File(FileKind::Sheet)];
 
 impl Command {
     /// The first word.
@@ -82,6 +91,8 @@ impl Command {
             Command::Certify => "certify",
             Command::Assemble => "asm",
             Command::Seq => "seq",
+            Command::Schedule => "schedule",
+            Command::Build => "build",
         }
     }
 
@@ -94,6 +105,8 @@ impl Command {
             Command::Check => &CHECK,
             Command::Certify => &CERTIFY,
             Command::Assemble => &ASSEMBLE,
+            Command::Schedule => &SCHEDULE,
+            Command::Build => &SCHEDULE,
             Command::Seq => &SEQ,
         }
     }

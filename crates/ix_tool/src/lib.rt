@@ -2,8 +2,9 @@
 #![tactic(auto)]
 
 pub mod assembling;
+pub mod building;
 pub mod command;
-pub mod running;
+pub mod scheduling;
 pub mod status;
 pub mod tool;
 pub mod value;

@@ -1,24 +1,28 @@
 ghost use Rattle.std.specs.Prelude.{◌≡◌, ◌≢◌, ℕ, List, map, Some, None, ◌⊎◌};
 ghost use Rattle.ix_tool.specs.declared.status.Status.{Status};
 ghost use Rattle.ix_tool.specs.declared.command.Command.{Command as TheCommand};
-ghost use Rattle.ix_tool.specs.CommandLine.{SeqCommand, AsmCommand, command_of as specified_command_of, extension_of, report_of, seq_of, source_of, bytes_of};
+ghost use Rattle.ix_tool.specs.CommandLine.{SeqCommand, AsmCommand, ScheduleCommand, BuildCommand, command_of as specified_command_of, extension_of, report_of, seq_of, source_of, schedule_of, build_of, bytes_of};
 ghost use Rattle.ix_extension.specs.Extensions.{view_extension};
 ghost use Rattle.ix_extension.specs.WellFormed.{IsWellFormed};
 ghost use Rattle.ix_listing.specs.Listing.{listing_text};
 ghost use Rattle.rv_record.specs.RunText.{run_text};
 ghost use Rattle.ix_tool.specs.Readings.{Reading, reading_of};
-ghost use Rattle.ix_tool.specs.CommandOutput.{Writes, Takes, Answered, Outcome, RoseIn, NoneRises, IsDue, UsageAnswer, ReadFaultAnswer, WriteFaultAnswer, TooLongAnswer, TextAnswer, OutputAnswer, RunAnswer, ListedAnswer, CertifiedAnswer, SteppedAnswer, AssembledAnswer, SourceAnswer, IsBuiltAnswer, IsStatusOr, Premises, Completes, told_of};
+ghost use Rattle.ix_tool.specs.CommandOutput.{IsRunOutput, Writes, Takes, Answered, Outcome, RoseIn, NoneRises, IsDue, UsageAnswer, ReadFaultAnswer, WriteFaultAnswer, TooLongAnswer, TextAnswer, OutputAnswer, RunAnswer, ListedAnswer, CertifiedAnswer, SteppedAnswer, AssembledAnswer, SourceAnswer, ScheduledAnswer, ModulesAnswer, NoScheduleAnswer, ExtensionAnswer, IsBuiltAnswer, IsStatusOr, Premises, Completes, told_of};
 
 use crate::assembling::assemble_source;
+use crate::building::build_extension;
 use crate::command::{Command, command_of};
-use crate::running::run_image;
+use crate::scheduling::schedule_extension;
 use crate::status::Status;
 use crate::value::{Refusal, Value, read_words};
 use ix_io::{Shelf, Sink, write_all};
 use ix_listing::listing;
 use ix_tree::Extension;
+use rv_core::Three;
 use rv_isa::Image;
+use rv_show::write_pipeline;
 use rv_tell::{RunErr, write_run};
+use rv_waits::Waits;
 use std::alloc::Global;
 
 /// Writes these bytes and answers the status, or that they could not be written.
@@ -39,6 +43,19 @@ fn list_extension<S: Sink>(alloc: Global, extension: &Extension, sink: &mut S) -
     match listing(alloc, extension) {
         Ok(text) => finish(sink, Status::Ok, text.as_bytes()),
         Err(_) => Status::Memory,
+    }
+}
+
+/// Writes the run of an image on the core of three stages.
+fn run_image<S: Sink>(alloc: Global, image: &Image, cycles: u32, sink: &mut S) -> Status
+    ensures { ((result ≡ Status.Memory) × (S.written sink.new ≡ S.written sink.old))
+        ⊎ ((text : List ℕ) × IsRunOutput image.now cycles text × Writes Status.Ok text (S.written sink.old) (S.written sink.new) (S.faults sink.old) (S.faults sink.new) result) }
+{
+    let waits = Waits::new(alloc);
+    match write_pipeline::<Three, S>(alloc, image, &waits, cycles, sink) {
+        Ok(()) => Status::Ok,
+        Err(RunErr::Memory) => Status::Memory,
+        Err(RunErr::Fault) => Status::WriteFault,
     }
 }
 
@@ -76,6 +93,32 @@ fn answer_seq<S: Sink>(alloc: Global, values: &[Value], sink: &mut S) -> Status
     }
 }
 
+/// Writes the report that these values ask for.
+fn answer_schedule<S: Sink>(alloc: Global, values: &[Value], sink: &mut S) -> Status
+    requires { Takes Command.Schedule (map reading_of values.now) }
+    ensures { Answered Command.Schedule (map reading_of values.now) (S.written sink.old) (S.written sink.new) (S.faults sink.old) (S.faults sink.new) result }
+{
+    match values {
+        [Value::Extension(extension), Value::Sheet(sheet)] => {
+            schedule_extension(alloc, extension, sheet, sink)
+        }
+        _ => unreachable!(),
+    }
+}
+
+/// Writes the modules that these values ask for.
+fn answer_build<S: Sink>(alloc: Global, values: &[Value], sink: &mut S) -> Status
+    requires { Takes Command.Build (map reading_of values.now) }
+    ensures { Answered Command.Build (map reading_of values.now) (S.written sink.old) (S.written sink.new) (S.faults sink.old) (S.faults sink.new) result }
+{
+    match values {
+        [Value::Extension(extension), Value::Sheet(sheet)] => {
+            build_extension(alloc, extension, sheet, sink)
+        }
+        _ => unreachable!(),
+    }
+}
+
 /// Writes what is due of the values of a command.
 fn answer<S: Sink>(alloc: Global, command: Command, values: &[Value], sink: &mut S) -> Status
     requires { Takes command (map reading_of values.now) }
@@ -88,6 +131,8 @@ fn answer<S: Sink>(alloc: Global, command: Command, values: &[Value], sink: &mut
         (Command::Check, [Value::Extension(extension)]) => list_extension(alloc, extension, sink),
         (Command::Certify, [Value::Report]) => finish(sink, Status::Ok, b"yes\n"),
         (Command::Seq, _) => answer_seq(alloc, values, sink),
+        (Command::Schedule, _) => answer_schedule(alloc, values, sink),
+        (Command::Build, _) => answer_build(alloc, values, sink),
         (Command::Assemble, [Value::Extension(extension), Value::Source(source)]) => {
             assemble_source(alloc, extension, source, sink)
         }
@@ -119,8 +164,9 @@ fn run_words<F: Shelf, S: Sink>(
 /// `run IMAGE CYCLES` writes the trace and the state of a run on the core of three stages: at most 200,000 cycles over an
 /// image of at most 1,048,576 bytes and 65,536 words. `check EXT` writes the listing of an extension: its registers, tables,
 /// encodings and blocks. `certify REPORT` writes `yes` where the check of a report finds no
-/// fault. `seq EXT IMAGE STEPS` writes the run of an image one instruction at a time, at most 200,000 of them, on a core with an extension. `asm EXT SOURCE` writes the image of a source with the instructions of an extension. The files are read whole and judged one after another, in the order of the words. A refusal writes its one line
-/// alone; want of memory writes nothing, and comes before the first cycle.
+/// fault. `seq EXT IMAGE STEPS` writes the run of an image one instruction at a time, at most 200,000 of them, on a core with an extension. `asm EXT SOURCE` writes the image of a source with the instructions of an extension.
+/// `schedule EXT SHEET` writes the report of an extension's behaviours on the core of a datasheet, `build EXT SHEET` the Verilog text of their modules. The files are read whole and judged one after another, in the order of the words. A refusal writes its one line
+/// alone, but that a behaviour without a schedule is named and then reported; want of memory writes nothing, and comes before the first cycle.
 pub fn run_tool<F: Shelf, S: Sink>(
     alloc: Global,
     words: &[String],
@@ -148,6 +194,16 @@ pub fn run_tool<F: Shelf, S: Sink>(
     ensures stepped { result ≡ Status.Ok → (command : SeqCommand) → seq_of (bytes_of words.now) ≡ Some command
         → SteppedAnswer (F.files shelf.old) command (S.written sink.old) (S.written sink.new) }
 
+    // A report is that of the extension on the core of the datasheet which the files are the texts of: of each behaviour its own graph, the mode by the
+    // rule, and the chosen schedule in it, which the flow shows; and its check finds no fault.
+    ensures scheduled { result ≡ Status.Ok → (command : ScheduleCommand) → schedule_of (bytes_of words.now) ≡ Some command
+        → ScheduledAnswer (F.files shelf.old) command (S.written sink.old) (S.written sink.new) }
+
+    // The text of modules denotes a net for each behaviour of the extension which the file is the text of, the instructions first and then the always-blocks. Each
+    // serves its behaviour by the chosen schedule in the mode of the rule, for all inputs and all lists of enables.
+    ensures modules { result ≡ Status.Ok → (command : BuildCommand) → build_of (bytes_of words.now) ≡ Some command
+        → ModulesAnswer (F.files shelf.old) command (S.written sink.old) (S.written sink.new) }
+
     // For every command: the status and the bytes that were written are due, by the words and the bytes of the files. Of a
     // file of which nothing is told, they are some bytes of at most the greatest length.
     ensures outcome { Outcome (F.files shelf.old) (RoseIn (F.faults shelf.old) (F.faults shelf.new)) (bytes_of words.now)
@@ -167,7 +223,11 @@ pub fn run_tool<F: Shelf, S: Sink>(
     ensures image { result ≡ Status.Image
         → TextAnswer (F.files shelf.old) (bytes_of words.now) Status.Image (S.written sink.old) (S.written sink.new) }
     ensures extension { result ≡ Status.Extension
-        → TextAnswer (F.files shelf.old) (bytes_of words.now) Status.Extension (S.written sink.old) (S.written sink.new) }
+        → ExtensionAnswer (F.files shelf.old) (bytes_of words.now) (S.written sink.old) (S.written sink.new) }
+    ensures sheet { result ≡ Status.Sheet
+        → TextAnswer (F.files shelf.old) (bytes_of words.now) Status.Sheet (S.written sink.old) (S.written sink.new) }
+    ensures no_schedule { result ≡ Status.NoSchedule
+        → NoScheduleAnswer (F.files shelf.old) (bytes_of words.now) (S.written sink.old) (S.written sink.new) }
     ensures certificate { result ≡ Status.Certificate
         → TextAnswer (F.files shelf.old) (bytes_of words.now) Status.Certificate (S.written sink.old) (S.written sink.new) }
     ensures source { result ≡ Status.Source

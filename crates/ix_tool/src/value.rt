@@ -1,16 +1,13 @@
-ghost use Rattle.std.specs.Prelude.{◌≡◌, ◌≤◌, ◌++◌, codes, length, map, true, IfOk, IfErr, MatchOption};
+ghost use Rattle.std.specs.Prelude.{◌≡◌, ◌≤◌, ◌++◌, codes, length, map, true, IfOk, IfErr};
 ghost use Rattle.ix_io.specs.Faults.{NoneFell};
 ghost use Rattle.ix_io.specs.Limits.{most_bytes};
-ghost use Rattle.rv_isa.specs.Images.{most_words};
-ghost use Rattle.rv_asm.specs.ImageText.{IsImageText};
-ghost use Rattle.ix_tool.specs.BuiltImages.{AllBuilt, IsFirstUnbuilt};
 ghost use Rattle.ix_cert.specs.declared.report.CertErr.TheVariants.{Memory};
 ghost use Rattle.ix_listing.specs.RefusalLine.{refusal_line};
 ghost use Rattle.ix_tool.specs.CommandLine.{fits_slot, fits_slots, bytes_of};
-ghost use Rattle.ix_tool.specs.CommandOutput.{image_line, file_line, certificate_line, Refuses, Judged, WordRead, WordsRefused, AreRead, RoseIn};
+ghost use Rattle.ix_tool.specs.CommandOutput.{image_line, file_line, certificate_line, sheet_text, sheet_line, Refuses, Judged, WordRead, WordsRefused, AreRead, RoseIn};
 ghost use Rattle.ix_tool.specs.Readings.{reading_of};
 ghost use Rattle.ix_tool.specs.declared.command.FileKind.{FileKind as Kind};
-ghost use Rattle.ix_tool.specs.declared.command.FileKind.TheVariants.{Image as image_kind, Program as program_kind, Report as report_kind, Extension as extension_kind, Source as source_kind};
+ghost use Rattle.ix_tool.specs.declared.command.FileKind.TheVariants.{Image as image_kind, Report as report_kind, Extension as extension_kind, Sheet as sheet_kind, Source as source_kind};
 
 use crate::command::{FileKind, Slot, number_within};
 use crate::status::Status;
@@ -19,9 +16,9 @@ use ix_cert::{CertErr, certify};
 use ix_elab::{FrontErr, elaborate};
 use ix_io::{ReadErr, Shelf, read_all};
 use ix_listing::refusal;
+use ix_sheet::{Sheet, SheetErr, read_sheet};
 use ix_tree::Extension;
-use rv_asm::{TextErr, line_of_word, read_image};
-use rv_built::instruction_of;
+use rv_asm::{TextErr, read_image};
 use rv_isa::Image;
 use std::alloc::Global;
 
@@ -36,6 +33,8 @@ pub enum Value {
     Report,
     /// The extension of a text.
     Extension(Extension),
+    /// The datasheet of a text.
+    Sheet(Sheet),
     /// The bytes of an assembly source.
     Source(List<u8>),
 }
@@ -95,50 +94,36 @@ fn extension_refusal(alloc: Global, error: &FrontErr) -> Refusal
     }
 }
 
-/// The number, from 0, of the first word that is no built instruction.
-fn first_unbuilt(words: &[u32]) -> Option<u32>
-    requires { length words.now ≤ most_words }
-    ensures { MatchOption result (AllBuilt words.now) (IsFirstUnbuilt words.now) }
+/// The refusal of a datasheet by a rule that a key breaks.
+fn sheet_refusal_at(alloc: Global, kind: &str, name: &str) -> Refusal
+    ensures { Refuses Status.Sheet (sheet_text kind.now name.now) result }
 {
-    for (number, word) in words.iter().enumerate() {
-        if instruction_of(*word).is_none() {
-            return Some(number as u32);
-        }
+    match format!(in alloc; "refused Sheet {kind} {name}\n") {
+        Ok(line) => Refusal::Line(Status::Sheet, line),
+        Err(_) => Refusal::Memory,
     }
-    None
 }
 
-/// The image, or the refusal of its first word that is no built instruction.
-fn judge_words(alloc: Global, bytes: &[u8], image: Image) -> Result<Value, Refusal>
-    requires short { length bytes.now ≤ most_bytes }
-    requires read { IsImageText bytes.now image }
-    ensures { Judged image_kind bytes.now result }
+/// The refusal of a datasheet.
+fn sheet_refusal(alloc: Global, error: &SheetErr) -> Refusal
+    ensures memory { error.now ≡ SheetErr.Memory → result ≡ Refusal.Memory }
+    ensures line { Refuses Status.Sheet (sheet_line error.now) result }
 {
-    match first_unbuilt(image.as_slice()) {
-        None => Ok(Value::Image(image)),
-        Some(number) => {
-            match line_of_word(alloc, bytes, number) {
-                Ok(line) => Err(image_refusal(alloc, line)),
-                Err(_) => Err(Refusal::Memory),
-            }
-        }
+    match error {
+        SheetErr::Utf8 => sheet_refusal_at(alloc, "Utf8", "-"),
+        SheetErr::Toml => sheet_refusal_at(alloc, "Toml", "-"),
+        SheetErr::Key { name } => sheet_refusal_at(alloc, "Key", name.as_str()),
+        SheetErr::Kind { name } => sheet_refusal_at(alloc, "Kind", name.as_str()),
+        SheetErr::Core => sheet_refusal_at(alloc, "Core", "core"),
+        SheetErr::Window { op } => sheet_refusal_at(alloc, "Window", op.as_str()),
+        SheetErr::Number { name } => sheet_refusal_at(alloc, "Number", name.as_str()),
+        SheetErr::Memory => Refusal::Memory,
     }
 }
 
 fn judge_image(alloc: Global, bytes: &[u8]) -> Result<Value, Refusal>
     requires { length bytes.now ≤ most_bytes }
     ensures { Judged image_kind bytes.now result }
-{
-    match read_image(alloc, bytes) {
-        Err(TextErr::At(number)) => Err(image_refusal(alloc, number)),
-        Err(TextErr::Memory) => Err(Refusal::Memory),
-        Ok(image) => judge_words(alloc, bytes, image),
-    }
-}
-
-fn judge_program(alloc: Global, bytes: &[u8]) -> Result<Value, Refusal>
-    requires { length bytes.now ≤ most_bytes }
-    ensures { Judged program_kind bytes.now result }
 {
     match read_image(alloc, bytes) {
         Err(TextErr::At(number)) => Err(image_refusal(alloc, number)),
@@ -167,6 +152,15 @@ fn judge_extension(alloc: Global, bytes: &[u8]) -> Result<Value, Refusal>
     }
 }
 
+fn judge_sheet(alloc: Global, bytes: &[u8]) -> Result<Value, Refusal>
+    ensures { Judged sheet_kind bytes.now result }
+{
+    match read_sheet(alloc, bytes) {
+        Ok(sheet) => Ok(Value::Sheet(sheet)),
+        Err(error) => Err(sheet_refusal(alloc, &error)),
+    }
+}
+
 /// A source is read as its bytes; whether it has words depends on the extension.
 fn judge_source(alloc: Global, bytes: &[u8]) -> Result<Value, Refusal>
     ensures { Judged source_kind bytes.now result }
@@ -184,9 +178,9 @@ fn judge(alloc: Global, kind: FileKind, bytes: &[u8]) -> Result<Value, Refusal>
 {
     match kind {
         FileKind::Image => judge_image(alloc, bytes),
-        FileKind::Program => judge_program(alloc, bytes),
         FileKind::Report => judge_report(alloc, bytes),
         FileKind::Extension => judge_extension(alloc, bytes),
+        FileKind::Sheet => judge_sheet(alloc, bytes),
         FileKind::Source => judge_source(alloc, bytes),
     }
 }

@@ -9,4 +9,6 @@ mod checking;
 mod images;
 #[cfg(test)]
 mod running;
+#[cfg(test)]
+mod scheduling;
 pub mod sure;

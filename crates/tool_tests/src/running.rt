@@ -205,8 +205,6 @@ fn lines_of_an_image(rt: HostRuntime) -> Result<(), Fail> {
         "00100073\n0010 0073",
         "\n0x100073",
         "\n/",
-        "\n00200073",
-        "\nffffffff",
     ] {
         let (status, sink) = answer(alloc, &["run", "IMAGE", "0"], text.as_bytes())?;
         assert_eq!(rt; status, Status::Image);

@@ -15,11 +15,13 @@ asm_values (value.Number n ∷ vs) h = absurd h
 asm_values (value.Image i ∷ vs) h = absurd h
 asm_values (value.Report ∷ vs) h = absurd h
 asm_values (value.Source s ∷ vs) h = absurd h
+asm_values (value.Sheet s ∷ vs) h = absurd h
 asm_values (value.Extension x ∷ []) h = absurd h
 asm_values (value.Extension x ∷ value.Number n ∷ vs) h = absurd h
 asm_values (value.Extension x ∷ value.Image i ∷ vs) h = absurd h
 asm_values (value.Extension x ∷ value.Report ∷ vs) h = absurd h
 asm_values (value.Extension x ∷ value.Extension y ∷ vs) h = absurd h
+asm_values (value.Extension x ∷ value.Sheet s ∷ vs) h = absurd h
 asm_values (value.Extension x ∷ value.Source s ∷ []) h = (x, s, refl)
 asm_values (value.Extension x ∷ value.Source s ∷ w ∷ vs) h = absurd h
 

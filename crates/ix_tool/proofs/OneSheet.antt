@@ -1,0 +1,95 @@
+-- A text is one datasheet, or is refused.
+use Rattle.std.proofs.Common.{◌≡◌, ◌∙◌, sym, ap, subst, refl, ℕ, suc, ◌+◌, ◌<◌, ◌≤◌, List, [], ◌∷◌, length, get_or, Option, Some, None, pos, ℤ, arith, inl, inr}
+use Rattle.std.specs.Prelude.{IsSomeAnd, MatchOption, slice_index_or}
+use Rattle.std.specs.Coded.{le_prop}
+use Rattle.toml.specs.Data.{Members}
+use Rattle.toml.specs.Parse.{parse_document}
+use Rattle.rv_core.specs.declared.Shape.{Shape}
+use Rattle.rv_core.specs.declared.cores.CoreKind.{CoreKind}
+use Rattle.rv_core.specs.declared.cores.CoreKind.TheVariants.{Three, Four, Five}
+use Rattle.rv_core.specs.Stages.{IsLawful}
+use Rattle.rv_core.specs.Kinds.{HasNumbers, IsShapeOf}
+use Rattle.ix_graph.specs.Kinds.{kind_words}
+use Rattle.ix_sheet.specs.declared.sheet.Sheet.{Sheet}
+use Rattle.ix_sheet.specs.declared.sheet.SheetErr.{SheetErr}
+use Rattle.ix_sheet.specs.declared.sheet.SheetErr.TheVariants.{Toml}
+use Rattle.ix_sheet.specs.Sheets.{window_at, native_windows_of}
+use Rattle.ix_sheet.specs.Datasheets.{HasCore, core_of, period_of, window_in, document_refusal, IsDocumentOf, IsSheetOf, IsRefusalOf}
+use Rattle.ix_tool.specs.CommandOutput.{IsSheetRead}
+
+-- ---- shapes with the same numbers are one
+lawful_one : (a b c d : ℕ) (x y : IsLawful a b c d) → x ≡ y
+lawful_one a b c d x y =
+    ap (λ (p : 0 < b). let z : IsLawful a b c d = record { reads_late = p; reads_first = x.reads_first; reads_near = x.reads_near; memory_late = x.memory_late; memory_inside = x.memory_inside; least = x.least; most = x.most } in z) (le_prop x.reads_late y.reads_late)
+    ∙ ap (λ (p : b ≤ c). let z : IsLawful a b c d = record { reads_late = y.reads_late; reads_first = p; reads_near = x.reads_near; memory_late = x.memory_late; memory_inside = x.memory_inside; least = x.least; most = x.most } in z) (le_prop x.reads_first y.reads_first)
+    ∙ ap (λ (p : c ≤ b + 1). let z : IsLawful a b c d = record { reads_late = y.reads_late; reads_first = y.reads_first; reads_near = p; memory_late = x.memory_late; memory_inside = x.memory_inside; least = x.least; most = x.most } in z) (le_prop x.reads_near y.reads_near)
+    ∙ ap (λ (p : c < d). let z : IsLawful a b c d = record { reads_late = y.reads_late; reads_first = y.reads_first; reads_near = y.reads_near; memory_late = p; memory_inside = x.memory_inside; least = x.least; most = x.most } in z) (le_prop x.memory_late y.memory_late)
+    ∙ ap (λ (p : d + 1 ≤ a). let z : IsLawful a b c d = record { reads_late = y.reads_late; reads_first = y.reads_first; reads_near = y.reads_near; memory_late = y.memory_late; memory_inside = p; least = x.least; most = x.most } in z) (le_prop x.memory_inside y.memory_inside)
+    ∙ ap (λ (p : 3 ≤ a). let z : IsLawful a b c d = record { reads_late = y.reads_late; reads_first = y.reads_first; reads_near = y.reads_near; memory_late = y.memory_late; memory_inside = y.memory_inside; least = p; most = x.most } in z) (le_prop x.least y.least)
+    ∙ ap (λ (p : a ≤ 5). let z : IsLawful a b c d = record { reads_late = y.reads_late; reads_first = y.reads_first; reads_near = y.reads_near; memory_late = y.memory_late; memory_inside = y.memory_inside; least = y.least; most = p } in z) (le_prop x.most y.most)
+
+abbrev shape_by : (a b c d : ℕ) → IsLawful a b c d → Shape
+shape_by a b c d l = record { stages = a; rd = b; ex = c; mem = d; lawful = l }
+
+shape_same : (a b c d a' b' c' d' : ℕ) (l : IsLawful a b c d) (m : IsLawful a' b' c' d') → a ≡ a' → b ≡ b' → c ≡ c' → d ≡ d' → shape_by a b c d l ≡ shape_by a' b' c' d' m
+shape_same a b c d a' b' c' d' l m ea eb ec ed =
+    subst (λ (w : ℕ). (k : IsLawful w b' c' d') → shape_by a b c d l ≡ shape_by w b' c' d' k) ea
+    (subst (λ (x : ℕ). (k : IsLawful a x c' d') → shape_by a b c d l ≡ shape_by a x c' d' k) eb
+    (subst (λ (y : ℕ). (k : IsLawful a b y d') → shape_by a b c d l ≡ shape_by a b y d' k) ec
+    (subst (λ (z : ℕ). (k : IsLawful a b c z) → shape_by a b c d l ≡ shape_by a b c z k) ed (λ k. ap (λ (q : IsLawful a b c d). shape_by a b c d q) (lawful_one a b c d l k))))) m
+
+numbers_one : (s t : Shape) (a b c d : ℕ) → HasNumbers s a b c d → HasNumbers t a b c d → s ≡ t
+numbers_one s t a b c d p q =
+    shape_same s.stages s.rd s.ex s.mem t.stages t.rd t.ex t.mem s.lawful t.lawful (p.stages_are ∙ sym q.stages_are) (p.rd_is ∙ sym q.rd_is) (p.ex_is ∙ sym q.ex_is) (p.mem_is ∙ sym q.mem_is)
+
+shape_one : (k : CoreKind) (s t : Shape) → IsShapeOf k s → IsShapeOf k t → s ≡ t
+shape_one Three s t p q = numbers_one s t 3 1 1 2 p q
+shape_one Four s t p q = numbers_one s t 4 1 2 3 p q
+shape_one Five s t p q = numbers_one s t 5 1 2 3 p q
+
+core_one : (o : Option CoreKind) (s t : Sheet) → HasCore o s → HasCore o t → s.shape ≡ t.shape
+core_one None s t p q = absurd p
+core_one (Some k) s t p q = shape_one k s.shape t.shape p q
+
+-- ---- lists of the same length with the same elements are one
+same_list : {X : Type 0} (xs ys : List X) (d : X) → length xs ≡ length ys → ((k : ℕ) → k < length xs → get_or xs k d ≡ get_or ys k d) → xs ≡ ys
+same_list [] [] d e h = refl
+same_list [] (y ∷ ys) d e h = absurd (omega (arith, e))
+same_list (x ∷ xs) [] d e h = absurd (omega (arith, e))
+same_list (x ∷ xs) (y ∷ ys) d e h =
+    ap (λ z. z ∷ xs) (h 0 (omega arith)) ∙ ap (λ zs. y ∷ zs) (same_list xs ys d (omega (arith, e)) (λ k l. h (suc k) (omega (arith, l))))
+
+same_period : (o : Option ℤ) (m n : ℕ) → o ≡ Some (pos m) → o ≡ Some (pos n) → m ≡ n
+same_period o m n p q = let e = sym p ∙ q in cc
+
+same_sheet : (s t : Sheet) → s.shape ≡ t.shape → s.period ≡ t.period → s.delay ≡ t.delay → s.window ≡ t.window → s ≡ t
+same_sheet s t shape period delay window =
+    ap (λ (x : Shape). let z : Sheet = record { shape = x; period = s.period; delay = s.delay; window = s.window } in z) shape
+    ∙ ap (λ (x : ℕ). let z : Sheet = record { shape = t.shape; period = x; delay = s.delay; window = s.window } in z) period
+    ∙ ap (λ (x : List ℕ). let z : Sheet = record { shape = t.shape; period = t.period; delay = x; window = s.window } in z) delay
+    ∙ ap (λ (x : List (ℕ × ℕ)). let z : Sheet = record { shape = t.shape; period = t.period; delay = t.delay; window = x } in z) window
+
+document_one : (doc : Members) (s t : Sheet) → IsDocumentOf doc s → IsDocumentOf doc t → length s.delay ≡ 34 → length t.delay ≡ 34 → length s.window ≡ 10 → length t.window ≡ 10 → s ≡ t
+document_one doc s t p q sd td sw tw =
+    let shape = core_one (core_of doc) s t p.fields.core q.fields.core in
+    same_sheet s t shape
+    (same_period (period_of doc) s.period t.period p.fields.content.period q.fields.content.period)
+    (same_list s.delay t.delay 0 (sd ∙ sym td) (λ k l. p.fields.content.delay k (omega (arith, l, sd)) ∙ sym (q.fields.content.delay k (omega (arith, l, sd)))))
+    (same_list s.window t.window (0, 0) (sw ∙ sym tw)
+    (λ k l. p.fields.content.window k (omega (arith, l, sw)) ∙ ap (λ (z : Shape). window_in doc (window_at (native_windows_of z) k) (slice_index_or kind_words k [])) shape ∙ sym (q.fields.content.window k (omega (arith, l, sw)))))
+
+found_one : (o : Option Members) (s t : Sheet) → IsSomeAnd o (λ doc. IsDocumentOf doc s) → IsSomeAnd o (λ doc. IsDocumentOf doc t) → length s.delay ≡ 34 → length t.delay ≡ 34 → length s.window ≡ 10 → length t.window ≡ 10 → s ≡ t
+found_one None s t p q sd td sw tw = absurd p
+found_one (Some doc) s t p q sd td sw tw = document_one doc s t p q sd td sw tw
+
+pub one_sheet : (bytes : List ℕ) (s t : Sheet) → IsSheetRead bytes s → IsSheetRead bytes t → s ≡ t
+one_sheet bytes s t p q = found_one (parse_document bytes) s t p.sheet_is.document q.sheet_is.document p.delays q.delays p.windows q.windows
+
+-- ---- and it is not refused
+found_apart : (o : Option Members) (s : Sheet) (e : SheetErr) → IsSomeAnd o (λ doc. IsDocumentOf doc s) → MatchOption o (e ≡ Toml) (λ doc. document_refusal doc ≡ Some e) → ⊥
+found_apart None s e p q = p
+found_apart (Some doc) s e p q = let both = sym p.accepted ∙ q in cc
+
+pub sheet_not_refused : (bytes : List ℕ) (s : Sheet) (e : SheetErr) → IsSheetOf bytes s → IsRefusalOf bytes e → ⊥
+sheet_not_refused bytes s e p (inl q) = q.0 p.utf8
+sheet_not_refused bytes s e p (inr q) = found_apart (parse_document bytes) s e p.document q.1
