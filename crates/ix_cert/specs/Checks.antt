@@ -93,12 +93,12 @@ pub record AreReached (p : Problem) (t : ℕ → ℕ) (edges : ℕ) (reach : Lis
 abbrev pub AreAmounts : ℕ → List (ℕ × ℕ) → List ℕ → Type 0
 AreAmounts count parts amounts = (length amounts ≡ count) × ((k : ℕ) → k < count → slice_index amounts k ≡ amount_at (λ x. x.0) (λ x. x.1) parts k)
 
--- the flow into operations and the edges out of them; the flow out of operations and the edges into them
+-- the flow into operations and the weights of the edges out of them; the flow out of operations and the weights of the edges into them
 abbrev pub parts_in : Problem → Flow → List (ℕ × ℕ)
-parts_in p flow = map (λ c. ((arc_of p c.0).to, c.1)) flow ++ map (λ e. (e.0, 1)) p.edges
+parts_in p flow = map (λ c. ((arc_of p c.0).to, c.1)) flow ++ map (λ e. (e.0, weight_of (node_at p e.0))) p.edges
 
 abbrev pub parts_out : Problem → Flow → List (ℕ × ℕ)
-parts_out p flow = map (λ c. ((arc_of p c.0).from, c.1)) flow ++ map (λ e. (e.1, 1)) p.edges
+parts_out p flow = map (λ c. ((arc_of p c.0).from, c.1)) flow ++ map (λ e. (e.1, weight_of (node_at p e.0))) p.edges
 
 -- ---- the value of a flow
 abbrev pub up_of : Problem → Bound × ℕ → ℕ

@@ -7,7 +7,7 @@ ghost use Rattle.ix_cert.specs.Checks.{Tells, AreAmounts, parts_in, parts_out, h
 
 use crate::report::ReportBlock;
 use ix_bits::Memory;
-use ix_sheet::{Bound, Problem, arc_of_bound};
+use ix_sheet::{Bound, Node, Problem, arc_of_bound};
 use std::alloc::Global;
 
 // The sum of the times.
@@ -22,17 +22,34 @@ fn sum_of_times(times: &[u8]) -> u128
     sum
 }
 
-// How long the result of an edge's start is kept for its end.
-fn kept(b: &ReportBlock, edge: (u32, u32)) -> u8
+// The weight of an operation's result in the cost: for how long a cycle of keeping it counts. It is 1 for all.
+fn weight(_node: Node) -> u64
+    ensures { result ≡ weight_of _node }
+{
+    1
+}
+
+// The weight of the result that an edge carries.
+fn weight_along(p: &Problem, edge: (u32, u32)) -> u64
+    requires { edge.0 < length p.now.ops }
+    ensures { result ≡ weight_of (node_at p.now edge.0) }
+{
+    weight(p.ops.as_slice()[edge.0 as usize])
+}
+
+// For how many cycles the result of an edge's start is kept for its end, by its weight.
+fn kept(b: &ReportBlock, edge: (u32, u32)) -> u128
     requires from { edge.0 < length b.now.problem.ops }
     requires to { edge.1 < length b.now.problem.ops }
     requires times { length b.now.times ≡ length b.now.problem.ops }
     requires after { IsAfter b.now.problem (times_of b.now) edge }
-    ensures { result ≡ kept_along b.now.problem (times_of b.now) edge }
+    ensures is { result ≡ kept_along b.now.problem (times_of b.now) edge }
+    ensures small { result ≤ 255 }
 {
     let times = b.times.as_slice();
     let latency = b.problem.ops.as_slice()[edge.0 as usize].latency;
-    times[edge.1 as usize] - (times[edge.0 as usize] + latency)
+    let cycles = times[edge.1 as usize] - (times[edge.0 as usize] + latency);
+    u128::from(weight_along(&b.problem, edge)) * u128::from(cycles)
 }
 
 fn sum_of_kept(b: &ReportBlock) -> u128
@@ -44,7 +61,7 @@ fn sum_of_kept(b: &ReportBlock) -> u128
 {
     let mut sum = 0;
     'edges: for edge in b.problem.edges.as_slice() {
-        sum += u128::from(kept(b, *edge));
+        sum += kept(b, *edge);
     }
     sum
 }
@@ -86,7 +103,7 @@ fn parts_in(alloc: Global, b: &ReportBlock) -> Result<Vec<(u32, u64)>, Memory>
         parts.push((arc_of_bound(&b.problem, &part.0).to, part.1))?;
     }
     'edges: for edge in b.problem.edges.as_slice() {
-        parts.push((edge.0, 1))?;
+        parts.push((edge.0, weight_along(&b.problem, *edge)))?;
     }
     Ok(parts)
 }
@@ -102,7 +119,7 @@ fn parts_out(alloc: Global, b: &ReportBlock) -> Result<Vec<(u32, u64)>, Memory>
         parts.push((arc_of_bound(&b.problem, &part.0).from, part.1))?;
     }
     'edges: for edge in b.problem.edges.as_slice() {
-        parts.push((edge.1, 1))?;
+        parts.push((edge.1, weight_along(&b.problem, *edge)))?;
     }
     Ok(parts)
 }
@@ -174,7 +191,8 @@ fn sum_of_latencies(p: &Problem) -> u128
     let ops = p.ops.as_slice();
     let mut sum = 0;
     'edges: for edge in p.edges.as_slice() {
-        sum += u128::from(ops[edge.0 as usize].latency);
+        let latency = ops[edge.0 as usize].latency;
+        sum += u128::from(weight_along(p, *edge)) * u128::from(latency);
     }
     sum
 }

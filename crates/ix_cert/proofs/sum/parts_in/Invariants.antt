@@ -1,4 +1,5 @@
 use Rattle.std.proofs.Common.{◌≡◌, ◌++◌, map, drop}
+use Rattle.ix_sheet.specs.Schedules.{node_at, weight_of}
 use Rattle.ix_sheet.specs.Bounds.{arc_of}
 use Rattle.ix_cert.specs.Checks.{parts_in}
 use Rattle.ix_cert.proofs.sum.parts_in.Given as goal
@@ -7,4 +8,4 @@ abbrev pub invariant-flow : goal.invariant-flow
 invariant-flow l = l.parts.items ++ map (λ c. ((arc_of l.b.problem c.0).to, c.1)) (drop l.part-index l.b.flow) ≡ map (λ c. ((arc_of l.b.problem c.0).to, c.1)) l.b.flow
 
 abbrev pub invariant-edges : goal.invariant-edges
-invariant-edges l = l.parts.items ++ map (λ e. (e.0, 1)) (drop l.edge-index l.b.problem.edges) ≡ parts_in l.b.problem l.b.flow
+invariant-edges l = l.parts.items ++ map (λ e. (e.0, weight_of (node_at l.b.problem e.0))) (drop l.edge-index l.b.problem.edges) ≡ parts_in l.b.problem l.b.flow
