@@ -1,5 +1,5 @@
-//! Assembles sources. A case is the text of an extension, a byte 29, a source and a byte 30; the answer is the text of its image, or
-//! `refused Source KIND LINE`. The answers due come from an assembler in another language, written from the language's rules.
+//! Assembles sources. A case is the text of an extension, a byte 31, a source and a byte 30; the answer is the text of its image, or
+//! `refused Source KIND LINE`, and a byte 30. The answers due come from an assembler in another language, written from the language's rules.
 #![tactic(auto)]
 
 use ix_bits::Memory;
@@ -9,11 +9,11 @@ use std::alloc::Global;
 use std::io;
 use std::io::Read;
 
-/// The byte behind each case.
+/// The byte behind each case, and behind each answer.
 const END: u8 = 30;
 
 /// The byte between an extension and a source.
-const MIDDLE: u8 = 29;
+const MIDDLE: u8 = 31;
 
 /// Past the greatest count of bytes that a text may have.
 const TOO_MANY: usize = 0x8000_0000;
@@ -61,7 +61,7 @@ fn main(rt: HostRuntime) -> io::Result<()> {
             Ok(answer) => print!(rt; "{answer}")?,
             Err(Memory) => print!(rt; "Memory\n")?,
         }
-        print!(rt; ".\n")?;
+        print!(rt; "\u{1e}")?;
     }
     Ok(())
 }

@@ -2,35 +2,18 @@
 //! from a parser in another language, written from the grammar.
 //!
 //! A text that has no tokens is `lex BadByte N`, `lex Unclosed N` or `lex BadNumber N`, and one that has no tree `At N` or `Deep N`.
-//! A tree is printed as follows, and behind it ` @FROM-TO`, the bytes that it stands on. Where it has fewer than 1,000 tokens,
+//! A tree is printed in the form of `tree_text`. Where it has fewer than 1,000 tokens,
 //! ` prefixes refused` says that each proper prefix of them is refused at a token of its own or at its end; else ` prefix K: ..`
-//! says what becomes of the first that is not. Words in capitals stand for what they name, and `..` repeats.
-//!
-//! - The text: `(set NAME SECTION ..)`; a section: `(state STATE ..)`, `(instructions INSTR ..)` or `(always (NAME STMT) ..)`.
-//! - A state: `(register TYPE NAME)`, `(register TYPE NAME EXPR)` or `(const TYPE NAME[LENGTH] EXPR ..)`.
-//! - An instruction: `(NAME (PIECE ..) STMT)`, and a piece `WIDTH'VALUE` or `NAME[HI:LO]`.
-//! - A type: `signed<N>`, `unsigned<N>`, `int` or `bool`.
-//! - A statement: `(block STMT ..)`, `;`, `(let TYPE DECL ..)` with `NAME` or `(NAME EXPR)` for each declaration, `ASSIGN`,
-//!   `(if EXPR STMT)`, `(if EXPR STMT STMT)`, `(for TYPE NAME EXPR EXPR ASSIGN STMT)` with `-` for no type, or `(spawn STMT)`.
-//! - An assignment: `(= PLACE EXPR)`, `(+= PLACE EXPR)` and so on, with a place `NAME`, `PC`, `(X EXPR)`, `(MEM EXPR)` or
-//!   `(MEM EXPR EXPR)`. `v++` is `(+= v 1'1)`.
-//! - An expression: `WIDTH'VALUE`, `NAME`, `PC`, `X`, `MEM`, `([] EXPR EXPR)` for `x[l]`, `([:] EXPR EXPR EXPR)` for `x[h:l]`,
-//!   `(- EXPR)` and so on, `(cast TYPE EXPR)`, also with `signed` or `unsigned` alone, `(+ EXPR EXPR)` and so on, or
-//!   `(? EXPR EXPR EXPR)`.
+//! says what becomes of the first that is not.
 #![tactic(auto)]
 
-mod expr;
-mod section;
-mod stmt;
-
-use crate::expr::put_number;
-use crate::section::put_tree;
 use ix_lex::{LexErr, lex};
 use ix_parse::{ParseErr, parse};
 use ix_tree::Token;
 use std::alloc::{AllocError, Global};
 use std::io;
 use std::io::Read;
+use tree_text::{put_number, put_tree};
 
 /// The byte behind each text.
 const END: u8 = 30;

@@ -1,4 +1,4 @@
-//! Runs programs one instruction at a time. A case is the text of an extension, an image and a count of steps, each ended by a byte 30. Of
+//! Runs programs one instruction at a time. A case is the text of an extension, an image and a count of steps, with a byte 31 between them and a byte 30 behind. Of
 //! each case the text of its run is printed, ended by a byte 30. The answers due come from an interpreter in another language, written
 //! from the rules.
 #![tactic(auto)]
@@ -11,8 +11,11 @@ use std::alloc::Global;
 use std::io;
 use std::io::Read;
 
-/// The byte behind each part of a case.
+/// The byte behind each case, and behind each answer.
 const END: u8 = 30;
+
+/// The byte between the parts of a case.
+const MIDDLE: u8 = 31;
 
 /// Past the greatest count of bytes that a text may have.
 const TOO_MANY: usize = 0x10_0000;
@@ -45,14 +48,14 @@ fn tell<S: Sink>(alloc: Global, text: &[u8], image: &[u8], steps: u32, sink: &mu
 fn main(rt: HostRuntime) -> io::Result<()> {
     let mut bytes = Vec::new(rt.alloc());
     rt.reader().read_to_end(&mut bytes)?;
-    let parts: Vec<&[u8]> = bytes
-        .as_slice()
-        .split(|byte| *byte == END)
-        .collect(rt.alloc())?;
     let mut sink = HostSink::new(&rt);
-    for case in parts.as_slice().chunks_exact(3) {
-        let steps = number(case[2]);
-        if !tell(rt.alloc(), case[0], case[1], steps, &mut sink) {
+    for case in bytes.as_slice().split_inclusive(|byte| *byte == END) {
+        let case = case.strip_suffix(&[END]).unwrap_or(case);
+        let mut parts = case.split(|byte| *byte == MIDDLE);
+        let text = parts.next().unwrap_or(&[]);
+        let image = parts.next().unwrap_or(&[]);
+        let steps = number(parts.next().unwrap_or(&[]));
+        if !tell(rt.alloc(), text, image, steps, &mut sink) {
             return Ok(());
         }
         if write_all(&mut sink, &[END]).is_err() {
