@@ -1,0 +1,38 @@
+-- What a word comes to with what it sees, wherever that is from: a state of the sequential run, or the stages of a pipeline. The instruction and all
+-- always-blocks see the same; an instruction that stops writes nothing and accesses nothing (the stops are this project's choice).
+use Rattle.std.specs.Prelude.{ℕ, List, length, Option, Some, None, false, ◌&&◌, is_some, is_none}
+use Rattle.ix_extension.specs.Extensions.{ExtensionTree}
+use Rattle.ix_mean.specs.declared.evaluate.State.{State}
+use Rattle.ix_mean.specs.Given.{inputs_of}
+use Rattle.ix_eval.specs.declared.effect.Effect.{Effect}
+use Rattle.rv_effect.specs.declared.decoded.Decoded.{Decoded}
+use Rattle.rv_effect.specs.Memory.{peeked}
+use Rattle.rv_effect.specs.WordEffects.{effect_of, over, blocks_effect}
+use Rattle.rv_seq.specs.declared.answer.StepAnswer.TheVariants.{Done, Stopped}
+use Rattle.rv_seq.specs.declared.commit.Stop.TheVariants.{Illegal}
+use Rattle.rv_seq.specs.Commits.{commit_of}
+use Rattle.rv_seq.specs.Runs.{access_in}
+use Rattle.rv_seq.specs.Steps.{unless_stopped}
+use Rattle.rv_seq.specs.Stops.{stop_of}
+use Rattle.rv_tried.specs.declared.trial.Trial.{Trial}
+
+-- the effect of an instruction with what it sees
+abbrev pub effect_seen : ExtensionTree → State → List ℕ → Decoded → Effect
+effect_seen x s memory d = effect_of x d (inputs_of s (peeked memory))
+
+-- its effect behind that of all always-blocks
+abbrev pub whole_seen : ExtensionTree → State → List ℕ → Decoded → Effect
+whole_seen x s memory d = over (effect_seen x s memory d) (blocks_effect x (inputs_of s (peeked memory)) (length x.blocks))
+
+-- what an instruction comes to
+unfoldable pub tried_instruction : ExtensionTree → State → List ℕ → Decoded → Trial
+tried_instruction x s memory d =
+    record {
+      answer = unless_stopped (stop_of d (effect_seen x s memory d)) (Done (commit_of s.pc s.word (whole_seen x s memory d)));
+      accesses = is_none (stop_of d (effect_seen x s memory d)) && is_some (access_in (effect_seen x s memory d));
+    }
+
+-- what a word comes to; one that is no instruction stops
+unfoldable pub tried : ExtensionTree → State → List ℕ → Option Decoded → Trial
+tried x s memory None = record { answer = Stopped Illegal; accesses = false }
+tried x s memory (Some d) = tried_instruction x s memory d

@@ -1,0 +1,12 @@
+ghost use Rattle.std.specs.Prelude.{◌≡◌, ℕ, List, Some};
+ghost use Rattle.ix_extension.specs.Extensions.{ExtensionTree};
+ghost use Rattle.rv_effect.specs.Decoding.{decoded_in};
+ghost use Rattle.rv_seq.specs.declared.arch.Arch.{Arch};
+ghost use Rattle.rv_seq.specs.States.{state_at};
+ghost use Rattle.rv_seq.specs.Steps.{word_at, step};
+ghost use Rattle.rv_tried.specs.Tried.{tried};
+
+/// The word at the pc of a state, tried with what the instruction sees of it, answers as the sequential step of that state does.
+pub fn trial_laws()
+    ensures step { (x : ExtensionTree) (image : List ℕ) (s : Arch) (word : ℕ) → word_at image s.pc ≡ Some word → (tried x (state_at word s) s.mem (decoded_in x word)).answer ≡ step x image s }
+{}

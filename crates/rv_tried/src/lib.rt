@@ -1,0 +1,8 @@
+//! What a word comes to at a pc, with its operands, the custom registers and the memory that it sees: an instruction evaluated once.
+#![tactic(auto)]
+
+mod laws;
+mod trial;
+
+pub use laws::trial_laws;
+pub use trial::{Trial, try_word};

@@ -1,0 +1,93 @@
+ghost use Rattle.std.specs.Prelude.{◌≡◌, IfSome, is_some};
+ghost use Rattle.ix_mean.specs.Given.{inputs_of};
+ghost use Rattle.ix_extension.specs.Extensions.{view_extension};
+ghost use Rattle.ix_extension.specs.WellFormed.{IsWellFormed};
+ghost use Rattle.ix_eval.specs.Scratches.{IsScratchOf};
+ghost use Rattle.rv_effect.specs.WordEffects.{AreWide};
+ghost use Rattle.rv_effect.specs.Decoding.{IsIn};
+ghost use Rattle.rv_seq.specs.Runs.{access_in};
+ghost use Rattle.rv_seq.specs.Sound.{IsSound};
+ghost use Rattle.rv_tried.specs.Tried.{tried, tried_instruction};
+
+use ix_eval::{Effect, Inputs, Scratch};
+use ix_tree::Extension;
+use rv_effect::{Decoded, blocks_effect, effect_of, over};
+use rv_memory::RandomAccess;
+use rv_seq::{StepAnswer, Stop, commit_of, stop_of};
+
+/// What a word comes to.
+#[derive(Clone, Copy, Debug, PartialEq, Eq)]
+pub struct Trial {
+    /// The writes of the instruction and the always-blocks, or why the run stops there.
+    pub answer: StepAnswer,
+    /// Does it load or store, the condition true? Nothing that stops does.
+    pub accesses: bool,
+}
+
+// Does an instruction with this effect load or store?
+fn has_access(effect: &Effect) -> bool
+    ensures { result ≡ is_some (access_in effect.now) }
+{
+    effect.load.is_some() || effect.store.is_some()
+}
+
+// What an instruction comes to.
+#[tactic(auto, unfolding(crate::specs::Tried::tried_instruction))]
+fn try_instruction(
+    ext: &Extension,
+    decoded: Decoded,
+    inputs: &Inputs,
+    memory: &RandomAccess,
+    scratch: &mut Scratch,
+) -> Trial
+    requires well_formed { IsWellFormed ext.now }
+    requires is_in { IsIn (view_extension ext.now) decoded }
+    requires wide { AreWide (view_extension ext.now) inputs.now.custom }
+    requires scratch { IsScratchOf (view_extension ext.now) scratch.old }
+    ensures scratch { IsScratchOf (view_extension ext.now) scratch.new }
+    ensures trial { result ≡ tried_instruction (view_extension ext.now) inputs.now memory.now decoded }
+    ensures sound { IsSound (view_extension ext.now) result.answer }
+{
+    let own = effect_of(ext, decoded, inputs, memory, scratch);
+    match stop_of(decoded, &own) {
+        Some(stop) => Trial {
+            answer: StepAnswer::Stopped(stop),
+            accesses: false,
+        },
+        None => {
+            let blocks = blocks_effect(ext, inputs, memory, scratch);
+            Trial {
+                answer: StepAnswer::Done(commit_of(inputs.pc, inputs.word, &over(&own, &blocks))),
+                accesses: has_access(&own),
+            }
+        }
+    }
+}
+
+/// What the word of these inputs comes to on a core with a well-formed extension, where it is this instruction or none: its own
+/// effect, before which all always-blocks act, each on the same state. The custom registers and the scratch are of this extension. It
+/// takes no memory, and changes none.
+#[tactic(auto, unfolding(crate::specs::Tried::tried))]
+pub fn try_word(
+    ext: &Extension,
+    decoded: Option<Decoded>,
+    inputs: &Inputs,
+    memory: &RandomAccess,
+    scratch: &mut Scratch,
+) -> Trial
+    requires well_formed { IsWellFormed ext.now }
+    requires is_in { IfSome decoded (λ d. IsIn (view_extension ext.now) d) }
+    requires wide { AreWide (view_extension ext.now) inputs.now.custom }
+    requires scratch { IsScratchOf (view_extension ext.now) scratch.old }
+    ensures scratch { IsScratchOf (view_extension ext.now) scratch.new }
+    ensures trial { result ≡ tried (view_extension ext.now) inputs.now memory.now decoded }
+    ensures sound { IsSound (view_extension ext.now) result.answer }
+{
+    match decoded {
+        Some(decoded) => try_instruction(ext, decoded, inputs, memory, scratch),
+        None => Trial {
+            answer: StepAnswer::Stopped(Stop::Illegal),
+            accesses: false,
+        },
+    }
+}
