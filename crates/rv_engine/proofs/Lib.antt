@@ -1,0 +1,4 @@
+pub mod Fitting
+pub mod Placing
+pub mod Widths
+pub mod Starting

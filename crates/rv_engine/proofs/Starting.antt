@@ -1,0 +1,25 @@
+-- What is kept before the first row is the first machine.
+use Rattle.std.proofs.Common.{◌≡◌, ◌∙◌, refl, ap, ℕ, zero, suc, ◌≤◌, List, ◌∷◌, take, None, arith}
+use Rattle.std.specs.Prelude.{replicate}
+use Rattle.ix_bits.specs.declared.number.Bits.{Bits}
+use Rattle.rv_seq.specs.declared.arch.Arch.{Arch}
+use Rattle.rv_seq.specs.States.{first, initials}
+use Rattle.rv_holds.specs.Tokens.{Slots}
+use Rattle.rv_engine.specs.Settings.{Setting, shape_of, tree_of, first_machine}
+use Rattle.rv_engine.specs.Kept.{machine_with}
+
+take_none : (n m : ℕ) → n ≤ m → ◌≡◌ {A = Slots} (take n (replicate m None)) (replicate n None)
+take_none zero m le = refl
+take_none (suc n) zero le = absurd (omega (arith, le))
+take_none (suc n) (suc m) le = ap (λ (us : Slots). None ∷ us) (take_none n m (omega (arith, le)))
+
+first_custom : (k : Setting) (s : Arch) → s ≡ first (tree_of k) → s.custom ≡ initials (tree_of k).registers
+unfolding first
+first_custom k s e = ap (λ (a : Arch). a.custom) e
+
+pub first_told : (k : Setting) (s : Arch) → s ≡ first (tree_of k) → machine_with (record { fetch = 0; next = 0; accesses = 0; stood = 0 }) s.custom s (take (shape_of k).stages (replicate 5 None)) ≡ first_machine k
+first_told k s e =
+    let start = λ (future : List Bits) (arch : Arch) (slots : Slots). machine_with (record { fetch = 0; next = 0; accesses = 0; stood = 0 }) future arch slots in
+    ap (λ (us : Slots). start s.custom s us) (take_none (shape_of k).stages 5 (shape_of k).lawful.most)
+    ∙ ap (λ (file : List Bits). start file s (replicate (shape_of k).stages None)) (first_custom k s e)
+    ∙ ap (λ (a : Arch). start (initials (tree_of k).registers) a (replicate (shape_of k).stages None)) e

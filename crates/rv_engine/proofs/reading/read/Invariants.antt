@@ -1,0 +1,10 @@
+use Rattle.std.proofs.Common.{◌≡◌, ◌++◌, drop, take, length}
+use Rattle.rv_engine.specs.Rows.{reading}
+use Rattle.rv_engine.proofs.reading.read.Given as goal
+
+abbrev pub invariant-loop-stage : goal.invariant-loop-stage
+invariant-loop-stage l = record {
+  done : take l.stage l.slots ++ reading l.fn.shape l.file l.owed l.stage (drop l.stage l.fn.slots) ≡ reading l.fn.shape l.file l.owed 0 l.fn.slots;
+  rest : drop l.stage l.slots ≡ drop l.stage l.fn.slots;
+  long : length l.slots ≡ length l.fn.slots;
+}

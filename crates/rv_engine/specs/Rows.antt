@@ -1,0 +1,286 @@
+-- The row that a machine makes, and what it keeps then (this project's choice).
+use Rattle.std.specs.Prelude.{◌≡◌, ℕ, suc, ◌-◌, List, [], ◌∷◌, get_or, take, drop, replicate, slice_index, Option, Some, None, Bool, true, false, not, ◌&&◌, ◌||◌, if◌then◌else◌, ◌==◌, is_some, is_none}
+use Rattle.ix_bits.specs.declared.number.Bits.{Bits}
+use Rattle.ix_eval.specs.Tables.{table}
+use Rattle.ix_extension.specs.Extensions.{ExtensionTree, view_extension}
+use Rattle.ix_plan.specs.declared.design.Design.{Design}
+use Rattle.ix_mean.specs.declared.evaluate.State.{State}
+use Rattle.rv_core.specs.declared.Shape.{Shape}
+use Rattle.rv_isa.specs.Fields.{rs1_of, rs2_of}
+use Rattle.rv_effect.specs.Decoding.{decoded_in}
+use Rattle.rv_seq.specs.declared.arch.Arch.{Arch}
+use Rattle.rv_seq.specs.declared.commit.Slot.TheVariants.{Absent}
+use Rattle.rv_seq.specs.declared.commit.Commit.{Commit}
+use Rattle.rv_seq.specs.declared.commit.Stop.{Stop}
+use Rattle.rv_seq.specs.declared.commit.Stop.TheVariants.{Fetch}
+use Rattle.rv_seq.specs.States.{zero_bit}
+use Rattle.rv_seq.specs.Steps.{word_at}
+use Rattle.rv_seq.specs.Commits.{with_slot, applied}
+use Rattle.rv_waits.specs.Waits.{wait_at}
+use Rattle.rv_trace.specs.declared.row.Hold.{Hold}
+use Rattle.rv_trace.specs.declared.row.Hold.TheVariants.{Tail}
+use Rattle.rv_trace.specs.declared.row.Row.{Row}
+use Rattle.rv_asks.specs.declared.asks.Asks.{Asks}
+use Rattle.rv_asks.specs.Asks.{asks_in}
+use Rattle.rv_tried.specs.Tried.{tried}
+use Rattle.rv_holds.specs.declared.token.Token.{Token}
+use Rattle.rv_holds.specs.declared.flushing.Turn.{Turn}
+use Rattle.rv_holds.specs.Tokens.{Slots, or_else, commit_of, makes_access, cells_of}
+use Rattle.rv_holds.specs.Holds.{waiting_hold, decided}
+use Rattle.rv_holds.specs.Flushing.{turn_of, struck, redirect_of, unheld, cleared, flushed_of, slot_stop, remains, fetch_after}
+use Rattle.rv_engine.specs.Settings.{Setting, Machine, shape_of, tree_of}
+
+-- Fetch
+
+-- the token of a fetched word, which sees no operands yet
+abbrev pub new_token : Design → List Bits → ℕ → ℕ → ℕ → Token
+new_token d future serial at word =
+    record {
+      cell = record { serial = serial; at = at; word = word; hold = None };
+      decoded = decoded_in (view_extension d.extension) word;
+      asks = asks_in d word (decoded_in (view_extension d.extension) word);
+      inputs = record { word = word; rs1 = 0; rs2 = 0; pc = at; custom = future };
+      trial = None;
+      wait = 0;
+      tail = (asks_in d word (decoded_in (view_extension d.extension) word)).tail;
+    }
+
+-- what is fetched, where there is a word
+abbrev pub fetched : Design → List Bits → ℕ → ℕ → Option ℕ → Option Token
+fetched d future serial at None = None
+fetched d future serial at (Some word) = Some (new_token d future serial at word)
+
+-- stage 0 takes it where it is free
+abbrev pub fill_first : Option Token → Slots → Slots
+fill_first new [] = []
+fill_first new (s ∷ older) = or_else s new ∷ older
+
+-- the serial of the next fetch
+abbrev pub next_after : ℕ → Slots → Option Token → ℕ
+next_after next [] new = next
+next_after next (Some t ∷ older) new = next
+next_after next (None ∷ older) new = if is_some new then suc next else next
+
+-- Operands and what is tried
+
+-- the token with these inputs, this trial, and so many rows to wait
+abbrev pub with_inputs : State → ℕ → Token → Token
+with_inputs i wait t =
+    record { cell = t.cell; decoded = t.decoded; asks = t.asks; inputs = i; trial = t.trial; wait = wait; tail = t.tail }
+
+-- the operands that the register file has
+abbrev pub operands : List ℕ → State → State
+operands x i = record { word = i.word; rs1 = slice_index x (rs1_of i.word); rs2 = slice_index x (rs2_of i.word); pc = i.pc; custom = i.custom }
+
+-- the token of RD with its operands, and that of MEM with the rows for which its access still waits
+abbrev pub with_operands : Shape → List ℕ → ℕ → ℕ → Option Token → Option Token
+with_operands k x owed stage None = None
+with_operands k x owed stage (Some t) =
+    Some (with_inputs (if stage == k.rd then operands x t.inputs else t.inputs) (if (stage == k.mem) && makes_access t then owed else 0) t)
+
+-- each slot so
+abbrev pub reading : Shape → List ℕ → ℕ → ℕ → Slots → Slots
+reading k x owed stage [] = []
+reading k x owed stage (s ∷ older) = with_operands k x owed stage s ∷ reading k x owed (suc stage) older
+
+-- the token tried with these inputs on this memory
+abbrev pub tried_with : ExtensionTree → List ℕ → State → Token → Token
+tried_with x memory i t =
+    record { cell = t.cell; decoded = t.decoded; asks = t.asks; inputs = i; trial = Some (tried x i memory t.decoded); wait = t.wait; tail = t.tail }
+
+-- it sees the custom registers of the future file
+abbrev pub seeing : List Bits → State → State
+seeing future i = record { word = i.word; rs1 = i.rs1; rs2 = i.rs2; pc = i.pc; custom = future }
+
+-- at EX it is tried once, when it waits for no register and no pc
+abbrev pub is_ripe : Shape → ℕ → Token → Slots → Bool
+is_ripe k stage t older = (stage == k.ex) && (is_none t.trial && is_none (waiting_hold k stage t older))
+
+-- the slot, tried if it is to be
+abbrev pub with_trial : ExtensionTree → Shape → List Bits → List ℕ → ℕ → Option Token → Slots → Option Token
+with_trial x k future memory stage None older = None
+with_trial x k future memory stage (Some t) older =
+    if is_ripe k stage t older then Some (tried_with x memory (seeing future t.inputs) t) else Some t
+
+-- each slot so
+abbrev pub trying : ExtensionTree → Shape → List Bits → List ℕ → ℕ → Slots → Slots
+trying x k future memory stage [] = []
+trying x k future memory stage (s ∷ older) = with_trial x k future memory stage s older ∷ trying x k future memory (suc stage) older
+
+-- as it leaves MEM a load reads the memory
+abbrev pub is_loading : Shape → ℕ → Token → Bool
+is_loading k stage t = (stage == k.mem) && (is_none t.cell.hold && t.asks.loads)
+
+-- the slot, tried again if it is to read
+abbrev pub with_load : ExtensionTree → Shape → List ℕ → ℕ → Option Token → Option Token
+with_load x k memory stage None = None
+with_load x k memory stage (Some t) = if is_loading k stage t then Some (tried_with x memory t.inputs t) else Some t
+
+-- each slot so
+abbrev pub loading : ExtensionTree → Shape → List ℕ → ℕ → Slots → Slots
+loading x k memory stage [] = []
+loading x k memory stage (s ∷ older) = with_load x k memory stage s ∷ loading x k memory (suc stage) older
+
+-- Moves
+
+-- a row held by Tail is one of those for which it is held
+abbrev pub tail_after : Option Hold → ℕ → ℕ
+tail_after (Some (Tail left)) n = n - 1
+tail_after h n = n
+
+-- a token that stays, after the row
+abbrev pub waited : Token → Token
+waited t =
+    record { cell = t.cell; decoded = t.decoded; asks = t.asks; inputs = t.inputs; trial = t.trial; wait = t.wait; tail = tail_after t.cell.hold t.tail }
+
+-- the token that goes on from a slot
+abbrev pub going : Option Token → Option Token
+going None = None
+going (Some t) = if is_some t.cell.hold then None else Some t
+
+-- what a slot has after the moves, where this token comes to it
+abbrev pub kept : Option Token → Option Token → Option Token
+kept come None = come
+kept come (Some t) = if is_some t.cell.hold then Some (waited t) else come
+
+-- the slots after the moves, where `come` comes into the first of them
+abbrev pub advanced : Option Token → Slots → Slots
+advanced come [] = []
+advanced come (s ∷ older) = kept come s ∷ advanced (going s) older
+
+-- the token that goes out of the last stage
+abbrev pub leaving : Option Token → Slots → Option Token
+leaving come [] = come
+leaving come (s ∷ older) = leaving (going s) older
+
+-- the writes with a serial, where there are any
+abbrev pub with_serial : ℕ → Option Commit → Option (ℕ × Commit)
+with_serial s None = None
+with_serial s (Some c) = Some (s, c)
+
+-- what the token that goes out retires
+abbrev pub retired_of : Option Token → Option (ℕ × Commit)
+retired_of None = None
+retired_of (Some t) = with_serial t.cell.serial (commit_of t)
+
+-- The future file
+
+-- is this a late write, or one that is not, as asked?
+abbrev pub counts : Bool → Bool → Bool
+counts true marked = marked
+counts false marked = not marked
+
+-- the custom registers after a commit's writes of the registers that are marked as late, or of those that are not
+abbrev pub with_marked : Bool → Asks → Commit → List Bits → List Bits
+with_marked is_late a c file =
+    table (λ r. if counts is_late (get_or a.late_customs r false) then with_slot (get_or file r zero_bit) (get_or c.custom r Absent) else get_or file r zero_bit) 16
+
+-- the same where it may write nothing
+abbrev pub with_writes : Bool → Asks → Option Commit → List Bits → List Bits
+with_writes is_late a None file = file
+with_writes is_late a (Some c) file = with_marked is_late a c file
+
+-- a token that goes on writes these registers
+abbrev pub file_after : Bool → Option Token → List Bits → List Bits
+file_after is_late None file = file
+file_after is_late (Some t) file = with_writes is_late t.asks (commit_of t) file
+
+-- The row
+
+-- the slot of the first of these stages
+abbrev pub first_slot : Slots → Option Token
+first_slot [] = None
+first_slot (s ∷ older) = s
+
+-- for how many rows the next access still waits, where its token has stood in MEM for so many
+abbrev pub owed_by : Setting → Machine → ℕ
+owed_by k m = wait_at k.waits m.accesses - m.stood
+
+-- what the machine fetches
+abbrev pub new_by : Setting → Machine → Option Token
+new_by k m = fetched k.design m.future m.next m.fetch (word_at k.image m.fetch)
+
+-- the slots after the fetch, with their operands
+abbrev pub read_by : Setting → Machine → Slots
+read_by k m = reading (shape_of k) m.arch.x (owed_by k m) 0 (fill_first (new_by k m) m.slots)
+
+-- with their holds, once the token of EX is tried
+abbrev pub held_by : Setting → Machine → Slots
+held_by k m = decided (shape_of k) 0 (trying (tree_of k) (shape_of k) m.future m.arch.mem 0 (read_by k m))
+
+-- with what the load of MEM reads
+abbrev pub loaded_by : Setting → Machine → Slots
+loaded_by k m = loading (tree_of k) (shape_of k) m.arch.mem 0 (held_by k m)
+
+-- where the fetch is turned
+abbrev pub turn_by : Setting → Machine → Option Turn
+turn_by k m = turn_of (shape_of k) m.fetch (loaded_by k m)
+
+-- without the flushed tokens
+abbrev pub seen_by : Setting → Machine → Slots
+seen_by k m = cleared (struck (turn_by k m)) (loaded_by k m)
+
+-- the number that is there, or this one
+abbrev pub unless : Option ℕ → ℕ → ℕ
+unless None n = n
+unless (Some m) n = m
+
+-- the fetch address that is named, or the plain one
+abbrev pub fetch_by : Setting → Machine → ℕ
+fetch_by k m = unless (redirect_of (turn_by k m)) (fetch_after m.fetch (seen_by k m))
+
+-- the stop of the row, which is that of a token, or that of a fetch with no word where no token is left
+abbrev pub stop_after : Setting → Machine → Option Stop
+stop_after k m =
+    or_else (slot_stop (shape_of k) 0 (seen_by k m))
+    (if remains (seen_by k m) || is_some (word_at k.image (fetch_by k m)) then None else Some Fetch)
+
+-- the state after what is retired
+abbrev pub arch_after : Arch → Option (ℕ × Commit) → Arch
+arch_after s None = s
+arch_after s (Some (serial, c)) = applied c s
+
+-- the token that goes out of the last stage in the row
+abbrev pub left_by : Setting → Machine → Option Token
+left_by k m = leaving None (seen_by k m)
+
+-- the token that leaves EX in the row
+abbrev pub executed_by : Setting → Machine → Option Token
+executed_by k m = going (first_slot (drop (shape_of k).ex (seen_by k m)))
+
+-- the accesses that have left MEM after the row
+abbrev pub accesses_after : ℕ → Option Token → ℕ
+accesses_after n None = n
+accesses_after n (Some t) = if is_some t.cell.hold then n else if makes_access t then suc n else n
+
+-- for how many rows the token that stays in MEM has stood there
+abbrev pub stood_after : ℕ → Option Token → ℕ
+stood_after n None = 0
+stood_after n (Some t) = if is_some t.cell.hold then suc n else 0
+
+-- the slot of MEM
+abbrev pub memory_by : Setting → Machine → Option Token
+memory_by k m = first_slot (drop (shape_of k).mem (seen_by k m))
+
+-- the row that the machine makes
+pub record IsRowOf (k : Setting) (m : Machine) (row : Row) : Type 0 where
+  pub cells : take (shape_of k).stages row.cells ≡ cells_of (unheld (struck (turn_by k m)) (loaded_by k m))
+  pub behind : drop (shape_of k).stages row.cells ≡ drop (shape_of k).stages (replicate 5 None)
+  pub retired : row.retired ≡ retired_of (left_by k m)
+  pub written : row.written ≡ None
+  pub flushed : row.flushed ≡ flushed_of (take (struck (turn_by k m)) (loaded_by k m))
+  pub redirect : row.redirect ≡ redirect_of (turn_by k m)
+  pub stop : row.stop ≡ stop_after k m
+
+-- what it keeps then: a token that leaves EX has put its early writes into the future file, one that retires its late ones
+abbrev pub machine_after : Setting → Machine → Machine
+machine_after k m =
+    record {
+      slots = advanced None (seen_by k m);
+      fetch = fetch_by k m;
+      next = next_after m.next m.slots (new_by k m);
+      accesses = accesses_after m.accesses (memory_by k m);
+      stood = stood_after m.stood (memory_by k m);
+      future = file_after false (executed_by k m) (file_after true (left_by k m) m.future);
+      arch = arch_after m.arch (retired_of (left_by k m));
+    }

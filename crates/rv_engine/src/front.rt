@@ -1,0 +1,24 @@
+use ix_bits::Bits;
+use rv_holds::Token;
+use rv_seq::Arch;
+
+/// The counts between rows: the next fetch address, the next serial, the accesses of the tokens that have left MEM, and for how many
+/// rows the token that stays in MEM has stood there.
+#[derive(Clone, Copy, Debug, PartialEq, Eq)]
+pub struct Front {
+    pub fetch: u32,
+    pub next: u32,
+    pub accesses: u32,
+    pub stood: u32,
+}
+
+/// What a pipeline keeps between rows.
+#[derive(Drop)]
+pub struct Kept {
+    /// The tokens as they stand after the moves of the last row, stage 0 first.
+    pub slots: [Option<Token>; 5],
+    pub front: Front,
+    /// The future file: the custom registers as a token that comes to EX reads them.
+    pub future: [Bits; 16],
+    pub arch: Arch,
+}

@@ -1,0 +1,14 @@
+//! The rows of a pipeline with an extension: one after another, what its stages hold, and what each leaves behind.
+#![tactic(auto)]
+
+mod engine;
+mod filling;
+mod front;
+mod kept;
+mod moving;
+mod reading;
+mod trying;
+
+pub use engine::make_row;
+pub use front::{Front, Kept};
+pub use kept::first_kept;

@@ -1,0 +1,338 @@
+ghost use Rattle.std.specs.Prelude.{◌≡◌, ◌+◌, ◌<◌, ◌==◌, length, suc, is_some};
+ghost use Rattle.rv_holds.specs.Tokens.{or_else};
+ghost use Rattle.rv_holds.specs.Holds.{oldest, does_write, writes_late, does_store, is_late, waits_for, operand_hold, waits_for_custom, custom_hold, late_hold, waiting_hold as specified_waiting_hold, staying, drain_hold, store_hold, memory_hold, tail_hold, own_hold, stops_now, is_blocked as specified_is_blocked, shown, held as specified_held, with_hold, decided};
+
+use crate::token::{Token, stop_of};
+use rv_asks::Asks;
+use rv_core::Shape;
+use rv_trace::{Cell, Hold};
+
+/// The oldest token that writes this x register.
+fn oldest_writer(older: &[Option<Token>], r: u8) -> Option<u32>
+    ensures { result ≡ oldest (does_write r) older.now }
+{
+    let mut found = None;
+    for slot in older {
+        if let Some(token) = slot {
+            if token.asks.destination == r {
+                found = Some(token.cell.serial);
+            }
+        }
+    }
+    found
+}
+
+/// The oldest token that writes this custom register late.
+fn oldest_late_writer(older: &[Option<Token>], r: u8) -> Option<u32>
+    requires { r < 16 }
+    ensures { result ≡ oldest (writes_late r) older.now }
+{
+    let mut found = None;
+    for slot in older {
+        if let Some(token) = slot {
+            if token.asks.late_customs[usize::from(r)] {
+                found = Some(token.cell.serial);
+            }
+        }
+    }
+    found
+}
+
+/// The oldest token that stores.
+fn oldest_store(older: &[Option<Token>]) -> Option<u32>
+    ensures { result ≡ oldest does_store older.now }
+{
+    let mut found = None;
+    for slot in older {
+        if let Some(token) = slot {
+            if token.asks.stores {
+                found = Some(token.cell.serial);
+            }
+        }
+    }
+    found
+}
+
+/// The oldest token that writes the pc late.
+fn oldest_late(older: &[Option<Token>]) -> Option<u32>
+    ensures { result ≡ oldest is_late older.now }
+{
+    let mut found = None;
+    for slot in older {
+        if let Some(token) = slot {
+            if token.asks.late {
+                found = Some(token.cell.serial);
+            }
+        }
+    }
+    found
+}
+
+fn waited_for(older: &[Option<Token>], r: u8) -> Option<Hold>
+    ensures { result ≡ waits_for r older.now }
+{
+    if r == 0 {
+        return None;
+    }
+    match oldest_writer(older, r) {
+        None => None,
+        Some(serial) => Some(Hold::Operand(r, serial)),
+    }
+}
+
+/// The hold of an instruction that waits for an operand, the least register first.
+fn operand(older: &[Option<Token>], asks: &Asks) -> Option<Hold>
+    ensures { result ≡ operand_hold older.now asks.now }
+{
+    let first = asks.first;
+    let second = asks.second;
+    match waited_for(older, first.min(second)) {
+        None => waited_for(older, first.max(second)),
+        hold => hold,
+    }
+}
+
+fn custom_waited_for(older: &[Option<Token>], asks: &Asks, r: u8) -> Option<Hold>
+    requires { r < 16 }
+    ensures { result ≡ waits_for_custom older.now asks.now r }
+{
+    if !asks.customs[usize::from(r)] {
+        return None;
+    }
+    match oldest_late_writer(older, r) {
+        None => None,
+        Some(serial) => Some(Hold::Custom(r, serial)),
+    }
+}
+
+/// The hold of an instruction that waits for a custom register, the least one first.
+fn custom(older: &[Option<Token>], asks: &Asks) -> Option<Hold>
+    ensures { result ≡ custom_hold older.now asks.now }
+{
+    for r in 0..16 {
+        let hold = custom_waited_for(older, asks, r);
+        if hold.is_some() {
+            return hold;
+        }
+    }
+    None
+}
+
+/// The hold of an instruction behind one that writes the pc late.
+fn late(older: &[Option<Token>]) -> Option<Hold>
+    ensures { result ≡ late_hold older.now }
+{
+    oldest_late(older).map(|serial| Hold::Late(serial))
+}
+
+/// The hold until which a token of this stage cannot be tried at EX, where it has one.
+pub fn waiting_hold(
+    shape: Shape,
+    stage: usize,
+    token: &Token,
+    older: &[Option<Token>],
+) -> Option<Hold>
+    ensures { result ≡ specified_waiting_hold shape stage token.now older.now }
+{
+    if stage == usize::from(shape.rd) {
+        let hold = operand(older, &token.asks);
+        if hold.is_some() {
+            return hold;
+        }
+    }
+    if stage != usize::from(shape.ex) {
+        return None;
+    }
+    match custom(older, &token.asks) {
+        None => late(older),
+        hold => hold,
+    }
+}
+
+/// The oldest token that is not retired by the end of the row.
+fn oldest_staying(older: &[Option<Token>]) -> Option<u32>
+    ensures { result ≡ staying older.now }
+{
+    match older {
+        [] => None,
+        [None, rest @ ..] => oldest_staying(rest),
+        [Some(token)] => {
+            if token.cell.hold.is_some() {
+                Some(token.cell.serial)
+            } else {
+                None
+            }
+        }
+        [Some(token), rest @ ..] => {
+            match oldest_staying(rest) {
+                None => Some(token.cell.serial),
+                found => found,
+            }
+        }
+    }
+}
+
+/// The hold of a token that is due to stop.
+fn drain(token: &Token, older: &[Option<Token>]) -> Option<Hold>
+    ensures { result ≡ drain_hold token.now older.now }
+{
+    if stop_of(token).is_some() {
+        oldest_staying(older).map(|serial| Hold::Drain(serial))
+    } else {
+        None
+    }
+}
+
+/// The hold of a load that waits for an older store.
+fn store(older: &[Option<Token>], asks: &Asks) -> Option<Hold>
+    ensures { result ≡ store_hold older.now asks.now }
+{
+    if asks.loads {
+        oldest_store(older).map(|serial| Hold::StoreAhead(serial))
+    } else {
+        None
+    }
+}
+
+/// The hold of an access that waits for the memory.
+fn memory(token: &Token) -> Option<Hold>
+    ensures { result ≡ memory_hold token.now }
+{
+    if token.wait == 0 {
+        None
+    } else {
+        Some(Hold::Wait(token.wait))
+    }
+}
+
+/// The hold of a module that is not done.
+fn tail(token: &Token) -> Option<Hold>
+    ensures { result ≡ tail_hold token.now }
+{
+    if token.tail == 0 {
+        None
+    } else {
+        Some(Hold::Tail(token.tail))
+    }
+}
+
+/// Whether a stage is the last one.
+pub fn is_last(shape: Shape, stage: usize) -> bool
+    ensures { result ≡ (suc stage == shape.stages) }
+{
+    let stages = usize::from(shape.stages);
+    stage < stages && stage + 1 == stages
+}
+
+/// The hold of an access, which waits for the memory first and then for an older store.
+fn access(token: &Token, older: &[Option<Token>]) -> Option<Hold>
+    ensures { result ≡ or_else (memory_hold token.now) (store_hold older.now token.now.asks) }
+{
+    match memory(token) {
+        None => store(older, &token.asks),
+        hold => hold,
+    }
+}
+
+/// The first true hold but `Behind`.
+fn first_hold(shape: Shape, stage: usize, token: &Token, older: &[Option<Token>]) -> Option<Hold>
+    ensures { result ≡ own_hold shape stage token.now older.now }
+{
+    let hold = waiting_hold(shape, stage, token, older);
+    if hold.is_some() {
+        return hold;
+    }
+    if stage == usize::from(shape.ex) {
+        let hold = drain(token, older);
+        if hold.is_some() {
+            return hold;
+        }
+    }
+    if stage == usize::from(shape.mem) {
+        let hold = access(token, older);
+        if hold.is_some() {
+            return hold;
+        }
+    }
+    if is_last(shape, stage) {
+        tail(token)
+    } else {
+        None
+    }
+}
+
+/// Whether the token stops the run in this row.
+pub fn does_stop(shape: Shape, stage: usize, token: &Token, older: &[Option<Token>]) -> bool
+    ensures { result ≡ stops_now shape stage token.now older.now }
+{
+    stage == usize::from(shape.ex)
+        && stop_of(token).is_some()
+        && first_hold(shape, stage, token, older).is_none()
+}
+
+/// Whether the token of this stage, the first of the slots, is held or stops the run.
+fn is_blocked(shape: Shape, stage: usize, slots: &[Option<Token>]) -> bool
+    ensures { result ≡ specified_is_blocked shape stage slots.now }
+{
+    match slots {
+        [] => false,
+        [None, ..] => false,
+        [Some(token), older @ ..] => {
+            token.cell.hold.is_some() || does_stop(shape, stage, token, older)
+        }
+    }
+}
+
+/// The hold that a token shows.
+fn hold_of(shape: Shape, stage: usize, token: &Token, older: &[Option<Token>]) -> Option<Hold>
+    requires { stage < 100 }
+    ensures { result ≡ shown shape stage token.now older.now }
+{
+    if does_stop(shape, stage, token, older) {
+        return None;
+    }
+    match first_hold(shape, stage, token, older) {
+        None => {
+            if is_blocked(shape, stage + 1, older) {
+                Some(Hold::Behind)
+            } else {
+                None
+            }
+        }
+        hold => hold,
+    }
+}
+
+/// The token with this hold.
+pub fn held(token: &Token, hold: Option<Hold>) -> Token
+    ensures { result ≡ specified_held hold token.now }
+{
+    let cell = Cell { hold, ..token.cell };
+    Token { cell, ..*token }
+}
+
+/// The slot with its hold, where the older ones have theirs.
+fn slot_held(
+    shape: Shape,
+    stage: usize,
+    slot: &Option<Token>,
+    older: &[Option<Token>],
+) -> Option<Token>
+    requires { stage < 100 }
+    ensures { result ≡ with_hold shape stage slot.now older.now }
+{
+    match slot {
+        None => None,
+        Some(token) => Some(held(token, hold_of(shape, stage, token, older))),
+    }
+}
+
+/// Gives each slot its hold, from the oldest down. There are fewer than 100 of them.
+pub fn decide(shape: Shape, slots: &mut [Option<Token>])
+    requires { length slots.old < 100 }
+    ensures { slots.new ≡ decided shape 0 slots.old }
+{
+    for stage in (0..slots.len()).rev() {
+        slots[stage] = slot_held(shape, stage, &slots[stage], &slots[stage + 1..]);
+    }
+}

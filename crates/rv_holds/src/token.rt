@@ -1,0 +1,61 @@
+ghost use Rattle.std.specs.Prelude.{◌≡◌};
+ghost use Rattle.rv_holds.specs.Tokens.{stop_of as specified_stop_of, commit_of as specified_commit_of, makes_access};
+
+use ix_eval::Inputs;
+use rv_asks::Asks;
+use rv_effect::Decoded;
+use rv_seq::{Commit, StepAnswer, Stop};
+use rv_trace::Cell;
+use rv_tried::Trial;
+
+/// A cell with what its word is and what the laws of rows ask of it.
+#[derive(Clone, Copy)]
+pub struct Token {
+    pub cell: Cell,
+    pub decoded: Option<Decoded>,
+    pub asks: Asks,
+    /// What its instruction sees: its word and address, the operands that it read last at RD, and the custom registers that it read at EX.
+    pub inputs: Inputs,
+    /// What it comes to, once it has been tried at EX.
+    pub trial: Option<Trial>,
+    /// For how many rows its access still waits at MEM.
+    pub wait: u8,
+    /// For how many rows its module still goes on in the last stage.
+    pub tail: u8,
+}
+
+/// The stop that a token makes, where it has been tried and makes one.
+pub fn stop_of(token: &Token) -> Option<Stop>
+    ensures { result ≡ specified_stop_of token.now }
+{
+    match token.trial {
+        Some(trial) => match trial.answer {
+            StepAnswer::Done(_) => None,
+            StepAnswer::Stopped(stop) => Some(stop),
+        },
+        None => None,
+    }
+}
+
+/// What a token writes, where it has been tried and makes no stop.
+pub fn commit_of(token: &Token) -> Option<Commit>
+    ensures { result ≡ specified_commit_of token.now }
+{
+    match token.trial {
+        Some(trial) => match trial.answer {
+            StepAnswer::Done(commit) => Some(commit),
+            StepAnswer::Stopped(_) => None,
+        },
+        None => None,
+    }
+}
+
+/// Whether a token accesses the memory, its condition true.
+pub fn access_of(token: &Token) -> bool
+    ensures { result ≡ makes_access token.now }
+{
+    match token.trial {
+        Some(trial) => trial.accesses,
+        None => false,
+    }
+}
