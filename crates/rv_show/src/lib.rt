@@ -6,3 +6,4 @@ mod writing;
 
 pub use running::write_pipeline;
 pub use rv_tell::RunErr;
+pub use writing::write_run;

@@ -57,6 +57,7 @@ pub fn write_pipeline<C: Core, S: Sink>(
     match write_run(
         machine.trace(),
         shape_of::<C>(),
+        0,
         machine.arch(),
         &mut out,
         sink,

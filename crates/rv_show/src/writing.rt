@@ -1,7 +1,7 @@
-ghost use Rattle.std.specs.Prelude.{◌≡◌, ℕ, ◌≤◌, ◌++◌, List, [], OnOk, OnErr};
+ghost use Rattle.std.specs.Prelude.{◌≡◌, ℕ, ◌≤◌, ◌++◌, List, [], length, OnOk, OnErr};
 ghost use Rattle.ix_io.specs.Faults.{Rose};
 ghost use Rattle.ix_io.specs.Sink.{Appends, AppendsFront};
-ghost use Rattle.rv_seq.specs.Bare.{bare};
+ghost use Rattle.ix_extension.specs.Extensions.{ExtensionTree};
 ghost use Rattle.rv_trace.specs.TraceText.{trace_text};
 ghost use Rattle.rv_record.specs.RunText.{state_text};
 ghost use Rattle.rv_tell.specs.Telling.{Carries, Completes, Breaks};
@@ -33,33 +33,41 @@ fn write_rows<S: Sink>(
     Ok(())
 }
 
-/// Writes the lines of the state and all that is buffered.
-fn write_rest<S: Sink>(arch: &Arch, out: &mut Out, sink: &mut S) -> Result<(), WriteErr>
-    ensures whole { OnOk result (Completes (S.written sink.old) out.old (state_text bare arch.now) (S.written sink.new)) }
-    ensures front { OnErr result (Breaks (S.written sink.old) out.old (state_text bare arch.now) (S.written sink.new)) }
+/// Writes the lines of the state, which has so many custom registers, and all that is buffered.
+fn write_rest<S: Sink>(
+    registers: usize,
+    arch: &Arch,
+    out: &mut Out,
+    sink: &mut S,
+) -> Result<(), WriteErr>
+    requires { registers ≤ 16 }
+    ensures whole { OnOk result ((x : ExtensionTree) → length x.registers ≡ registers → Completes (S.written sink.old) out.old (state_text x arch.now) (S.written sink.new)) }
+    ensures front { OnErr result ((x : ExtensionTree) → length x.registers ≡ registers → Breaks (S.written sink.old) out.old (state_text x arch.now) (S.written sink.new)) }
     ensures fault { OnErr result (Rose (S.faults sink.old) (S.faults sink.new)) }
 {
-    match write_state(0, arch, out, sink) {
+    match write_state(registers, arch, out, sink) {
         Ok(()) => out.flush(sink),
         Err(error) => Err(error),
     }
 }
 
-/// Writes the lines of the rows and of the state.
+/// Writes the lines of the rows and of the state, which has so many custom registers, 0 to 16.
 pub fn write_run<S: Sink>(
     trace: &Trace,
     shape: Shape,
+    registers: usize,
     arch: &Arch,
     out: &mut Out,
     sink: &mut S,
 ) -> Result<(), WriteErr>
-    requires { out.old ≡ [] }
-    ensures whole { OnOk result (Appends (S.written sink.old) (S.written sink.new) (trace_text shape.stages 0 trace.now.rows ++ state_text bare arch.now)) }
-    ensures front { OnErr result (AppendsFront (S.written sink.old) (S.written sink.new) (trace_text shape.stages 0 trace.now.rows ++ state_text bare arch.now)) }
+    requires few { registers ≤ 16 }
+    requires empty { out.old ≡ [] }
+    ensures whole { OnOk result ((x : ExtensionTree) → length x.registers ≡ registers → Appends (S.written sink.old) (S.written sink.new) (trace_text shape.stages 0 trace.now.rows ++ state_text x arch.now)) }
+    ensures front { OnErr result ((x : ExtensionTree) → length x.registers ≡ registers → AppendsFront (S.written sink.old) (S.written sink.new) (trace_text shape.stages 0 trace.now.rows ++ state_text x arch.now)) }
     ensures fault { OnErr result (Rose (S.faults sink.old) (S.faults sink.new)) }
 {
     match write_rows(trace, shape, out, sink) {
-        Ok(()) => write_rest(arch, out, sink),
+        Ok(()) => write_rest(registers, arch, out, sink),
         Err(error) => Err(error),
     }
 }

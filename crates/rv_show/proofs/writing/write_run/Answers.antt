@@ -1,5 +1,4 @@
 use Rattle.std.proofs.Common.{◌++◌}
-use Rattle.rv_seq.specs.Bare.{bare}
 use Rattle.rv_trace.specs.TraceText.{trace_text}
 use Rattle.rv_record.specs.RunText.{state_text}
 use Rattle.rv_tell.proofs.Parts.{at_ok, at_err, told_first}
@@ -8,20 +7,26 @@ use Rattle.rv_show.proofs.writing.write_run.Goals as goal
 pub returns-in-Ok-clause-whole : goal.returns-in-Ok-clause-whole
 returns-in-Ok-clause-whole g c =
     let before = g.S.Sink.written c.args.sink.now in
-    let rest = state_text bare c.args.arch.now in
+    at_ok c.write_rest.result
+    (λ f x q.
+    let rest = state_text x c.args.arch.now in
     let whole = trace_text c.args.shape.stages 0 c.args.trace.now.rows ++ rest in
-    at_ok c.write_rest.result (λ f. f before whole (c.in-Ok.ensures.carries rest before whole (told_first before c.args.out.now whole c.requires))) c.write_rest.ensures.whole
+    f x q before whole (c.in-Ok.ensures.carries rest before whole (told_first before c.args.out.now whole c.requires.empty)))
+    c.write_rest.ensures.whole
 
 pub returns-in-Ok-clause-front : goal.returns-in-Ok-clause-front
 returns-in-Ok-clause-front g c =
     let before = g.S.Sink.written c.args.sink.now in
-    let rest = state_text bare c.args.arch.now in
+    at_err c.write_rest.result
+    (λ f x q.
+    let rest = state_text x c.args.arch.now in
     let whole = trace_text c.args.shape.stages 0 c.args.trace.now.rows ++ rest in
-    at_err c.write_rest.result (λ f. f before whole (c.in-Ok.ensures.carries rest before whole (told_first before c.args.out.now whole c.requires))) c.write_rest.ensures.front
+    f x q before whole (c.in-Ok.ensures.carries rest before whole (told_first before c.args.out.now whole c.requires.empty)))
+    c.write_rest.ensures.front
 
 pub returns-in-Err-clause-front : goal.returns-in-Err-clause-front
-returns-in-Err-clause-front g c =
+returns-in-Err-clause-front g c = λ x q.
     let before = g.S.Sink.written c.args.sink.now in
-    let rest = state_text bare c.args.arch.now in
+    let rest = state_text x c.args.arch.now in
     let whole = trace_text c.args.shape.stages 0 c.args.trace.now.rows ++ rest in
-    c.in-Err.ensures.breaks rest before whole (told_first before c.args.out.now whole c.requires)
+    c.in-Err.ensures.breaks rest before whole (told_first before c.args.out.now whole c.requires.empty)

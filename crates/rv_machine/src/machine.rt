@@ -1,0 +1,111 @@
+ghost use Rattle.std.specs.Prelude.{◌≡◌, ◌+◌, ◌<◌, [], ◌∷◌, None, reverse, IfOk};
+ghost use Rattle.ix_extension.specs.WellFormed.{IsWellFormed};
+ghost use Rattle.ix_sheet.specs.Sheets.{IsValidSheet};
+ghost use Rattle.rv_trace.specs.Trace.{newest};
+ghost use Rattle.rv_machine.specs.Running.{AreRows, machine_at};
+
+use ix_bits::Memory;
+use ix_eval::Scratch;
+use ix_plan::Design;
+use rv_asks::{Asking, asking_of};
+use rv_engine::{Kept, first_kept, make_row};
+use rv_isa::Image;
+use rv_seq::Arch;
+use rv_trace::{Row, Trace};
+use rv_waits::Waits;
+use std::alloc::Global;
+use std::marker::Model;
+
+/// A pipeline with the extension of a design over an image, and the rows that it made. All memory is taken when it is made.
+#[derive(Drop)]
+pub struct Machine<'a> {
+    design: &'a Design,
+    words: &'a [u32],
+    waits: &'a Waits,
+    asking: Asking,
+    scratch: Scratch,
+    kept: Kept,
+    trace: Trace,
+}
+
+impl<'a> Model for Machine<'a> {
+    ghost use Rattle.std.specs.Prelude.{reverse};
+    ghost use Rattle.std.specs.Coded.{codes};
+    ghost use Rattle.ix_tree.specs.contracts.typed.TypedStmtKind as statements;
+    ghost use Rattle.rv_machine.specs.Running.{Running, IsSound};
+
+    ghost Value = { Running };
+
+    ghost coded = { Prim.hlevel (codes, statements.the_row.coded) };
+
+    ghost view = { λ m. record { setting = record { design = m.design.now; image = m.words.now; waits = m.waits.now }; rows = reverse m.trace.rows; spare = m.trace.spare } };
+
+    ghost invariant = { λ m. IsSound (record { design = m.design.now; image = m.words.now; waits = m.waits.now }) m.asking m.scratch m.kept (reverse m.trace.rows) m.trace.spare };
+}
+
+impl<'a> Machine<'a> {
+    /// A machine before its first row, over a memory with these waits, with room for so many rows.
+    pub fn new(
+        alloc: Global,
+        design: &'a Design,
+        image: &'a Image,
+        waits: &'a Waits,
+        cycles: u32,
+    ) -> Result<Machine<'a>, Memory>
+        requires well_formed { IsWellFormed design.now.extension }
+        requires sheet { IsValidSheet design.now.sheet }
+        ensures setting { IfOk result (λ m. m.setting ≡ record { design = design.now; image = image.now; waits = waits.now }) }
+        ensures rows { IfOk result (λ m. m.rows ≡ []) }
+        ensures spare { IfOk result (λ m. m.spare ≡ cycles) }
+    {
+        let trace = Trace::new(alloc, cycles)?;
+        let asking = asking_of(alloc, design)?;
+        let scratch = Scratch::new(alloc, &design.extension)?;
+        let kept = first_kept(alloc, design)?;
+        Ok(Machine {
+            design,
+            words: image.as_slice(),
+            waits,
+            asking,
+            scratch,
+            kept,
+            trace,
+        })
+    }
+
+    /// One more row. Takes no memory.
+    pub fn cycle(&mut self) -> Row
+        requires going { (newest self.old.rows).stop ≡ None }
+        requires spare { 0 < self.old.spare }
+        ensures rows { self.new.rows ≡ result ∷ self.old.rows }
+        ensures setting { self.new.setting ≡ self.old.setting }
+        ensures spare { self.new.spare + 1 ≡ self.old.spare }
+        ensures are_rows { AreRows self.new.setting self.new.rows }
+    {
+        let row = make_row(
+            self.design,
+            &self.asking,
+            self.words,
+            self.waits,
+            &mut self.kept,
+            &mut self.scratch,
+        );
+        self.trace.push(row);
+        row
+    }
+
+    /// The rows so far, oldest first.
+    pub fn trace(&self) -> &Trace
+        ensures rows { result.now.rows ≡ reverse self.now.rows }
+        ensures are_rows { AreRows self.now.setting self.now.rows }
+    {
+        &self.trace
+    }
+
+    /// The architectural state after the last row.
+    pub fn arch(&self) -> &Arch
+        ensures { result.now ≡ (machine_at self.now.setting self.now.rows).arch }
+    {
+        &self.kept.arch
+    }
+}

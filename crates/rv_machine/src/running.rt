@@ -1,0 +1,69 @@
+ghost use Rattle.std.specs.Prelude.{◌≡◌, ℕ, ◌≤◌, List, [], length, None, OnOk, Err};
+ghost use Rattle.ix_extension.specs.WellFormed.{IsWellFormed};
+ghost use Rattle.ix_sheet.specs.Sheets.{IsValidSheet};
+ghost use Rattle.ix_io.specs.Faults.{Rose};
+ghost use Rattle.ix_io.specs.Sink.{Appends, AppendsFront};
+ghost use Rattle.rv_trace.specs.Trace.{newest};
+ghost use Rattle.rv_machine.specs.Running.{AreRows};
+ghost use Rattle.rv_machine.specs.DesignText.{IsDesignText};
+
+use crate::machine::Machine;
+use ix_io::{Out, Sink};
+use ix_plan::Design;
+use rv_isa::Image;
+use rv_show::write_run;
+use rv_tell::RunErr;
+use rv_waits::Waits;
+use std::alloc::Global;
+
+/// Makes rows until one has a stop, or no more fit.
+fn run_machine(machine: &mut Machine<'_>, cycles: u32)
+    requires first { machine.old.rows ≡ [] }
+    requires spare { machine.old.spare ≡ cycles }
+    ensures setting { machine.new.setting ≡ machine.old.setting }
+    ensures few { length machine.new.rows ≤ cycles }
+    ensures whole { (newest machine.new.rows).stop ≡ None → length machine.new.rows ≡ cycles }
+{
+    'rows: for _ in 0..cycles {
+        let row = machine.cycle();
+        if row.stop.is_some() {
+            break;
+        }
+    }
+}
+
+/// Runs an image on the core and with the extension of a design, over a memory with these waits, for so many cycles or to a stop, and writes the text of the
+/// run: the lines of each row, and the state. All memory is taken before the first cycle.
+pub fn write_design_run<S: Sink>(
+    alloc: Global,
+    design: &Design,
+    image: &Image,
+    waits: &Waits,
+    cycles: u32,
+    sink: &mut S,
+) -> Result<(), RunErr>
+    requires well_formed { IsWellFormed design.now.extension }
+    requires sheet { IsValidSheet design.now.sheet }
+    ensures whole { OnOk result ((text : List ℕ) × IsDesignText (record { design = design.now; image = image.now; waits = waits.now }) cycles text × Appends (S.written sink.old) (S.written sink.new) text) }
+    ensures fault { result ≡ Err RunErr.Fault → Rose (S.faults sink.old) (S.faults sink.new) × ((text : List ℕ) × IsDesignText (record { design = design.now; image = image.now; waits = waits.now }) cycles text × AppendsFront (S.written sink.old) (S.written sink.new) text) }
+    ensures memory { result ≡ Err RunErr.Memory → S.written sink.new ≡ S.written sink.old }
+{
+    let Ok(mut out) = Out::new(alloc) else {
+        return Err(RunErr::Memory);
+    };
+    let Ok(mut machine) = Machine::new(alloc, design, image, waits, cycles) else {
+        return Err(RunErr::Memory);
+    };
+    run_machine(&mut machine, cycles);
+    match write_run(
+        machine.trace(),
+        design.sheet.shape,
+        design.extension.registers.len(),
+        machine.arch(),
+        &mut out,
+        sink,
+    ) {
+        Ok(()) => Ok(()),
+        Err(_) => Err(RunErr::Fault),
+    }
+}
