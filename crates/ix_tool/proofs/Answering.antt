@@ -1,6 +1,7 @@
 -- What the assembly of a source, and the scheduling and the building of an extension, answers.
 use Rattle.std.proofs.Common.{◌≡◌, ℕ, List, [], ◌∷◌, Option, refl, ◌⊎◌, inl, inr}
 use Rattle.ix_extension.specs.Extensions.{ExtensionTree}
+use Rattle.rv_record.specs.RunText.{run_text}
 use Rattle.rv_asm.specs.ImageText.{image_text}
 use Rattle.rv_asm.specs.Sources.{Assembles, IsRefusedAs}
 use Rattle.rv_asm.specs.declared.source.AsmErr.{AsmErr}
@@ -12,9 +13,9 @@ use Rattle.ix_tool.specs.declared.status.Status.{Status}
 use Rattle.ix_tool.specs.declared.status.Status.TheVariants.{Ok as ok_status, Memory, Source}
 use Rattle.ix_modules.specs.Modules.{IsModulesText}
 use Rattle.ix_tool.specs.declared.command.Command.{Command}
-use Rattle.ix_tool.specs.declared.command.Command.TheVariants.{Assemble, Schedule, Build}
-use Rattle.ix_tool.specs.Readings.{extension_read, sheet_read, source_read}
-use Rattle.ix_tool.specs.CommandOutput.{Writes, IsToldAs, Schedules, Answered, source_line}
+use Rattle.ix_tool.specs.declared.command.Command.TheVariants.{Assemble, Schedule, Build, Seq, RunExtension}
+use Rattle.ix_tool.specs.Readings.{Reading, extension_read, sheet_read, source_read, image_read, waits_read, number_read}
+use Rattle.ix_tool.specs.CommandOutput.{Writes, IsToldAs, Schedules, Answered, IsExtensionRun, source_line}
 
 module _ (x : ExtensionTree) (bytes : List ℕ) (before now : Option (List ℕ)) (faults faults_now : ℕ) (result : Status) where
   pub image_answered : (words : List ℕ) → Assembles x bytes words → (((result ≡ Memory) × (now ≡ before)) ⊎ Writes ok_status (image_text words) before now faults faults_now result)
@@ -40,7 +41,18 @@ module _ (x : ExtensionTree) (sheet : Sheet) (before now : Option (List ℕ)) (f
   pub modules_answered : (text : List ℕ) → IsModulesText x sheet text → Writes ok_status text before now faults faults_now result → Answered Build (extension_read x ∷ sheet_read sheet ∷ []) before now faults faults_now result
   modules_answered text h w = inr (ok_status, text, inr (refl, h), w)
 
-  pub behaviour_answered : (command : Command) → Schedules command → (e : TextErr) (status : Status) (text : List ℕ) → IsRefusedSchedule x sheet e → IsToldAs e status text → Writes status text before now faults faults_now result
-      → Answered command (extension_read x ∷ sheet_read sheet ∷ []) before now faults faults_now result
-  behaviour_answered command schedules e status text h told w =
-      inr (status, text, inl (inr (record { schedules = schedules; extension = x; sheet = sheet; values_are = refl; error = e; refused = h; told = told })), w)
+  pub behaviour_answered : (command : Command) (others : List Reading) → Schedules command → (e : TextErr) (status : Status) (text : List ℕ) → IsRefusedSchedule x sheet e → IsToldAs e status text → Writes status text before now faults faults_now result
+      → Answered command (extension_read x ∷ sheet_read sheet ∷ others) before now faults faults_now result
+  behaviour_answered command others schedules e status text h told w =
+      inr (status, text, inl (inr (record { schedules = schedules; extension = x; sheet = sheet; others = others; values_are = refl; error = e; refused = h; told = told })), w)
+
+  pub run_answered : (image waits : List ℕ) (cycles : ℕ) (text : List ℕ) → IsExtensionRun x sheet image waits cycles text → Writes ok_status text before now faults faults_now result
+      → Answered RunExtension (extension_read x ∷ sheet_read sheet ∷ image_read image ∷ waits_read waits ∷ number_read cycles ∷ []) before now faults faults_now result
+  run_answered image waits cycles text h w =
+      inr (ok_status, text, inr (refl, record { extension = x; sheet = sheet; image = image; waits = waits; cycles = cycles; values_are = refl; runs = h }), w)
+
+module _ (x : ExtensionTree) (before now : Option (List ℕ)) (faults faults_now : ℕ) (result : Status) where
+  pub steps_answered : (image : List ℕ) (steps : ℕ) → (((result ≡ Memory) × (now ≡ before)) ⊎ Writes ok_status (run_text x image steps) before now faults faults_now result)
+      → Answered Seq (extension_read x ∷ image_read image ∷ number_read steps ∷ []) before now faults faults_now result
+  steps_answered image steps (inl memory) = inl memory
+  steps_answered image steps (inr w) = inr (ok_status, run_text x image steps, inr (refl, refl), w)

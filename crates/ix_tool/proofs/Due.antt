@@ -6,26 +6,28 @@ use Rattle.ix_io.specs.Shelf.{NamedFiles, told_file, file_named}
 use Rattle.ix_cert.proofs.Verdicts.{faultless_not_refused}
 use Rattle.ix_tool.specs.declared.status.Status.{Status}
 use Rattle.ix_tool.specs.declared.status.Status.TheVariants.{Usage, ReadFault, Source, Extension as extension_status, NoSchedule}
-use Rattle.ix_tool.specs.declared.command.Command.TheVariants.{RunImage, Check, Certify, Assemble, Seq, Schedule, Build}
+use Rattle.ix_tool.specs.declared.command.Command.TheVariants.{RunImage, Check, Certify, Assemble, Seq, Schedule, Build, RunExtension}
 use Rattle.ix_tool.specs.declared.command.Command.{Command}
 use Rattle.ix_tool.specs.declared.command.FileKind.{FileKind}
-use Rattle.ix_tool.specs.declared.command.FileKind.TheVariants.{Image, Report, Extension, Sheet, Source as source_kind}
+use Rattle.ix_tool.specs.declared.command.FileKind.TheVariants.{Image, Report, Extension, InOrder, Sheet, Source as source_kind, Waits}
 use Rattle.ix_tool.specs.declared.command.Slot.{Slot}
 use Rattle.ix_tool.specs.declared.command.Slot.TheVariants.{Number, File}
-use Rattle.ix_tool.specs.Readings.{Reading, number_read, image_read, report_read, extension_read, sheet_read, source_read}
+use Rattle.ix_tool.specs.Readings.{Reading, number_read, image_read, report_read, extension_read, sheet_read, source_read, waits_read}
 use Rattle.ix_tool.specs.CommandLine.{command_of, slots_of, behind, number_within}
-use Rattle.ix_tool.specs.CommandOutput.{IsRefusedText, IsReadAs, IsFile, IsRead, AreRead, IsRefusedFile, not_read, too_long, bad_text, IsFirstRefused, IsSourceRefusal, IsToldAs, Schedules, IsScheduleRefusal, IsOwnRefusal, IsOutput, IsAnswer, IsDue, due_usage, due_file, due_answer, NoneRises, NoFileRises}
+use Rattle.ix_tool.specs.CommandOutput.{IsRefusedText, IsReadAs, IsFile, IsRead, AreRead, IsRefusedFile, not_read, too_long, bad_text, IsFirstRefused, IsSourceRefusal, IsToldAs, Schedules, IsScheduleRefusal, IsPipelineOutput, IsOwnRefusal, IsOutput, IsAnswer, IsDue, due_usage, due_file, due_answer, NoneRises, NoFileRises}
 use Rattle.ix_listing.proofs.OneExtension.{same_extension, extension_not_refused}
+use Rattle.ix_spawns.specs.Spawns.{first_spawning}
+use Rattle.rv_asm.proofs.WaitLemmas.{one_text, text_not_refused as waits_not_refused}
 use Rattle.rv_asm.proofs.ImageLemmas.{image_not_refused}
 use Rattle.rv_asm.proofs.Placing.{only_memory}
 use Rattle.rv_asm.specs.Sources.{assembled}
 use Rattle.ix_sheet.specs.declared.sheet.Sheet.{Sheet as Datasheet}
-use Rattle.ix_extension.specs.Extensions.{ExtensionTree}
+use Rattle.ix_extension.specs.Extensions.{ExtensionTree, view_extension}
 use Rattle.ix_schedules.specs.declared.text.TextErr.{TextErr}
 use Rattle.ix_schedules.specs.declared.text.TextErr.TheVariants as T
 use Rattle.ix_schedules.specs.ScheduleText.{IsRefusedText as IsRefusedSchedule}
 use Rattle.ix_schedules.proofs.OneAnswer.{scheduled_not_refused, one_refusal}
-use Rattle.ix_modules.proofs.OneText.{built_not_refused as modules_not_refused}
+use Rattle.ix_modules.proofs.OneText.{built_not_refused as modules_not_refused, design_not_refused}
 use Rattle.ix_tool.proofs.OneSheet.{one_sheet, sheet_not_refused}
 
 -- no value is some and none; one value is some of one thing
@@ -43,25 +45,46 @@ text_apart Image bytes line report_read r bad = r
 text_apart Image bytes line (extension_read x) r bad = r
 text_apart Image bytes line (sheet_read x) r bad = r
 text_apart Image bytes line (source_read x) r bad = r
+text_apart Image bytes line (waits_read x) r bad = r
 text_apart Report bytes line report_read r bad = faultless_not_refused bytes bad.0 r bad.1
 text_apart Report bytes line (image_read image) r bad = r
 text_apart Report bytes line (number_read n) r bad = r
 text_apart Report bytes line (extension_read x) r bad = r
 text_apart Report bytes line (sheet_read x) r bad = r
 text_apart Report bytes line (source_read x) r bad = r
+text_apart Report bytes line (waits_read x) r bad = r
 text_apart Extension bytes line (extension_read x) r bad = extension_not_refused bytes x bad.0 r bad.1
 text_apart Extension bytes line (image_read image) r bad = r
 text_apart Extension bytes line (number_read n) r bad = r
 text_apart Extension bytes line report_read r bad = r
 text_apart Extension bytes line (sheet_read x) r bad = r
 text_apart Extension bytes line (source_read x) r bad = r
+text_apart Extension bytes line (waits_read x) r bad = r
 text_apart Sheet bytes line (sheet_read x) r bad = sheet_not_refused bytes x bad.0 r.sheet_is bad.1
 text_apart Sheet bytes line (image_read image) r bad = r
 text_apart Sheet bytes line (number_read n) r bad = r
 text_apart Sheet bytes line report_read r bad = r
 text_apart Sheet bytes line (extension_read x) r bad = r
 text_apart Sheet bytes line (source_read x) r bad = r
+text_apart Sheet bytes line (waits_read x) r bad = r
 text_apart source_kind bytes line v r bad = bad
+text_apart InOrder bytes line (extension_read x) r (inl bad) = extension_not_refused bytes x bad.0 r.0 bad.1
+text_apart InOrder bytes line (extension_read x) r (inr bad) =
+    let same : x ≡ bad.extension = same_extension bytes x bad.extension r.0 bad.elaborates in
+    both (first_spawning bad.extension) bad.which bad.first (subst (λ y. first_spawning y ≡ None) same r.1)
+text_apart InOrder bytes line (image_read x) r bad = r
+text_apart InOrder bytes line (number_read x) r bad = r
+text_apart InOrder bytes line report_read r bad = r
+text_apart InOrder bytes line (sheet_read x) r bad = r
+text_apart InOrder bytes line (source_read x) r bad = r
+text_apart InOrder bytes line (waits_read x) r bad = r
+text_apart Waits bytes line (waits_read waits) r bad = waits_not_refused bytes waits bad.0 r bad.1
+text_apart Waits bytes line (image_read x) r bad = r
+text_apart Waits bytes line (number_read x) r bad = r
+text_apart Waits bytes line report_read r bad = r
+text_apart Waits bytes line (extension_read x) r bad = r
+text_apart Waits bytes line (sheet_read x) r bad = r
+text_apart Waits bytes line (source_read x) r bad = r
 
 text_one : (kind : FileKind) (bytes : List ℕ) (v u : Reading) → IsReadAs kind bytes v → IsReadAs kind bytes u → v ≡ u
 text_one Image bytes (image_read i) (image_read j) r s = ap (λ x. image_read x) (r.words_are ∙ sym s.words_are)
@@ -70,55 +93,91 @@ text_one Image bytes (image_read i) report_read r s = absurd s
 text_one Image bytes (image_read i) (extension_read y) r s = absurd s
 text_one Image bytes (image_read i) (source_read y) r s = absurd s
 text_one Image bytes (image_read i) (sheet_read y) r s = absurd s
+text_one Image bytes (image_read i) (waits_read y) r s = absurd s
 text_one Image bytes (number_read n) u r s = absurd r
 text_one Image bytes report_read u r s = absurd r
 text_one Image bytes (extension_read x) u r s = absurd r
 text_one Image bytes (source_read x) u r s = absurd r
 text_one Image bytes (sheet_read x) u r s = absurd r
+text_one Image bytes (waits_read x) u r s = absurd r
 text_one Report bytes report_read report_read r s = refl
 text_one Report bytes report_read (image_read i) r s = absurd s
 text_one Report bytes report_read (number_read n) r s = absurd s
 text_one Report bytes report_read (extension_read y) r s = absurd s
 text_one Report bytes report_read (source_read y) r s = absurd s
 text_one Report bytes report_read (sheet_read y) r s = absurd s
+text_one Report bytes report_read (waits_read y) r s = absurd s
 text_one Report bytes (number_read n) u r s = absurd r
 text_one Report bytes (image_read i) u r s = absurd r
 text_one Report bytes (extension_read x) u r s = absurd r
 text_one Report bytes (source_read x) u r s = absurd r
 text_one Report bytes (sheet_read x) u r s = absurd r
+text_one Report bytes (waits_read x) u r s = absurd r
 text_one Extension bytes (extension_read x) (extension_read y) r s = ap (λ z. extension_read z) (same_extension bytes x y r s)
 text_one Extension bytes (extension_read x) (image_read i) r s = absurd s
 text_one Extension bytes (extension_read x) (number_read n) r s = absurd s
 text_one Extension bytes (extension_read x) report_read r s = absurd s
 text_one Extension bytes (extension_read x) (source_read y) r s = absurd s
 text_one Extension bytes (extension_read x) (sheet_read y) r s = absurd s
+text_one Extension bytes (extension_read x) (waits_read y) r s = absurd s
 text_one Extension bytes (image_read i) u r s = absurd r
 text_one Extension bytes (number_read n) u r s = absurd r
 text_one Extension bytes report_read u r s = absurd r
 text_one Extension bytes (source_read x) u r s = absurd r
 text_one Extension bytes (sheet_read x) u r s = absurd r
+text_one Extension bytes (waits_read x) u r s = absurd r
 text_one source_kind bytes (source_read x) (source_read y) r s = ap (λ z. source_read z) (r ∙ sym s)
 text_one source_kind bytes (source_read x) (image_read i) r s = absurd s
 text_one source_kind bytes (source_read x) (number_read n) r s = absurd s
 text_one source_kind bytes (source_read x) report_read r s = absurd s
 text_one source_kind bytes (source_read x) (extension_read y) r s = absurd s
 text_one source_kind bytes (source_read x) (sheet_read y) r s = absurd s
+text_one source_kind bytes (source_read x) (waits_read y) r s = absurd s
 text_one source_kind bytes (image_read i) u r s = absurd r
 text_one source_kind bytes (number_read n) u r s = absurd r
 text_one source_kind bytes report_read u r s = absurd r
 text_one source_kind bytes (extension_read x) u r s = absurd r
 text_one source_kind bytes (sheet_read x) u r s = absurd r
+text_one source_kind bytes (waits_read x) u r s = absurd r
 text_one Sheet bytes (sheet_read x) (sheet_read y) r s = ap (λ z. sheet_read z) (one_sheet bytes x y r s)
 text_one Sheet bytes (sheet_read x) (image_read i) r s = absurd s
 text_one Sheet bytes (sheet_read x) (number_read n) r s = absurd s
 text_one Sheet bytes (sheet_read x) report_read r s = absurd s
 text_one Sheet bytes (sheet_read x) (extension_read y) r s = absurd s
+text_one Sheet bytes (sheet_read x) (waits_read y) r s = absurd s
 text_one Sheet bytes (sheet_read x) (source_read y) r s = absurd s
 text_one Sheet bytes (image_read i) u r s = absurd r
 text_one Sheet bytes (number_read n) u r s = absurd r
 text_one Sheet bytes report_read u r s = absurd r
 text_one Sheet bytes (extension_read x) u r s = absurd r
 text_one Sheet bytes (source_read x) u r s = absurd r
+text_one Sheet bytes (waits_read x) u r s = absurd r
+text_one InOrder bytes (extension_read x) (extension_read y) r s = ap (λ z. extension_read z) (same_extension bytes x y r.0 s.0)
+text_one InOrder bytes (extension_read x) (image_read y) r s = absurd s
+text_one InOrder bytes (extension_read x) (number_read y) r s = absurd s
+text_one InOrder bytes (extension_read x) report_read r s = absurd s
+text_one InOrder bytes (extension_read x) (sheet_read y) r s = absurd s
+text_one InOrder bytes (extension_read x) (source_read y) r s = absurd s
+text_one InOrder bytes (extension_read x) (waits_read y) r s = absurd s
+text_one InOrder bytes (image_read x) u r s = absurd r
+text_one InOrder bytes (number_read x) u r s = absurd r
+text_one InOrder bytes report_read u r s = absurd r
+text_one InOrder bytes (sheet_read x) u r s = absurd r
+text_one InOrder bytes (source_read x) u r s = absurd r
+text_one InOrder bytes (waits_read x) u r s = absurd r
+text_one Waits bytes (waits_read x) (waits_read y) r s = ap (λ z. waits_read z) (one_text bytes x y r s)
+text_one Waits bytes (waits_read x) (image_read y) r s = absurd s
+text_one Waits bytes (waits_read x) (number_read y) r s = absurd s
+text_one Waits bytes (waits_read x) report_read r s = absurd s
+text_one Waits bytes (waits_read x) (extension_read y) r s = absurd s
+text_one Waits bytes (waits_read x) (sheet_read y) r s = absurd s
+text_one Waits bytes (waits_read x) (source_read y) r s = absurd s
+text_one Waits bytes (image_read x) u r s = absurd r
+text_one Waits bytes (number_read x) u r s = absurd r
+text_one Waits bytes report_read u r s = absurd r
+text_one Waits bytes (extension_read x) u r s = absurd r
+text_one Waits bytes (sheet_read x) u r s = absurd r
+text_one Waits bytes (source_read x) u r s = absurd r
 
 -- ---- a told file has one text
 same_file : (files : Option NamedFiles) (name a b : List ℕ) → files ≢ None → IsFile files name a → IsFile files name b → a ≡ b
@@ -229,19 +288,29 @@ told_some (T.TooManyOps text) status line told e = cc
 told_some (T.NoSchedule text) status line told e = cc
 told_some T.Memory status line told e = told
 
--- an extension of which a behaviour is refused has no report, and no modules
-sheet_apart : (command : Command) (x : ExtensionTree) (sheet : Datasheet) (b : List ℕ) (e : TextErr) → Schedules command → e ≢ T.Memory → IsOutput command (extension_read x ∷ sheet_read sheet ∷ []) b → IsRefusedSchedule x sheet e → ⊥
-sheet_apart Schedule x sheet b e h some out refused = scheduled_not_refused x sheet b e some out refused
-sheet_apart Build x sheet b e h some out refused = modules_not_refused x sheet b e some out refused
-sheet_apart RunImage x sheet b e h some out refused = h
-sheet_apart Check x sheet b e h some out refused = h
-sheet_apart Certify x sheet b e h some out refused = h
-sheet_apart Assemble x sheet b e h some out refused = h
-sheet_apart Seq x sheet b e h some out refused = h
+-- an extension of which a behaviour is refused has no report, no modules, and no run
+run_apart : (x : ExtensionTree) (sheet : Datasheet) (others : List Reading) (b : List ℕ) (e : TextErr) → e ≢ T.Memory → IsPipelineOutput (extension_read x ∷ sheet_read sheet ∷ others) b → IsRefusedSchedule x sheet e → ⊥
+run_apart x sheet others b e some out refused =
+    let same : (x ≡ out.extension) × (sheet ≡ out.sheet) = (let v = out.values_are in cc, let v = out.values_are in cc) in
+    let there : IsRefusedSchedule (view_extension out.runs.design.extension) out.runs.design.sheet e =
+    subst (λ y. IsRefusedSchedule y out.runs.design.sheet e) (same.0 ∙ sym out.runs.extension_is) (subst (λ d. IsRefusedSchedule x d e) (same.1 ∙ sym out.runs.sheet_is) refused) in
+    design_not_refused out.runs.design e some out.runs.stands there
+
+sheet_apart : (command : Command) (x : ExtensionTree) (sheet : Datasheet) (others : List Reading) (b : List ℕ) (e : TextErr) → Schedules command → e ≢ T.Memory → IsOutput command (extension_read x ∷ sheet_read sheet ∷ others) b → IsRefusedSchedule x sheet e → ⊥
+sheet_apart Schedule x sheet [] b e h some out refused = scheduled_not_refused x sheet b e some out refused
+sheet_apart Schedule x sheet (v ∷ vs) b e h some out refused = out
+sheet_apart Build x sheet [] b e h some out refused = modules_not_refused x sheet b e some out refused
+sheet_apart Build x sheet (v ∷ vs) b e h some out refused = out
+sheet_apart RunExtension x sheet others b e h some out refused = run_apart x sheet others b e some out refused
+sheet_apart RunImage x sheet others b e h some out refused = h
+sheet_apart Check x sheet others b e h some out refused = h
+sheet_apart Certify x sheet others b e h some out refused = h
+sheet_apart Assemble x sheet others b e h some out refused = h
+sheet_apart Seq x sheet others b e h some out refused = h
 
 schedule_apart : (command : Command) (vs : List Reading) (s : Status) (a b : List ℕ) → IsScheduleRefusal command vs s a → IsOutput command vs b → ⊥
 schedule_apart command vs s a b own out =
-    sheet_apart command own.extension own.sheet b own.error own.schedules (told_some own.error s a own.told) (subst (λ us. IsOutput command us b) own.values_are out) own.refused
+    sheet_apart command own.extension own.sheet own.others b own.error own.schedules (told_some own.error s a own.told) (subst (λ us. IsOutput command us b) own.values_are out) own.refused
 
 own_apart : (command : Command) (vs : List Reading) (s : Status) (a b : List ℕ) → IsOwnRefusal command vs s a → IsOutput command vs b → ⊥
 own_apart command vs s a b (inl own) out = source_apart command vs s a b own out
@@ -257,12 +326,12 @@ refused_one x sheet T.Memory f s t a b p q told other = absurd told
 refused_one x sheet (T.TooManyOps k) T.Memory s t a b p q told other = absurd other
 refused_one x sheet (T.NoSchedule k) T.Memory s t a b p q told other = absurd other
 
-read_parts : (x y : ExtensionTree) (s t : Datasheet) → extension_read x ∷ sheet_read s ∷ [] ≡ extension_read y ∷ sheet_read t ∷ [] → (x ≡ y) × (s ≡ t)
-read_parts x y s t e = (cc, cc)
+read_parts : (x y : ExtensionTree) (s t : Datasheet) (xs ys : List Reading) → extension_read x ∷ sheet_read s ∷ xs ≡ extension_read y ∷ sheet_read t ∷ ys → (x ≡ y) × (s ≡ t)
+read_parts x y s t xs ys e = (cc, cc)
 
 schedules_one : (command : Command) (vs : List Reading) (s t : Status) (a b : List ℕ) → IsScheduleRefusal command vs s a → IsScheduleRefusal command vs t b → s ≡ t
 schedules_one command vs s t a b own other =
-    let same = read_parts own.extension other.extension own.sheet other.sheet (sym own.values_are ∙ other.values_are) in
+    let same = read_parts own.extension other.extension own.sheet other.sheet own.others other.others (sym own.values_are ∙ other.values_are) in
     refused_one own.extension own.sheet own.error other.error s t a b own.refused
     (subst (λ x. IsRefusedSchedule x own.sheet other.error) (sym same.0) (subst (λ d. IsRefusedSchedule other.extension d other.error) (sym same.1) other.refused))
     own.told other.told

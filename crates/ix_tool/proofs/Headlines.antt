@@ -6,24 +6,18 @@ use Rattle.std.proofs.lemmas.Bool.{and_parts, true≢false}
 use Rattle.std.proofs.lemmas.Slice.Eq.{bytes_eq-Decides}
 use Rattle.ix_io.specs.Shelf.{NamedFiles, told_file}
 use Rattle.ix_io.specs.Sink.{Appends}
-use Rattle.ix_cert.specs.Certificates.{IsFaultless}
 use Rattle.ix_cert.proofs.Verdicts.{faultless_certified}
 use Rattle.ix_tool.specs.declared.command.Command.{Command}
-use Rattle.ix_tool.specs.declared.command.Command.TheVariants.{RunImage, Check, Certify, Schedule, Build, Seq, Assemble}
-use Rattle.ix_tool.specs.declared.command.FileKind.TheVariants.{Image, Report, Extension, Sheet, Source as source_kind}
-use Rattle.ix_tool.specs.Readings.{Reading, number_read, image_read, report_read, extension_read, sheet_read, source_read}
-use Rattle.rv_asm.specs.ImageText.{IsImageText}
-use Rattle.ix_extension.specs.Extensions.{ExtensionTree}
-use Rattle.ix_elab.specs.Elaborating.{Elaborates}
+use Rattle.ix_tool.specs.declared.command.Command.TheVariants.{RunImage, Check, Certify, Schedule, Build, Seq, Assemble, RunExtension}
+use Rattle.ix_tool.specs.Readings.{Reading, extension_read, source_read}
 use Rattle.ix_listing.specs.Listing.{listing_text}
 use Rattle.rv_record.specs.RunText.{run_text}
 use Rattle.ix_listing.proofs.OneExtension.{is_well_formed}
-use Rattle.ix_tool.specs.CommandLine.{word_of, command_of, commands, first_command, is_command, slots_of, fits_slots, behind, number_within, run_of, run_command, SeqCommand, seq_command, seq_of, AsmCommand, ScheduleCommand, extension_of, report_of, source_of, schedule_of}
-use Rattle.ix_tool.specs.CommandOutput.{IsReadAs, IsFile, AreRead, IsOutput, TakesSheet, Takes, OutputAnswer, RunAnswer, ListedAnswer, CertifiedAnswer, SteppedAnswer, AssembledAnswer, IsSheetRead, ScheduledAnswer, image_of_run, told_of}
-use Rattle.ix_sheet.specs.declared.sheet.Sheet.{Sheet as Datasheet}
+use Rattle.ix_tool.specs.CommandLine.{word_of, command_of, commands, first_command, is_command, slots_of, fits_slots, behind, number_within, run_of, run_command, SeqCommand, seq_command, seq_of, AsmCommand, ScheduleCommand, extension_of, report_of, source_of, schedule_of, build_of}
+use Rattle.ix_tool.specs.CommandOutput.{IsFile, AreRead, IsOutput, OutputAnswer, RunAnswer, ListedAnswer, CertifiedAnswer, SteppedAnswer, AssembledAnswer, ScheduledAnswer, image_of_run, told_of}
 use Rattle.ix_schedules.specs.ScheduleText.{IsScheduleText}
-use Rattle.ix_schedules.proofs.Named.{names_are}
 use Rattle.ix_tool.proofs.Due.{both, one}
+use Rattle.ix_tool.proofs.Taking.{run_read, report_is_read, extension_is_read, source_is_read, schedule_is_read, seq_read, pipeline_read}
 
 -- ---- the words of a command
 found_at : (c : Command) (rest : List Command) (words : List (List ℕ)) (command : Command) (b : Bool) → is_command c words ≡ b → (if b then Some c else first_command rest words) ≡ Some command → (first_command rest words ≡ Some command → is_command command words ≡ true) → is_command command words ≡ true
@@ -45,253 +39,6 @@ some_word (word ∷ rest) command e = omega arith
 pub fit_behind : (words : List (List ℕ)) (command : Command) → command_of words ≡ Some command → fits_slots (slots_of command) (behind words) ≡ true
 fit_behind [] command e = cc
 fit_behind (word ∷ rest) command e = (and_parts _ _ (is_of (word ∷ rest) command e)).1
-
--- ---- what a command takes
-image_of : (bytes : List ℕ) (v : Reading) → IsReadAs Image bytes v → (image : List ℕ) × (v ≡ image_read image) × IsImageText bytes image
-image_of bytes (image_read image) r = (image, refl, r)
-image_of bytes (number_read n) r = absurd r
-image_of bytes report_read r = absurd r
-image_of bytes (extension_read x) r = absurd r
-image_of bytes (source_read x) r = absurd r
-image_of bytes (sheet_read x) r = absurd r
-
-report_in : (bytes : List ℕ) (v : Reading) → IsReadAs Report bytes v → (v ≡ report_read) × IsFaultless bytes
-report_in bytes report_read r = (refl, r)
-report_in bytes (image_read image) r = absurd r
-report_in bytes (number_read n) r = absurd r
-report_in bytes (extension_read x) r = absurd r
-report_in bytes (source_read x) r = absurd r
-report_in bytes (sheet_read x) r = absurd r
-
-extension_in : (bytes : List ℕ) (v : Reading) → IsReadAs Extension bytes v → (x : ExtensionTree) × (v ≡ extension_read x) × Elaborates bytes x
-extension_in bytes (extension_read x) r = (x, refl, r)
-extension_in bytes (image_read image) r = absurd r
-extension_in bytes (number_read n) r = absurd r
-extension_in bytes report_read r = absurd r
-extension_in bytes (source_read x) r = absurd r
-extension_in bytes (sheet_read x) r = absurd r
-
-source_in : (bytes : List ℕ) (v : Reading) → IsReadAs source_kind bytes v → v ≡ source_read bytes
-source_in bytes (source_read text) r = ap (λ t. source_read t) r
-source_in bytes (image_read image) r = absurd r
-source_in bytes (number_read n) r = absurd r
-source_in bytes report_read r = absurd r
-source_in bytes (extension_read x) r = absurd r
-source_in bytes (sheet_read x) r = absurd r
-
-sheet_in : (bytes : List ℕ) (v : Reading) → IsReadAs Sheet bytes v → (sheet : Datasheet) × (v ≡ sheet_read sheet) × IsSheetRead bytes sheet
-sheet_in bytes (sheet_read sheet) r = (sheet, refl, r)
-sheet_in bytes (image_read image) r = absurd r
-sheet_in bytes (number_read n) r = absurd r
-sheet_in bytes report_read r = absurd r
-sheet_in bytes (extension_read x) r = absurd r
-sheet_in bytes (source_read x) r = absurd r
-
-pub record IsRunRead (files : Option NamedFiles) (rest : List (List ℕ)) (vs : List Reading) : Type 0 where
-  pub name : List ℕ
-  pub number : List ℕ
-  pub bytes : List ℕ
-  pub image : List ℕ
-  pub cycles : ℕ
-  pub words : rest ≡ name ∷ number ∷ []
-  pub values : vs ≡ image_read image ∷ number_read cycles ∷ []
-  pub file : IsFile files name bytes
-  pub text : IsImageText bytes image
-  pub within : number_within 200000 number ≡ Some cycles
-
-pub run_read : (files : Option NamedFiles) (rest : List (List ℕ)) (vs : List Reading) → AreRead files (slots_of RunImage) rest vs → IsRunRead files rest vs
-run_read files [] vs h = absurd h
-run_read files (a ∷ rest) [] h = absurd h
-run_read files (a ∷ []) (v ∷ vs) h = absurd h.1
-run_read files (a ∷ b ∷ rest) (v ∷ []) h = absurd h.1
-run_read files (a ∷ b ∷ c ∷ rest) (v ∷ u ∷ vs) h = absurd h.1.1
-run_read files (a ∷ b ∷ []) (v ∷ u ∷ w ∷ vs) h = absurd h.1.1
-run_read files (a ∷ b ∷ []) (v ∷ u ∷ []) h =
-    let i = image_of h.0.0 v h.0.2 in
-    record {
-      name = a;
-      number = b;
-      bytes = h.0.0;
-      image = i.0;
-      cycles = h.1.0.0;
-      words = refl;
-      values = ap (λ x. x ∷ u ∷ []) i.1 ∙ ap (λ y. image_read i.0 ∷ y ∷ []) h.1.0.2;
-      file = h.0.1;
-      text = i.2;
-      within = h.1.0.1;
-    }
-
-pub record IsReportRead (files : Option NamedFiles) (rest : List (List ℕ)) (vs : List Reading) : Type 0 where
-  pub name : List ℕ
-  pub bytes : List ℕ
-  pub words : rest ≡ name ∷ []
-  pub values : vs ≡ report_read ∷ []
-  pub file : IsFile files name bytes
-  pub faultless : IsFaultless bytes
-
-pub report_is_read : (files : Option NamedFiles) (rest : List (List ℕ)) (vs : List Reading) → AreRead files (slots_of Certify) rest vs → IsReportRead files rest vs
-report_is_read files [] vs h = absurd h
-report_is_read files (a ∷ rest) [] h = absurd h
-report_is_read files (a ∷ b ∷ rest) (v ∷ vs) h = absurd h.1
-report_is_read files (a ∷ []) (v ∷ u ∷ vs) h = absurd h.1
-report_is_read files (a ∷ []) (v ∷ []) h =
-    let r = report_in h.0.0 v h.0.2 in
-    record { name = a; bytes = h.0.0; words = refl; values = ap (λ x. x ∷ []) r.0; file = h.0.1; faultless = r.1 }
-
-pub record IsExtensionRead (files : Option NamedFiles) (rest : List (List ℕ)) (vs : List Reading) : Type 0 where
-  pub name : List ℕ
-  pub bytes : List ℕ
-  pub extension : ExtensionTree
-  pub words : rest ≡ name ∷ []
-  pub values : vs ≡ extension_read extension ∷ []
-  pub file : IsFile files name bytes
-  pub elaborates : Elaborates bytes extension
-
-pub extension_is_read : (files : Option NamedFiles) (rest : List (List ℕ)) (vs : List Reading) → AreRead files (slots_of Check) rest vs → IsExtensionRead files rest vs
-extension_is_read files [] vs h = absurd h
-extension_is_read files (a ∷ rest) [] h = absurd h
-extension_is_read files (a ∷ b ∷ rest) (v ∷ vs) h = absurd h.1
-extension_is_read files (a ∷ []) (v ∷ u ∷ vs) h = absurd h.1
-extension_is_read files (a ∷ []) (v ∷ []) h =
-    let r = extension_in h.0.0 v h.0.2 in
-    record { name = a; bytes = h.0.0; extension = r.0; words = refl; values = ap (λ x. x ∷ []) r.1; file = h.0.1; elaborates = r.2 }
-
-pub record IsSourceRead (files : Option NamedFiles) (rest : List (List ℕ)) (vs : List Reading) : Type 0 where
-  pub name : List ℕ
-  pub other : List ℕ
-  pub bytes : List ℕ
-  pub extension : ExtensionTree
-  pub source : List ℕ
-  pub words : rest ≡ name ∷ other ∷ []
-  pub values : vs ≡ extension_read extension ∷ source_read source ∷ []
-  pub file : IsFile files name bytes
-  pub elaborates : Elaborates bytes extension
-  pub source_file : IsFile files other source
-
-pub source_is_read : (files : Option NamedFiles) (rest : List (List ℕ)) (vs : List Reading) → AreRead files (slots_of Assemble) rest vs → IsSourceRead files rest vs
-source_is_read files [] vs h = absurd h
-source_is_read files (a ∷ rest) [] h = absurd h
-source_is_read files (a ∷ []) (v ∷ vs) h = absurd h.1
-source_is_read files (a ∷ b ∷ rest) (v ∷ []) h = absurd h.1
-source_is_read files (a ∷ b ∷ c ∷ rest) (v ∷ u ∷ vs) h = absurd h.1.1
-source_is_read files (a ∷ b ∷ []) (v ∷ u ∷ w ∷ vs) h = absurd h.1.1
-source_is_read files (a ∷ b ∷ []) (v ∷ u ∷ []) h =
-    let x = extension_in h.0.0 v h.0.2 in
-    record {
-      name = a;
-      other = b;
-      bytes = h.0.0;
-      extension = x.0;
-      source = h.1.0.0;
-      words = refl;
-      values = ap (λ y. y ∷ u ∷ []) x.1 ∙ ap (λ y. extension_read x.0 ∷ y ∷ []) (source_in h.1.0.0 u h.1.0.2);
-      file = h.0.1;
-      elaborates = x.2;
-      source_file = h.1.0.1;
-    }
-
-pub record IsScheduleRead (files : Option NamedFiles) (rest : List (List ℕ)) (vs : List Reading) : Type 0 where
-  pub name : List ℕ
-  pub other : List ℕ
-  pub bytes : List ℕ
-  pub extension : ExtensionTree
-  pub sheet_bytes : List ℕ
-  pub sheet : Datasheet
-  pub words : rest ≡ name ∷ other ∷ []
-  pub values : vs ≡ extension_read extension ∷ sheet_read sheet ∷ []
-  pub file : IsFile files name bytes
-  pub elaborates : Elaborates bytes extension
-  pub sheet_file : IsFile files other sheet_bytes
-  pub sheet_is : IsSheetRead sheet_bytes sheet
-
-pub schedule_is_read : (files : Option NamedFiles) (rest : List (List ℕ)) (vs : List Reading) → AreRead files (slots_of Schedule) rest vs → IsScheduleRead files rest vs
-schedule_is_read files [] vs h = absurd h
-schedule_is_read files (a ∷ rest) [] h = absurd h
-schedule_is_read files (a ∷ []) (v ∷ vs) h = absurd h.1
-schedule_is_read files (a ∷ b ∷ rest) (v ∷ []) h = absurd h.1
-schedule_is_read files (a ∷ b ∷ c ∷ rest) (v ∷ u ∷ vs) h = absurd h.1.1
-schedule_is_read files (a ∷ b ∷ []) (v ∷ u ∷ w ∷ vs) h = absurd h.1.1
-schedule_is_read files (a ∷ b ∷ []) (v ∷ u ∷ []) h =
-    let x = extension_in h.0.0 v h.0.2 in
-    let d = sheet_in h.1.0.0 u h.1.0.2 in
-    record {
-      name = a;
-      other = b;
-      bytes = h.0.0;
-      extension = x.0;
-      sheet_bytes = h.1.0.0;
-      sheet = d.0;
-      words = refl;
-      values = ap (λ y. y ∷ u ∷ []) x.1 ∙ ap (λ y. extension_read x.0 ∷ y ∷ []) d.1;
-      file = h.0.1;
-      elaborates = x.2;
-      sheet_file = h.1.0.1;
-      sheet_is = d.2;
-    }
-
-pub record IsSeqRead (files : Option NamedFiles) (rest : List (List ℕ)) (vs : List Reading) : Type 0 where
-  pub name : List ℕ
-  pub other : List ℕ
-  pub number : List ℕ
-  pub bytes : List ℕ
-  pub extension : ExtensionTree
-  pub program : List ℕ
-  pub image : List ℕ
-  pub steps : ℕ
-  pub words : rest ≡ name ∷ other ∷ number ∷ []
-  pub values : vs ≡ extension_read extension ∷ image_read image ∷ number_read steps ∷ []
-  pub file : IsFile files name bytes
-  pub elaborates : Elaborates bytes extension
-  pub program_file : IsFile files other program
-  pub text : IsImageText program image
-  pub within : number_within 200000 number ≡ Some steps
-
-pub seq_read : (files : Option NamedFiles) (rest : List (List ℕ)) (vs : List Reading) → AreRead files (slots_of Seq) rest vs → IsSeqRead files rest vs
-seq_read files [] vs h = absurd h
-seq_read files (a ∷ rest) [] h = absurd h
-seq_read files (a ∷ []) (v ∷ vs) h = absurd h.1
-seq_read files (a ∷ b ∷ rest) (v ∷ []) h = absurd h.1
-seq_read files (a ∷ b ∷ []) (v ∷ u ∷ vs) h = absurd h.1.1
-seq_read files (a ∷ b ∷ c ∷ rest) (v ∷ u ∷ []) h = absurd h.1.1
-seq_read files (a ∷ b ∷ c ∷ d ∷ rest) (v ∷ u ∷ w ∷ vs) h = absurd h.1.1.1
-seq_read files (a ∷ b ∷ c ∷ []) (v ∷ u ∷ w ∷ z ∷ vs) h = absurd h.1.1.1
-seq_read files (a ∷ b ∷ c ∷ []) (v ∷ u ∷ w ∷ []) h =
-    let x = extension_in h.0.0 v h.0.2 in
-    let i = image_of h.1.0.0 u h.1.0.2 in
-    record {
-      name = a;
-      other = b;
-      number = c;
-      bytes = h.0.0;
-      extension = x.0;
-      program = h.1.0.0;
-      image = i.0;
-      steps = h.1.1.0.0;
-      words = refl;
-      values = ap (λ y. y ∷ u ∷ w ∷ []) x.1 ∙ ap (λ y. extension_read x.0 ∷ y ∷ w ∷ []) i.1 ∙ ap (λ y. extension_read x.0 ∷ image_read i.0 ∷ y ∷ []) h.1.1.0.2;
-      file = h.0.1;
-      elaborates = x.2;
-      program_file = h.1.0.1;
-      text = i.2;
-      within = h.1.1.0.1;
-    }
-
-sheet_takes : (files : Option NamedFiles) (rest : List (List ℕ)) (vs : List Reading) → AreRead files (slots_of Schedule) rest vs → TakesSheet vs
-sheet_takes files rest vs h =
-    let r = schedule_is_read files rest vs h in
-    subst TakesSheet (sym r.values) (is_well_formed r.bytes r.extension r.elaborates, names_are r.bytes r.extension r.elaborates, r.sheet_is.valid)
-
--- the values of the words are those that the command takes
-pub takes : (files : Option NamedFiles) (command : Command) (rest : List (List ℕ)) (vs : List Reading) → AreRead files (slots_of command) rest vs → Takes command vs
-takes files RunImage rest vs h = subst (λ x. Takes RunImage x) (sym (run_read files rest vs h).values) tt
-takes files Check rest vs h = subst (λ x. Takes Check x) (sym (extension_is_read files rest vs h).values) tt
-takes files Certify rest vs h = subst (λ x. Takes Certify x) (sym (report_is_read files rest vs h).values) tt
-takes files Assemble rest vs h = let r = source_is_read files rest vs h in subst (λ x. Takes Assemble x) (sym r.values) r.source_file.within
-takes files Seq rest vs h =
-    let r = seq_read files rest vs h in
-    subst (λ x. Takes Seq x) (sym r.values) (is_well_formed r.bytes r.extension r.elaborates)
-takes files Schedule rest vs h = sheet_takes files rest vs h
-takes files Build rest vs h = sheet_takes files rest vs h
 
 -- ---- the headline
 -- the words of a run
@@ -315,6 +62,34 @@ three_no_file (word ∷ rest) name number command is e = (ap (λ r. extension_of
 four_no_other : (words : List (List ℕ)) (a b c : List ℕ) → is_command Seq words ≡ true → behind words ≡ a ∷ b ∷ c ∷ [] → (run_of words ≡ None) × (extension_of words ≡ None) × (report_of words ≡ None)
 four_no_other [] a b c is e = absurd (true≢false (sym is))
 four_no_other (word ∷ rest) a b c is e = (ap (λ r. run_of (word ∷ r)) e, ap (λ r. extension_of (word ∷ r)) e, ap (λ r. report_of (word ∷ r)) e)
+
+-- and six are none of all these
+pub record AreNoOther (words : List (List ℕ)) : Type 0 where
+  pub run : run_of words ≡ None
+  pub extension : extension_of words ≡ None
+  pub report : report_of words ≡ None
+  pub seq : seq_of words ≡ None
+  pub source : source_of words ≡ None
+  pub schedule : schedule_of words ≡ None
+  pub build : build_of words ≡ None
+
+pub six_no_other : (words : List (List ℕ)) (a b c d e : List ℕ) → is_command RunExtension words ≡ true → behind words ≡ a ∷ b ∷ c ∷ d ∷ e ∷ [] → AreNoOther words
+six_no_other [] a b c d e is h = absurd (true≢false (sym is))
+six_no_other (word ∷ rest) a b c d e is h =
+    record {
+      run = ap (λ r. run_of (word ∷ r)) h;
+      extension = ap (λ r. extension_of (word ∷ r)) h;
+      report = ap (λ r. report_of (word ∷ r)) h;
+      seq = ap (λ r. seq_of (word ∷ r)) h;
+      source = ap (λ r. source_of (word ∷ r)) h;
+      schedule = ap (λ r. schedule_of (word ∷ r)) h;
+      build = ap (λ r. build_of (word ∷ r)) h;
+    }
+
+pub pipeline_no_other : (files : Option NamedFiles) (words : List (List ℕ)) (vs : List Reading) → is_command RunExtension words ≡ true → AreRead files (slots_of RunExtension) (behind words) vs → AreNoOther words
+pipeline_no_other files words vs is read =
+    let r = pipeline_read files (behind words) vs read in
+    six_no_other words r.name r.other r.third r.fourth r.number is r.words
 
 -- fewer words are no sequential run
 one_no_seq : (words : List (List ℕ)) (name : List ℕ) (command : Command) → is_command command words ≡ true → behind words ≡ name ∷ [] → seq_of words ≡ None
@@ -369,6 +144,7 @@ headline_of files words before now Build vs text is read out a told =
 headline_of files words before now Seq vs text is read out a told =
     let r = seq_read files (behind words) vs read in
     absurd (told (ap (λ o. image_of_run files o) (four_no_other words r.name r.other r.number is r.words).0))
+headline_of files words before now RunExtension vs text is read out a told = absurd (told (ap (λ o. image_of_run files o) (pipeline_no_other files words vs is read).run))
 headline_of files words before now RunImage vs text is read out a told =
     let r = run_read files (behind words) vs read in
     let run = run_words_are words r.name r.number r.cycles is r.words r.within in
@@ -421,6 +197,7 @@ certified_of files words before now Build vs text report is read out a e =
 certified_of files words before now Seq vs text report is read out a e =
     let r = seq_read files (behind words) vs read in
     absurd (both (report_of words) report e (four_no_other words r.name r.other r.number is r.words).2)
+certified_of files words before now RunExtension vs text report is read out a e = absurd (both (report_of words) report e (pipeline_no_other files words vs is read).report)
 certified_of files words before now Certify vs text report is read out a e =
     let r = report_is_read files (behind words) vs read in
     let within = r.file.within in
@@ -471,6 +248,7 @@ listed_of files words before now Build vs text name is read out a e =
 listed_of files words before now Seq vs text name is read out a e =
     let r = seq_read files (behind words) vs read in
     absurd (both (extension_of words) name e (four_no_other words r.name r.other r.number is r.words).1)
+listed_of files words before now RunExtension vs text name is read out a e = absurd (both (extension_of words) name e (pipeline_no_other files words vs is read).extension)
 listed_of files words before now Check vs text name is read out a e =
     let r = extension_is_read files (behind words) vs read in
     let listing : text ≡ listing_text r.extension = subst (λ x. IsOutput Check x text) r.values out in
@@ -516,6 +294,7 @@ stepped_of files words before now Schedule vs text asked is read out a e =
 stepped_of files words before now Build vs text asked is read out a e =
     let r = schedule_is_read files (behind words) vs read in
     absurd (both (seq_of words) asked e (two_no_seq words r.name r.other Build is r.words))
+stepped_of files words before now RunExtension vs text asked is read out a e = absurd (both (seq_of words) asked e (pipeline_no_other files words vs is read).seq)
 stepped_of files words before now Seq vs text asked is read out a e =
     let r = seq_read files (behind words) vs read in
     let run : text ≡ run_text r.extension r.image r.steps = subst (λ x. IsOutput Seq x text) r.values out in
@@ -584,6 +363,7 @@ assembled_of files words before now Build vs text asked is read out a e =
 assembled_of files words before now Seq vs text asked is read out a e =
     let r = seq_read files (behind words) vs read in
     absurd (both (source_of words) asked e (three_no_asm words r.name r.other r.number Seq is r.words))
+assembled_of files words before now RunExtension vs text asked is read out a e = absurd (both (source_of words) asked e (pipeline_no_other files words vs is read).source)
 assembled_of files words before now Assemble vs text asked is read out a e =
     let r = source_is_read files (behind words) vs read in
     let there : IsOutput Assemble (extension_read r.extension ∷ source_read r.source ∷ []) text = subst (λ x. IsOutput Assemble x text) r.values out in
@@ -650,6 +430,7 @@ scheduled_of files words before now Assemble vs text asked is read out a e =
 scheduled_of files words before now Build vs text asked is read out a e =
     let r = schedule_is_read files (behind words) vs read in
     absurd (both (schedule_of words) asked e (pair_no_schedule Build refl words r.name r.other is r.words))
+scheduled_of files words before now RunExtension vs text asked is read out a e = absurd (both (schedule_of words) asked e (pipeline_no_other files words vs is read).schedule)
 scheduled_of files words before now Schedule vs text asked is read out a e =
     let r = schedule_is_read files (behind words) vs read in
     let report : IsScheduleText r.extension r.sheet text = subst (λ x. IsOutput Schedule x text) r.values out in

@@ -7,5 +7,8 @@ pub mod OneSheet
 pub mod Due
 pub mod Outcomes
 pub mod Clauses
+mod Taking
 pub mod Headlines
 pub mod ModulesShown
+mod PipelineValues
+mod PipelinesShown

@@ -4,8 +4,8 @@ use Rattle.std.specs.Option.{option_and_then}
 use Rattle.std.specs.Str.{bytes_eq}
 use Rattle.std.specs.declared.alloc.Global.{Global}
 use Rattle.ix_tool.specs.declared.command.Command.{Command}
-use Rattle.ix_tool.specs.declared.command.Command.TheVariants.{RunImage, Check, Certify, Schedule, Build, Seq, Assemble}
-use Rattle.ix_tool.specs.declared.command.FileKind.TheVariants.{Image, Report, Extension, Sheet, Source}
+use Rattle.ix_tool.specs.declared.command.Command.TheVariants.{RunImage, Check, Certify, Schedule, Build, Seq, Assemble, RunExtension}
+use Rattle.ix_tool.specs.declared.command.FileKind.TheVariants.{Image, Report, Extension, InOrder, Sheet, Source, Waits}
 use Rattle.ix_tool.specs.declared.command.Slot.{Slot}
 use Rattle.ix_tool.specs.declared.command.Slot.TheVariants.{Number, File}
 
@@ -39,6 +39,7 @@ word_of Assemble = codes "asm"
 word_of Seq = codes "seq"
 word_of Schedule = codes "schedule"
 word_of Build = codes "build"
+word_of RunExtension = codes "run"
 
 -- numbers and files, in the order of the words
 abbrev pub slots_of : Command → List Slot
@@ -49,10 +50,11 @@ slots_of Seq = File Extension ∷ File Image ∷ Number 200000 ∷ []
 slots_of Assemble = File Extension ∷ File Source ∷ []
 slots_of Schedule = File Extension ∷ File Sheet ∷ []
 slots_of Build = File Extension ∷ File Sheet ∷ []
+slots_of RunExtension = File InOrder ∷ File Sheet ∷ File Image ∷ File Waits ∷ Number 200000 ∷ []
 
 -- the commands, in the order in which words are tried
 abbrev pub commands : List Command
-commands = RunImage ∷ Check ∷ Certify ∷ Seq ∷ Assemble ∷ Schedule ∷ Build ∷ []
+commands = RunImage ∷ Check ∷ Certify ∷ Seq ∷ Assemble ∷ Schedule ∷ Build ∷ RunExtension ∷ []
 
 -- ---- which command words are
 -- any word names a file; a number is at most the given one
@@ -176,6 +178,30 @@ seq_of (command ∷ extension ∷ []) = None
 seq_of (command ∷ extension ∷ image ∷ []) = None
 seq_of (command ∷ extension ∷ image ∷ steps ∷ []) = seq_command (bytes_eq command (codes "seq")) extension image (number_within 200000 steps)
 seq_of (command ∷ extension ∷ image ∷ steps ∷ more ∷ rest) = None
+
+-- ---- run EXT SHEET IMAGE WAITS CYCLES, with 0 to 200,000 cycles
+pub record PipelineCommand : Type 0 where
+  pub extension : List ℕ
+  pub sheet : List ℕ
+  pub image : List ℕ
+  pub waits : List ℕ
+  pub cycles : ℕ
+
+-- the run with an extension that these files and this number are of, where the first word is that of one
+abbrev pub pipeline_command : Bool → List ℕ → List ℕ → List ℕ → List ℕ → Option ℕ → Option PipelineCommand
+pipeline_command is_run extension sheet image waits None = None
+pipeline_command is_run extension sheet image waits (Some n) = if is_run then Some (record { extension = extension; sheet = sheet; image = image; waits = waits; cycles = n }) else None
+
+-- the run with an extension that these words ask for, if they do
+abbrev pub pipeline_of : List (List ℕ) → Option PipelineCommand
+pipeline_of [] = None
+pipeline_of (command ∷ []) = None
+pipeline_of (command ∷ extension ∷ []) = None
+pipeline_of (command ∷ extension ∷ sheet ∷ []) = None
+pipeline_of (command ∷ extension ∷ sheet ∷ image ∷ []) = None
+pipeline_of (command ∷ extension ∷ sheet ∷ image ∷ waits ∷ []) = None
+pipeline_of (command ∷ extension ∷ sheet ∷ image ∷ waits ∷ cycles ∷ []) = pipeline_command (bytes_eq command (codes "run")) extension sheet image waits (number_within 200000 cycles)
+pipeline_of (command ∷ extension ∷ sheet ∷ image ∷ waits ∷ cycles ∷ more ∷ rest) = None
 
 -- the bytes of the words
 abbrev pub bytes_of : List (String Global) → List (List ℕ)

@@ -1,23 +1,29 @@
 -- What a command answers and writes, from its words and the bytes of its files (this project's choice).
 use Rattle.std.specs.Prelude.{◌≡◌, ◌≢◌, IfSome, ℕ, ◌<◌, ◌≤◌, List, [], ◌∷◌, ◌++◌, length, Option, Some, None, codes, decimal, ◌⊎◌, string_bytes, Result, Ok, Err}
 use Rattle.ix_tool.specs.declared.status.Status.{Status}
-use Rattle.ix_tool.specs.declared.status.Status.TheVariants.{Ok as ok_status, Usage, ReadFault, WriteFault, TooLong, Extension as extension_status, Sheet as sheet_status, Image as image_status, NoSchedule, Certificate, Memory, Source, Waits}
+use Rattle.ix_tool.specs.declared.status.Status.TheVariants.{Ok as ok_status, Usage, ReadFault, WriteFault, TooLong, Extension as extension_status, Sheet as sheet_status, Image as image_status, NoSchedule, Certificate, Memory, Source, Waits as waits_status}
 use Rattle.ix_tool.specs.declared.command.Command.{Command}
-use Rattle.ix_tool.specs.declared.command.Command.TheVariants.{RunImage, Check, Certify, Schedule, Build, Seq, Assemble}
+use Rattle.ix_tool.specs.declared.command.Command.TheVariants.{RunImage, Check, Certify, Schedule, Build, Seq, Assemble, RunExtension}
 use Rattle.ix_tool.specs.declared.command.FileKind.{FileKind}
-use Rattle.ix_tool.specs.declared.command.FileKind.TheVariants.{Image, Report, Extension, Sheet, Source as source_kind}
+use Rattle.ix_tool.specs.declared.command.FileKind.TheVariants.{Image, Report, Extension, InOrder, Sheet, Source as source_kind, Waits}
 use Rattle.ix_tool.specs.declared.command.Slot.{Slot}
 use Rattle.ix_tool.specs.declared.command.Slot.TheVariants.{Number, File}
 use Rattle.ix_tool.specs.declared.value.Value.{Value}
 use Rattle.ix_tool.specs.declared.value.Refusal.{Refusal}
 use Rattle.ix_tool.specs.declared.value.Refusal.TheVariants as refusal
 use Rattle.rv_show.specs.PipelineText.{IsPipelineText}
+use Rattle.rv_machine.specs.DesignText.{IsDesignText}
 use Rattle.rv_record.specs.RunText.{run_text}
 use Rattle.rv_asm.specs.ImageText.{IsImageText, IsBadLine, image_text}
 use Rattle.rv_asm.specs.Sources.{Assembles, IsRefusedAs}
+use Rattle.rv_asm.specs.WaitsText.{IsWaitsText, IsBadWait}
 use Rattle.rv_asm.specs.declared.source.AsmErr.{AsmErr}
 use Rattle.rv_asm.specs.declared.source.AsmErr.TheVariants as A
-use Rattle.ix_extension.specs.Extensions.{ExtensionTree}
+use Rattle.ix_extension.specs.Extensions.{ExtensionTree, view_extension}
+use Rattle.ix_behaviour.specs.declared.which.Which.{Which}
+use Rattle.ix_spawns.specs.Spawns.{first_spawning}
+use Rattle.ix_plan.specs.declared.design.Design.{Design}
+use Rattle.ix_standing.specs.Standing.{name_at, Stands}
 use Rattle.ix_extension.specs.WellFormed.{IsOf}
 use Rattle.ix_tree.specs.TypedTrees.{TypedTextTree}
 use Rattle.ix_elab.specs.declared.error.FrontErr.{FrontErr}
@@ -25,8 +31,8 @@ use Rattle.ix_elab.specs.Elaborating.{Elaborates}
 use Rattle.ix_elab.specs.Refusing.{IsRefused as IsRefusedExtension}
 use Rattle.ix_listing.specs.Listing.{listing_text}
 use Rattle.ix_listing.specs.RefusalLine.{refusal_line}
-use Rattle.ix_tool.specs.Readings.{Reading, number_read, image_read, report_read, extension_read, sheet_read, source_read, reading_of}
-use Rattle.ix_tool.specs.CommandLine.{RunCommand, SeqCommand, AsmCommand, ScheduleCommand, BuildCommand, run_of, report_of, command_of, slots_of, behind, number_within}
+use Rattle.ix_tool.specs.Readings.{Reading, number_read, image_read, report_read, extension_read, sheet_read, source_read, waits_read, reading_of}
+use Rattle.ix_tool.specs.CommandLine.{RunCommand, SeqCommand, AsmCommand, ScheduleCommand, BuildCommand, PipelineCommand, run_of, report_of, command_of, slots_of, behind, number_within}
 use Rattle.ix_sheet.specs.declared.sheet.Sheet.{Sheet as Datasheet}
 use Rattle.ix_sheet.specs.declared.sheet.SheetErr.{SheetErr}
 use Rattle.ix_sheet.specs.declared.sheet.SheetErr.TheVariants as S
@@ -50,6 +56,15 @@ use Rattle.ix_io.specs.Sink.{Appends, AppendsFront}
 abbrev pub IsRunOutput : List ℕ → ℕ → List ℕ → Type 0
 IsRunOutput image cycles text = IsPipelineText 3 1 1 2 image [] cycles text
 
+-- the text of a run on the core of a datasheet with an extension: a design stands for both, and the rows are those of its machine over this image, whose memory
+-- has these waits
+pub record IsExtensionRun (x : ExtensionTree) (sheet : Datasheet) (image waits : List ℕ) (cycles : ℕ) (text : List ℕ) : Type 0 where
+  pub design : Design
+  pub stands : Stands design
+  pub extension_is : view_extension design.extension ≡ x
+  pub sheet_is : design.sheet ≡ sheet
+  pub runs : IsDesignText (record { design = design; image = image; waits = waits }) cycles text
+
 -- a refusal that names a file
 abbrev pub file_line : List ℕ → List ℕ → List ℕ
 file_line kind name = codes "refused " ++ kind ++ codes " " ++ name ++ codes "\n"
@@ -57,6 +72,14 @@ file_line kind name = codes "refused " ++ kind ++ codes " " ++ name ++ codes "\n
 -- a refusal that names a line of the image
 abbrev pub image_line : ℕ → List ℕ
 image_line number = codes "refused Image " ++ decimal number ++ codes "\n"
+
+-- a refusal that names a number of a list of waits, from 0
+abbrev pub waits_line : ℕ → List ℕ
+waits_line number = codes "refused Waits " ++ decimal number ++ codes "\n"
+
+-- a refusal that names a behaviour in which a `spawn` stands
+abbrev pub decoupled_line : List ℕ → List ℕ
+decoupled_line name = codes "refused Extension Decoupled " ++ name ++ codes "\n"
 
 -- a refusal of a report, which names its line and what fails there
 abbrev pub certificate_line : CertErr → List ℕ
@@ -95,11 +118,21 @@ pub record IsSheetRead (bytes : List ℕ) (sheet : Datasheet) : Type 0 where
   pub delays : length sheet.delay ≡ 34
   pub windows : length sheet.window ≡ 10
 
+-- the text is that of an extension, and this is the first behaviour in which a `spawn` stands
+pub record IsDecoupled (bytes line : List ℕ) : Type 0 where
+  pub extension : ExtensionTree
+  pub elaborates : Elaborates bytes extension
+  pub which : Which
+  pub first : first_spawning extension ≡ Some which
+  pub line_is : line ≡ decoupled_line (name_at extension which)
+
 -- the text of a file of this kind is refused with this line
 abbrev pub IsRefusedText : FileKind → List ℕ → List ℕ → Type 0
 IsRefusedText Image bytes line = (number : ℕ) × IsBadLine bytes number × (line ≡ image_line number)
 IsRefusedText Report bytes line = (e : CertErr) × IsRefusedReport bytes e × (line ≡ certificate_line e)
 IsRefusedText Extension bytes line = (e : FrontErr) × IsRefusedExtension bytes e × (line ≡ refusal_line e)
+IsRefusedText InOrder bytes line = ((e : FrontErr) × IsRefusedExtension bytes e × (line ≡ refusal_line e)) ⊎ IsDecoupled bytes line
+IsRefusedText Waits bytes line = (number : ℕ) × IsBadWait bytes number × (line ≡ waits_line number)
 IsRefusedText Sheet bytes line = (e : SheetErr) × IsRefusedSheet bytes e × (line ≡ sheet_line e)
 IsRefusedText source_kind bytes line = ⊥
 
@@ -108,6 +141,8 @@ abbrev pub refusal_status : FileKind → Status
 refusal_status Image = image_status
 refusal_status Report = Certificate
 refusal_status Extension = extension_status
+refusal_status InOrder = extension_status
+refusal_status Waits = waits_status
 refusal_status Sheet = sheet_status
 refusal_status source_kind = Source
 
@@ -119,6 +154,10 @@ IsReadAs Report bytes report_read = IsFaultless bytes
 IsReadAs Report bytes v = ⊥
 IsReadAs Extension bytes (extension_read x) = Elaborates bytes x
 IsReadAs Extension bytes v = ⊥
+IsReadAs InOrder bytes (extension_read x) = Elaborates bytes x × (first_spawning x ≡ None)
+IsReadAs InOrder bytes v = ⊥
+IsReadAs Waits bytes (waits_read waits) = IsWaitsText bytes waits
+IsReadAs Waits bytes v = ⊥
 IsReadAs Sheet bytes (sheet_read sheet) = IsSheetRead bytes sheet
 IsReadAs Sheet bytes v = ⊥
 IsReadAs source_kind bytes (source_read text) = text ≡ bytes
@@ -157,6 +196,16 @@ AtFile files P slots words = ⊥
 abbrev pub IsFirstRefused : Option NamedFiles → (List ℕ → Type 0) → List Slot → List (List ℕ) → Status → List ℕ → Type 0
 IsFirstRefused files Rises slots words status line = AtFile files (λ kind name. IsRefusedFile files Rises kind name status line) slots words
 
+-- the values are an extension, a datasheet, an image, the waits of a memory and a count of cycles, and the text is that of their run
+pub record IsPipelineOutput (values : List Reading) (text : List ℕ) : Type 0 where
+  pub extension : ExtensionTree
+  pub sheet : Datasheet
+  pub image : List ℕ
+  pub waits : List ℕ
+  pub cycles : ℕ
+  pub values_are : values ≡ extension_read extension ∷ sheet_read sheet ∷ image_read image ∷ waits_read waits ∷ number_read cycles ∷ []
+  pub runs : IsExtensionRun extension sheet image waits cycles text
+
 -- ---- what a command answers where all its words are read
 -- the bytes due
 abbrev pub IsOutput : Command → List Reading → List ℕ → Type 0
@@ -167,6 +216,7 @@ IsOutput Assemble (extension_read x ∷ source_read bytes ∷ []) text = (words 
 IsOutput Seq (extension_read x ∷ image_read image ∷ number_read steps ∷ []) text = text ≡ run_text x image steps
 IsOutput Schedule (extension_read x ∷ sheet_read sheet ∷ []) text = IsScheduleText x sheet text
 IsOutput Build (extension_read x ∷ sheet_read sheet ∷ []) text = IsModulesText x sheet text
+IsOutput RunExtension values text = IsPipelineOutput values text
 IsOutput command values text = ⊥
 
 -- a refusal of a source with the extension before it
@@ -191,6 +241,7 @@ IsToldAs T.Memory status line = ⊥
 abbrev pub Schedules : Command → Type 0
 Schedules Schedule = Unit {0}
 Schedules Build = Unit {0}
+Schedules RunExtension = Unit {0}
 Schedules command = ⊥
 
 -- a refusal of the first behaviour of an extension that is not scheduled on the core of the datasheet
@@ -198,7 +249,8 @@ pub record IsScheduleRefusal (command : Command) (values : List Reading) (status
   pub schedules : Schedules command
   pub extension : ExtensionTree
   pub sheet : Datasheet
-  pub values_are : values ≡ extension_read extension ∷ sheet_read sheet ∷ []
+  pub others : List Reading
+  pub values_are : values ≡ extension_read extension ∷ sheet_read sheet ∷ others
   pub error : TextErr
   pub refused : IsRefusedSchedule extension sheet error
   pub told : IsToldAs error status line
@@ -267,6 +319,11 @@ abbrev pub TakesSheet : List Reading → Type 0
 TakesSheet (extension_read x ∷ sheet_read sheet ∷ []) = ((text : TypedTextTree) × IsOf text x) × AreNamed x × IsValidSheet sheet
 TakesSheet values = ⊥
 
+-- and an image, the waits of a memory, and a count of cycles behind these
+abbrev pub TakesPipeline : List Reading → Type 0
+TakesPipeline (extension_read x ∷ sheet_read sheet ∷ image_read image ∷ waits_read waits ∷ number_read cycles ∷ []) = TakesSheet (extension_read x ∷ sheet_read sheet ∷ [])
+TakesPipeline values = ⊥
+
 -- the values are those that the command takes
 abbrev pub Takes : Command → List Reading → Type 0
 Takes RunImage (image_read image ∷ number_read cycles ∷ []) = Unit {0}
@@ -276,6 +333,7 @@ Takes Assemble (extension_read x ∷ source_read bytes ∷ []) = length bytes �
 Takes Seq (extension_read x ∷ image_read image ∷ number_read steps ∷ []) = (text : TypedTextTree) × IsOf text x
 Takes Schedule values = TakesSheet values
 Takes Build values = TakesSheet values
+Takes RunExtension values = TakesPipeline values
 Takes command values = ⊥
 
 -- what a command with these values did
@@ -461,10 +519,11 @@ pub record UnscheduledAnswer (files : Option NamedFiles) (words : List (List ℕ
   pub values : List Reading
   pub extension : ExtensionTree
   pub sheet : Datasheet
+  pub others : List Reading
   pub text : List ℕ
   pub command_is : command_of words ≡ Some command
   pub read : AreRead files (slots_of command) (behind words) values
-  pub values_are : values ≡ extension_read extension ∷ sheet_read sheet ∷ []
+  pub values_are : values ≡ extension_read extension ∷ sheet_read sheet ∷ others
   pub refused : IsRefusedSchedule extension sheet (error text)
   pub written : Appends before now text
 
@@ -491,21 +550,30 @@ pub record SteppedAnswer (files : Option NamedFiles) (command : SeqCommand) (bef
   pub read : IsImageText program image
   pub written : Appends before now (run_text extension image command.steps)
 
--- one of the answers that are built
-abbrev pub IsBuiltAnswer : Status → Type 0
-IsBuiltAnswer ok_status = Unit {0}
-IsBuiltAnswer Usage = Unit {0}
-IsBuiltAnswer ReadFault = Unit {0}
-IsBuiltAnswer WriteFault = Unit {0}
-IsBuiltAnswer TooLong = Unit {0}
-IsBuiltAnswer extension_status = Unit {0}
-IsBuiltAnswer image_status = Unit {0}
-IsBuiltAnswer Certificate = Unit {0}
-IsBuiltAnswer Memory = Unit {0}
-IsBuiltAnswer sheet_status = Unit {0}
-IsBuiltAnswer NoSchedule = Unit {0}
-IsBuiltAnswer Source = Unit {0}
-IsBuiltAnswer Waits = ⊥
+-- The files are the texts of this extension, which is well formed and in which no `spawn` stands, of this datasheet, of this image, and of these waits. A design
+-- stands for the extension and the datasheet, and the text of the rows of its machine over the image was written whole.
+pub record PipelineAnswer (files : Option NamedFiles) (command : PipelineCommand) (before now : Option (List ℕ)) : Type 0 where
+  pub bytes : List ℕ
+  pub extension : ExtensionTree
+  pub sheet_bytes : List ℕ
+  pub sheet : Datasheet
+  pub program : List ℕ
+  pub image : List ℕ
+  pub waits_bytes : List ℕ
+  pub waits : List ℕ
+  pub text : List ℕ
+  pub file : IsFile files command.extension bytes
+  pub elaborates : Elaborates bytes extension
+  pub well_formed : (typed : TypedTextTree) × IsOf typed extension
+  pub in_order : first_spawning extension ≡ None
+  pub sheet_file : IsFile files command.sheet sheet_bytes
+  pub sheet_read : IsSheetRead sheet_bytes sheet
+  pub image_file : IsFile files command.image program
+  pub image_read : IsImageText program image
+  pub waits_file : IsFile files command.waits waits_bytes
+  pub waits_read : IsWaitsText waits_bytes waits
+  pub runs : IsExtensionRun extension sheet image waits command.cycles text
+  pub written : Appends before now text
 
 -- the status that is due, or an answer that every other yields to
 abbrev pub IsStatusOr : Status → Status → Type 0

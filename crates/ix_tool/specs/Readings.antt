@@ -5,7 +5,7 @@ use Rattle.ix_sheet.specs.declared.sheet.Sheet.{Sheet}
 use Rattle.ix_tool.specs.declared.value.Value.{Value}
 use Rattle.ix_tool.specs.declared.value.Value.TheVariants as value
 
--- a number, the words of an image, a report in which no fault was found, an extension, a datasheet, or the bytes of a source
+-- a number, the words of an image, a report in which no fault was found, an extension, a datasheet, the bytes of a source, or the waits of a memory
 pub data Reading : Type 0 where
   number_read : ℕ → Reading
   image_read : List ℕ → Reading
@@ -13,6 +13,7 @@ pub data Reading : Type 0 where
   extension_read : ExtensionTree → Reading
   sheet_read : Sheet → Reading
   source_read : List ℕ → Reading
+  waits_read : List ℕ → Reading
 
 -- what a value of the code is
 abbrev pub reading_of : Value → Reading
@@ -22,3 +23,4 @@ reading_of value.Report = report_read
 reading_of (value.Extension x) = extension_read (view_extension x)
 reading_of (value.Sheet sheet) = sheet_read sheet
 reading_of (value.Source bytes) = source_read bytes
+reading_of (value.Waits waits) = waits_read waits

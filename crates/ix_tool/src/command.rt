@@ -18,6 +18,8 @@ pub enum Command {
     Schedule,
     /// `build EXT SHEET`.
     Build,
+    /// `run EXT SHEET IMAGE WAITS CYCLES`, with 0 to 200,000 cycles.
+    RunExtension,
 }
 
 /// What a file is read as.
@@ -29,10 +31,14 @@ pub enum FileKind {
     Report,
     /// The text of an extension.
     Extension,
+    /// The text of an extension in which no `spawn` stands.
+    InOrder,
     /// A datasheet.
     Sheet,
     /// An assembly source.
     Source,
+    /// The waits of a memory.
+    Waits,
 }
 
 /// What may stand in a place behind the first word.
@@ -45,7 +51,7 @@ pub enum Slot {
 }
 
 /// The commands, in the order in which words are tried.
-const COMMANDS: [Command; 7] = [
+const COMMANDS: [Command; 8] = [
     Command::RunImage,
     Command::Check,
     Command::Certify,
@@ -53,6 +59,7 @@ const COMMANDS: [Command; 7] = [
     Command::Assemble,
     Command::Schedule,
     Command::Build,
+    Command::RunExtension,
 ];
 
 /// What stands behind `run` for an image alone.
@@ -80,6 +87,15 @@ const ASSEMBLE: [Slot; 2] = [
 /// What stands behind `schedule` and `build`.
 const SCHEDULE: [Slot; 2] = [Slot::File(FileKind::Extension), Slot::File(FileKind::Sheet)];
 
+/// What stands behind `run` for an image on a core with an extension.
+const RUN_EXTENSION: [Slot; 5] = [
+    Slot::File(FileKind::InOrder),
+    Slot::File(FileKind::Sheet),
+    Slot::File(FileKind::Image),
+    Slot::File(FileKind::Waits),
+    Slot::Number(200_000),
+];
+
 impl Command {
     /// The first word.
     fn word(self) -> &'static str
@@ -93,6 +109,7 @@ impl Command {
             Command::Seq => "seq",
             Command::Schedule => "schedule",
             Command::Build => "build",
+            Command::RunExtension => "run",
         }
     }
 
@@ -108,6 +125,7 @@ impl Command {
             Command::Schedule => &SCHEDULE,
             Command::Build => &SCHEDULE,
             Command::Seq => &SEQ,
+            Command::RunExtension => &RUN_EXTENSION,
         }
     }
 }

@@ -4,7 +4,8 @@
 pub mod assembling;
 pub mod building;
 pub mod command;
-pub mod scheduling;
+pub mod running;
+mod scheduling;
 pub mod status;
 pub mod tool;
 pub mod value;

@@ -1,17 +1,18 @@
 ghost use Rattle.std.specs.Prelude.{◌≡◌, ◌≢◌, ℕ, List, map, Some, None, ◌⊎◌};
 ghost use Rattle.ix_tool.specs.declared.status.Status.{Status};
 ghost use Rattle.ix_tool.specs.declared.command.Command.{Command as TheCommand};
-ghost use Rattle.ix_tool.specs.CommandLine.{SeqCommand, AsmCommand, ScheduleCommand, BuildCommand, command_of as specified_command_of, extension_of, report_of, seq_of, source_of, schedule_of, build_of, bytes_of};
+ghost use Rattle.ix_tool.specs.CommandLine.{SeqCommand, AsmCommand, ScheduleCommand, BuildCommand, PipelineCommand, command_of as specified_command_of, extension_of, report_of, seq_of, source_of, schedule_of, build_of, pipeline_of, bytes_of};
 ghost use Rattle.ix_extension.specs.Extensions.{view_extension};
 ghost use Rattle.ix_extension.specs.WellFormed.{IsWellFormed};
 ghost use Rattle.ix_listing.specs.Listing.{listing_text};
 ghost use Rattle.rv_record.specs.RunText.{run_text};
 ghost use Rattle.ix_tool.specs.Readings.{Reading, reading_of};
-ghost use Rattle.ix_tool.specs.CommandOutput.{IsRunOutput, Writes, Takes, Answered, Outcome, RoseIn, NoneRises, IsDue, UsageAnswer, ReadFaultAnswer, WriteFaultAnswer, TooLongAnswer, TextAnswer, OutputAnswer, RunAnswer, ListedAnswer, CertifiedAnswer, SteppedAnswer, AssembledAnswer, SourceAnswer, ScheduledAnswer, ModulesAnswer, NoScheduleAnswer, ExtensionAnswer, IsBuiltAnswer, IsStatusOr, Premises, Completes, told_of};
+ghost use Rattle.ix_tool.specs.CommandOutput.{IsRunOutput, Writes, Takes, Answered, Outcome, RoseIn, NoneRises, IsDue, UsageAnswer, ReadFaultAnswer, WriteFaultAnswer, TooLongAnswer, TextAnswer, OutputAnswer, RunAnswer, ListedAnswer, CertifiedAnswer, SteppedAnswer, AssembledAnswer, SourceAnswer, ScheduledAnswer, ModulesAnswer, NoScheduleAnswer, ExtensionAnswer, PipelineAnswer, IsStatusOr, Premises, Completes, told_of};
 
 use crate::assembling::assemble_source;
 use crate::building::build_extension;
 use crate::command::{Command, command_of};
+use crate::running::answer_run;
 use crate::scheduling::schedule_extension;
 use crate::status::Status;
 use crate::value::{Refusal, Value, read_words};
@@ -119,9 +120,10 @@ fn answer_build<S: Sink>(alloc: Global, values: &[Value], sink: &mut S) -> Statu
     }
 }
 
-/// Writes what is due of the values of a command.
-fn answer<S: Sink>(alloc: Global, command: Command, values: &[Value], sink: &mut S) -> Status
-    requires { Takes command (map reading_of values.now) }
+/// Writes what is due of the values of a command, but of a run with an extension.
+fn answer_read<S: Sink>(alloc: Global, command: Command, values: &[Value], sink: &mut S) -> Status
+    requires reads { command ≢ Command.RunExtension }
+    requires takes { Takes command (map reading_of values.now) }
     ensures { Answered command (map reading_of values.now) (S.written sink.old) (S.written sink.new) (S.faults sink.old) (S.faults sink.new) result }
 {
     match (command, values) {
@@ -140,6 +142,17 @@ fn answer<S: Sink>(alloc: Global, command: Command, values: &[Value], sink: &mut
     }
 }
 
+/// Writes what is due of the values of a command.
+fn answer<S: Sink>(alloc: Global, command: Command, values: Vec<Value>, sink: &mut S) -> Status
+    requires { Takes command (map reading_of values.items) }
+    ensures { Answered command (map reading_of values.items) (S.written sink.old) (S.written sink.new) (S.faults sink.old) (S.faults sink.new) result }
+{
+    match command {
+        Command::RunExtension => answer_run(alloc, values, sink),
+        _ => answer_read(alloc, command, values.as_slice(), sink),
+    }
+}
+
 /// What the tool does on these words, in one relation.
 fn run_words<F: Shelf, S: Sink>(
     alloc: Global,
@@ -153,7 +166,7 @@ fn run_words<F: Shelf, S: Sink>(
         return finish(sink, Status::Usage, b"refused Usage\n");
     };
     match read_words(alloc, command.slots(), &words[1..], shelf) {
-        Ok(values) => answer(alloc, command, values.as_slice(), sink),
+        Ok(values) => answer(alloc, command, values, sink),
         Err(Refusal::Line(status, line)) => finish(sink, status, line.as_bytes()),
         Err(Refusal::Memory) => Status::Memory,
     }
@@ -165,7 +178,8 @@ fn run_words<F: Shelf, S: Sink>(
 /// image of at most 1,048,576 bytes and 65,536 words. `check EXT` writes the listing of an extension: its registers, tables,
 /// encodings and blocks. `certify REPORT` writes `yes` where the check of a report finds no
 /// fault. `seq EXT IMAGE STEPS` writes the run of an image one instruction at a time, at most 200,000 of them, on a core with an extension. `asm EXT SOURCE` writes the image of a source with the instructions of an extension.
-/// `schedule EXT SHEET` writes the report of an extension's behaviours on the core of a datasheet, `build EXT SHEET` the Verilog text of their modules. The files are read whole and judged one after another, in the order of the words. A refusal writes its one line
+/// `schedule EXT SHEET` writes the report of an extension's behaviours on the core of a datasheet, `build EXT SHEET` the Verilog text of their modules. `run EXT SHEET IMAGE WAITS CYCLES` writes the trace
+/// and the state of a run on the core of a datasheet with an extension in which no `spawn` stands, over a memory with a list of waits of at most 65,536 numbers. The files are read whole and judged one after another, in the order of the words. A refusal writes its one line
 /// alone, but that a behaviour without a schedule is named and then reported; want of memory writes nothing, and comes before the first cycle.
 pub fn run_tool<F: Shelf, S: Sink>(
     alloc: Global,
@@ -204,6 +218,11 @@ pub fn run_tool<F: Shelf, S: Sink>(
     ensures modules { result ≡ Status.Ok → (command : BuildCommand) → build_of (bytes_of words.now) ≡ Some command
         → ModulesAnswer (F.files shelf.old) command (S.written sink.old) (S.written sink.new) }
 
+    // A run with an extension is that of a design that stands for the extension and the datasheet which the files are the texts of: its rows are those of the
+    // machine's definition over the image, whose memory has the waits. That these rows are lawful is not part of it yet.
+    ensures pipelined { result ≡ Status.Ok → (command : PipelineCommand) → pipeline_of (bytes_of words.now) ≡ Some command
+        → PipelineAnswer (F.files shelf.old) command (S.written sink.old) (S.written sink.new) }
+
     // For every command: the status and the bytes that were written are due, by the words and the bytes of the files. Of a
     // file of which nothing is told, they are some bytes of at most the greatest length.
     ensures outcome { Outcome (F.files shelf.old) (RoseIn (F.faults shelf.old) (F.faults shelf.new)) (bytes_of words.now)
@@ -232,8 +251,9 @@ pub fn run_tool<F: Shelf, S: Sink>(
         → TextAnswer (F.files shelf.old) (bytes_of words.now) Status.Certificate (S.written sink.old) (S.written sink.new) }
     ensures source { result ≡ Status.Source
         → SourceAnswer (F.files shelf.old) (bytes_of words.now) (S.written sink.old) (S.written sink.new) }
+    ensures waits { result ≡ Status.Waits
+        → TextAnswer (F.files shelf.old) (bytes_of words.now) Status.Waits (S.written sink.old) (S.written sink.new) }
     ensures memory { result ≡ Status.Memory → S.written sink.new ≡ S.written sink.old }
-    ensures built { IsBuiltAnswer result }
 
     // What is due of told files is answered, but for faults and want of memory; a refusal of the words yields to neither
     // memory nor files.

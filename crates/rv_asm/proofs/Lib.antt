@@ -5,4 +5,4 @@ pub mod Placing
 pub mod ImageLemmas
 pub mod Printed
 pub mod Results
-mod WaitLemmas
+pub mod WaitLemmas

@@ -1,4 +1,4 @@
-use Rattle.std.proofs.Common.{refl, subst}
+use Rattle.std.proofs.Common.{[], refl, subst}
 use Rattle.ix_extension.specs.Extensions.{view_extension}
 use Rattle.ix_schedules.specs.declared.text.TextErr.TheVariants as T
 use Rattle.ix_tool.specs.declared.status.Status.TheVariants.{Ok, Extension, NoSchedule}
@@ -14,12 +14,12 @@ returns-in-Ok g c =
 
 pub returns-in-Err-TooManyOps : goal.returns-in-Err-TooManyOps
 returns-in-Err-TooManyOps g c =
-    behaviour_answered (view_extension c.args.extension.now) c.args.sheet.now (g.S.Sink.written c.args.sink.now) (g.S.Sink.written c.finish-in-Err-TooManyOps.new.sink) (g.S.Sink.faults c.args.sink.now) (g.S.Sink.faults c.finish-in-Err-TooManyOps.new.sink) c.finish-in-Err-TooManyOps.result Schedule tt (T.TooManyOps c.in-Err-TooManyOps.line) Extension c.in-Err-TooManyOps.line
+    behaviour_answered (view_extension c.args.extension.now) c.args.sheet.now (g.S.Sink.written c.args.sink.now) (g.S.Sink.written c.finish-in-Err-TooManyOps.new.sink) (g.S.Sink.faults c.args.sink.now) (g.S.Sink.faults c.finish-in-Err-TooManyOps.new.sink) c.finish-in-Err-TooManyOps.result Schedule [] tt (T.TooManyOps c.in-Err-TooManyOps.line) Extension c.in-Err-TooManyOps.line
     (rw c.in-Err-TooManyOps.field-0-is at c.in-Err-TooManyOps.ensures.refused) (refl, refl)
     (subst (λ t. Writes Extension t (g.S.Sink.written c.args.sink.now) (g.S.Sink.written c.finish-in-Err-TooManyOps.new.sink) (g.S.Sink.faults c.args.sink.now) (g.S.Sink.faults c.finish-in-Err-TooManyOps.new.sink) c.finish-in-Err-TooManyOps.result) c.as_slice-in-Err-TooManyOps.ensures c.finish-in-Err-TooManyOps.ensures)
 
 pub returns-in-Err-NoSchedule : goal.returns-in-Err-NoSchedule
 returns-in-Err-NoSchedule g c =
-    behaviour_answered (view_extension c.args.extension.now) c.args.sheet.now (g.S.Sink.written c.args.sink.now) (g.S.Sink.written c.finish-in-Err-NoSchedule.new.sink) (g.S.Sink.faults c.args.sink.now) (g.S.Sink.faults c.finish-in-Err-NoSchedule.new.sink) c.finish-in-Err-NoSchedule.result Schedule tt (T.NoSchedule c.in-Err-NoSchedule.text) NoSchedule c.in-Err-NoSchedule.text
+    behaviour_answered (view_extension c.args.extension.now) c.args.sheet.now (g.S.Sink.written c.args.sink.now) (g.S.Sink.written c.finish-in-Err-NoSchedule.new.sink) (g.S.Sink.faults c.args.sink.now) (g.S.Sink.faults c.finish-in-Err-NoSchedule.new.sink) c.finish-in-Err-NoSchedule.result Schedule [] tt (T.NoSchedule c.in-Err-NoSchedule.text) NoSchedule c.in-Err-NoSchedule.text
     (rw c.in-Err-NoSchedule.field-0-is at c.in-Err-NoSchedule.ensures.refused) (refl, refl)
     (subst (λ t. Writes NoSchedule t (g.S.Sink.written c.args.sink.now) (g.S.Sink.written c.finish-in-Err-NoSchedule.new.sink) (g.S.Sink.faults c.args.sink.now) (g.S.Sink.faults c.finish-in-Err-NoSchedule.new.sink) c.finish-in-Err-NoSchedule.result) c.as_slice-in-Err-NoSchedule.ensures c.finish-in-Err-NoSchedule.ensures)

@@ -6,7 +6,7 @@ use Rattle.ix_tool.specs.declared.value.Value.{Value}
 use Rattle.ix_tool.specs.declared.value.Value.TheVariants as value
 use Rattle.ix_tool.specs.Readings.{extension_read, source_read, reading_of}
 use Rattle.ix_tool.specs.CommandOutput.{Takes, Answered}
-use Rattle.ix_tool.proofs.tool.answer.Goals as goal
+use Rattle.ix_tool.proofs.tool.answer_read.Goals as goal
 
 -- what an assembly takes
 asm_values : (vs : List Value) → Takes Assemble (map reading_of vs) → (x : Extension) × (s : List ℕ) × (vs ≡ value.Extension x ∷ value.Source s ∷ [])
@@ -16,19 +16,21 @@ asm_values (value.Image i ∷ vs) h = absurd h
 asm_values (value.Report ∷ vs) h = absurd h
 asm_values (value.Source s ∷ vs) h = absurd h
 asm_values (value.Sheet s ∷ vs) h = absurd h
+asm_values (value.Waits w ∷ vs) h = absurd h
 asm_values (value.Extension x ∷ []) h = absurd h
 asm_values (value.Extension x ∷ value.Number n ∷ vs) h = absurd h
 asm_values (value.Extension x ∷ value.Image i ∷ vs) h = absurd h
 asm_values (value.Extension x ∷ value.Report ∷ vs) h = absurd h
 asm_values (value.Extension x ∷ value.Extension y ∷ vs) h = absurd h
 asm_values (value.Extension x ∷ value.Sheet s ∷ vs) h = absurd h
+asm_values (value.Extension x ∷ value.Waits w ∷ vs) h = absurd h
 asm_values (value.Extension x ∷ value.Source s ∷ []) h = (x, s, refl)
 asm_values (value.Extension x ∷ value.Source s ∷ w ∷ vs) h = absurd h
 
 pub returns-in-Assemble-Extension : goal.returns-in-Assemble-Extension
 returns-in-Assemble-Extension g c =
     let arm = c.in-Assemble-Extension in
-    let takes : Takes Assemble (map reading_of c.args.values.now) = subst (λ k. Takes k (map reading_of c.args.values.now)) arm.is-0 c.requires in
+    let takes : Takes Assemble (map reading_of c.args.values.now) = subst (λ k. Takes k (map reading_of c.args.values.now)) arm.is-0 c.requires.takes in
     let r = asm_values c.args.values.now takes in
     let vs : map reading_of c.args.values.now ≡ extension_read (view_extension r.0) ∷ source_read r.1 ∷ [] = ap (map reading_of) r.2 in
     let made : Answered Assemble (extension_read (view_extension r.0) ∷ source_read r.1 ∷ []) (g.S.Sink.written c.args.sink.now) (g.S.Sink.written c.assemble_source.new.sink) (g.S.Sink.faults c.args.sink.now) (g.S.Sink.faults c.assemble_source.new.sink) c.assemble_source.result =

@@ -1,7 +1,8 @@
 use Rattle.ix_tool.specs.CommandLine.{bytes_of}
-use Rattle.ix_tool.proofs.Clauses.{usage, read_fault, too_long_answer, image, extension, sheet, no_schedule, certificate, source, output, write_fault, memory_alone, built, no_command, due_status, complete}
+use Rattle.ix_tool.proofs.Clauses.{usage, read_fault, too_long_answer, image, extension, sheet, no_schedule, certificate, source, output, write_fault, memory_alone, waits, no_command, due_status, complete}
 use Rattle.ix_tool.proofs.Headlines.{headline, listed, certified, stepped, assembled, scheduled}
 use Rattle.ix_tool.proofs.ModulesShown.{modules}
+use Rattle.ix_tool.proofs.PipelinesShown.{pipelined}
 use Rattle.ix_tool.proofs.tool.run_tool.Goals as goal
 
 pub returns-clause-headline : goal.returns-clause-headline
@@ -24,6 +25,9 @@ returns-clause-scheduled g c = λ e. scheduled (g.F.Shelf.files c.args.shelf.now
 
 pub returns-clause-modules : goal.returns-clause-modules
 returns-clause-modules g c = λ e. modules (g.F.Shelf.files c.args.shelf.now) (bytes_of c.args.words.now) (g.S.Sink.written c.args.sink.now) (g.S.Sink.written c.run_words.new.sink) (output (g.F.Shelf.files c.args.shelf.now) (g.F.Shelf.faults c.args.shelf.now) (g.F.Shelf.faults c.run_words.new.shelf) (bytes_of c.args.words.now) (g.S.Sink.written c.args.sink.now) (g.S.Sink.written c.run_words.new.sink) (g.S.Sink.faults c.args.sink.now) (g.S.Sink.faults c.run_words.new.sink) c.run_words.result c.run_words.ensures e)
+
+pub returns-clause-pipelined : goal.returns-clause-pipelined
+returns-clause-pipelined g c = λ e. pipelined (g.F.Shelf.files c.args.shelf.now) (bytes_of c.args.words.now) (g.S.Sink.written c.args.sink.now) (g.S.Sink.written c.run_words.new.sink) (output (g.F.Shelf.files c.args.shelf.now) (g.F.Shelf.faults c.args.shelf.now) (g.F.Shelf.faults c.run_words.new.shelf) (bytes_of c.args.words.now) (g.S.Sink.written c.args.sink.now) (g.S.Sink.written c.run_words.new.sink) (g.S.Sink.faults c.args.sink.now) (g.S.Sink.faults c.run_words.new.sink) c.run_words.result c.run_words.ensures e)
 
 pub returns-clause-ok : goal.returns-clause-ok
 returns-clause-ok g c = output (g.F.Shelf.files c.args.shelf.now) (g.F.Shelf.faults c.args.shelf.now) (g.F.Shelf.faults c.run_words.new.shelf) (bytes_of c.args.words.now) (g.S.Sink.written c.args.sink.now) (g.S.Sink.written c.run_words.new.sink) (g.S.Sink.faults c.args.sink.now) (g.S.Sink.faults c.run_words.new.sink) c.run_words.result c.run_words.ensures
@@ -55,14 +59,14 @@ returns-clause-certificate g c = certificate (g.F.Shelf.files c.args.shelf.now) 
 pub returns-clause-sheet : goal.returns-clause-sheet
 returns-clause-sheet g c = sheet (g.F.Shelf.files c.args.shelf.now) (g.F.Shelf.faults c.args.shelf.now) (g.F.Shelf.faults c.run_words.new.shelf) (bytes_of c.args.words.now) (g.S.Sink.written c.args.sink.now) (g.S.Sink.written c.run_words.new.sink) (g.S.Sink.faults c.args.sink.now) (g.S.Sink.faults c.run_words.new.sink) c.run_words.result c.run_words.ensures
 
+pub returns-clause-waits : goal.returns-clause-waits
+returns-clause-waits g c = waits (g.F.Shelf.files c.args.shelf.now) (g.F.Shelf.faults c.args.shelf.now) (g.F.Shelf.faults c.run_words.new.shelf) (bytes_of c.args.words.now) (g.S.Sink.written c.args.sink.now) (g.S.Sink.written c.run_words.new.sink) (g.S.Sink.faults c.args.sink.now) (g.S.Sink.faults c.run_words.new.sink) c.run_words.result c.run_words.ensures
+
 pub returns-clause-no_schedule : goal.returns-clause-no_schedule
 returns-clause-no_schedule g c = no_schedule (g.F.Shelf.files c.args.shelf.now) (g.F.Shelf.faults c.args.shelf.now) (g.F.Shelf.faults c.run_words.new.shelf) (bytes_of c.args.words.now) (g.S.Sink.written c.args.sink.now) (g.S.Sink.written c.run_words.new.sink) (g.S.Sink.faults c.args.sink.now) (g.S.Sink.faults c.run_words.new.sink) c.run_words.result c.run_words.ensures
 
 pub returns-clause-memory : goal.returns-clause-memory
 returns-clause-memory g c = memory_alone (g.F.Shelf.files c.args.shelf.now) (g.F.Shelf.faults c.args.shelf.now) (g.F.Shelf.faults c.run_words.new.shelf) (bytes_of c.args.words.now) (g.S.Sink.written c.args.sink.now) (g.S.Sink.written c.run_words.new.sink) (g.S.Sink.faults c.args.sink.now) (g.S.Sink.faults c.run_words.new.sink) c.run_words.result c.run_words.ensures
-
-pub returns-clause-built : goal.returns-clause-built
-returns-clause-built g c = built (g.F.Shelf.files c.args.shelf.now) (g.F.Shelf.faults c.args.shelf.now) (g.F.Shelf.faults c.run_words.new.shelf) (bytes_of c.args.words.now) (g.S.Sink.written c.args.sink.now) (g.S.Sink.written c.run_words.new.sink) (g.S.Sink.faults c.args.sink.now) (g.S.Sink.faults c.run_words.new.sink) c.run_words.result c.run_words.ensures
 
 pub returns-clause-due : goal.returns-clause-due
 returns-clause-due g c = due_status (g.F.Shelf.files c.args.shelf.now) (g.F.Shelf.faults c.args.shelf.now) (g.F.Shelf.faults c.run_words.new.shelf) (bytes_of c.args.words.now) (g.S.Sink.written c.args.sink.now) (g.S.Sink.written c.run_words.new.sink) (g.S.Sink.faults c.args.sink.now) (g.S.Sink.faults c.run_words.new.sink) c.run_words.result c.run_words.ensures

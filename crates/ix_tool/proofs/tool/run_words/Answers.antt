@@ -1,9 +1,10 @@
 use Rattle.std.proofs.Common.{◌≡◌, ◌∙◌, ◌-◌, sym, subst, length, map, take, drop, true}
 use Rattle.std.specs.Prelude.{string_bytes}
 use Rattle.ix_tool.specs.CommandLine.{bytes_of, behind, slots_of, fits_slots}
-use Rattle.ix_tool.specs.CommandOutput.{AreRead, Takes, Answered, RoseIn}
+use Rattle.ix_tool.specs.CommandOutput.{AreRead, RoseIn}
 use Rattle.ix_tool.specs.Readings.{reading_of}
-use Rattle.ix_tool.proofs.Headlines.{fit_behind, takes}
+use Rattle.ix_tool.proofs.Headlines.{fit_behind}
+use Rattle.ix_tool.proofs.Taking.{takes}
 use Rattle.ix_tool.proofs.Outcomes.{none_of, rest_of, usage_outcome, answered_outcome, refused_outcome}
 use Rattle.ix_tool.proofs.tool.run_words.Goals as goal
 
@@ -20,7 +21,7 @@ answer-requires g c =
     let read : AreRead files c.slots.result.now (bytes_of (take (length c.args.words.now - 1) (drop 1 c.args.words.now))) vs = c.in-Ok.ensures.read in
     let there : AreRead files (slots_of c.in-Some.command) (behind (bytes_of c.args.words.now)) vs =
     subst (λ slots. AreRead files slots (behind (bytes_of c.args.words.now)) vs) c.slots.ensures (subst (λ rest. AreRead files c.slots.result.now rest vs) (rest_of c.args.words.now) read) in
-    subst (λ items. Takes c.in-Some.command (map reading_of items)) (sym c.as_slice.ensures.value) (takes files c.in-Some.command (behind (bytes_of c.args.words.now)) vs there)
+    takes files c.in-Some.command (behind (bytes_of c.args.words.now)) vs there
 
 pub returns-in_default : goal.returns-in_default
 returns-in_default g c =
@@ -31,7 +32,7 @@ pub returns-in-Ok : goal.returns-in-Ok
 returns-in-Ok g c =
     answered_outcome (g.F.Shelf.files c.args.shelf.now) (RoseIn (g.F.Shelf.faults c.args.shelf.now) (g.F.Shelf.faults c.read_words.new.shelf)) (bytes_of c.args.words.now) (bytes_of (take (length c.args.words.now - 1) (drop 1 c.args.words.now))) c.slots.result.now c.in-Some.command (map reading_of c.in-Ok.values.items) (g.S.Sink.written c.args.sink.now) (g.S.Sink.written c.answer.new.sink) (g.S.Sink.faults c.args.sink.now) (g.S.Sink.faults c.answer.new.sink) c.answer.result
     (sym c.command_of.ensures ∙ c.in-Some.is) c.slots.ensures (rest_of c.args.words.now) c.in-Ok.ensures.read
-    (subst (λ vs. Answered c.in-Some.command (map reading_of vs) (g.S.Sink.written c.args.sink.now) (g.S.Sink.written c.answer.new.sink) (g.S.Sink.faults c.args.sink.now) (g.S.Sink.faults c.answer.new.sink) c.answer.result) c.as_slice.ensures.value c.answer.ensures)
+    c.answer.ensures
 
 pub returns-in-Err-Line : goal.returns-in-Err-Line
 returns-in-Err-Line g c =
