@@ -1,76 +1,15 @@
-//! Runs commands of the tool on files that are told: the commands of docs/TUTORIAL.md. Each part of the input is ended by a byte 30. A part that begins with `file` has
-//! a file's name on its first line, and then its text; another part has the words of a command, with a space between two. For each command its output and its exit
-//! status are printed, ended by a byte 30.
+//! Runs commands of the tool on files that are told: the commands of docs/TUTORIAL.md, in the form of `tool_parts`. For each its output and its exit status are printed.
 #![tactic(auto)]
 
-use ix_bits::{List, Memory, Name};
-use ix_io::{HostSink, MemShelf, Sink, write_all};
-use ix_tool::tool::run_tool;
-use std::alloc::{AllocError, Global};
+use ix_io::HostSink;
 use std::io;
 use std::io::Read;
-
-/// The mark behind each part.
-const END: char = '\u{1e}';
-
-/// The greatest length of a file's name.
-const MOST_NAME: usize = 80;
-
-/// Puts the file of a part, if it has one.
-fn put_file(alloc: Global, files: &mut List<(Name, List<u8>)>, part: &str) -> Result<(), Memory> {
-    let Some(file) = part.strip_prefix("file ") else {
-        return Ok(());
-    };
-    let Some((name, text)) = file.split_once('\n') else {
-        return Ok(());
-    };
-    if name.len() > MOST_NAME {
-        return Ok(());
-    }
-    let name = Name::from_text(alloc, name)?;
-    let text = List::from_slice(alloc, text.as_bytes())?;
-    files.push((name, text))
-}
-
-/// The words of a command.
-fn words_of(alloc: Global, part: &str) -> Result<Vec<String>, AllocError> {
-    let mut words = Vec::new(alloc);
-    for word in part.split(' ') {
-        words.push(String::from_str(alloc, word)?)?;
-    }
-    Ok(words)
-}
-
-/// Runs a command, and writes its output and its exit status.
-fn run_command<S: Sink>(
-    alloc: Global,
-    part: &str,
-    shelf: &mut MemShelf,
-    sink: &mut S,
-) -> Result<(), AllocError> {
-    let words = words_of(alloc, part)?;
-    let status = run_tool(alloc, words.as_slice(), shelf, sink);
-    let code = status.code();
-    let line = format!(in alloc; "status {code}\u{1e}")?;
-    let _written = write_all(sink, line.as_bytes());
-    Ok(())
-}
+use tool_parts::run_parts;
 
 fn main(rt: HostRuntime) -> io::Result<()> {
     let mut text = String::new(rt.alloc());
     rt.reader().read_to_string(&mut text)?;
-    let mut files = List::new(rt.alloc());
-    for part in text.as_str().split(END) {
-        if put_file(rt.alloc(), &mut files, part).is_err() {
-            return Ok(());
-        }
-    }
-    let mut shelf = MemShelf::new(files, List::new(rt.alloc()), 4_096);
     let mut sink = HostSink::new(&rt);
-    for part in text.as_str().split(END) {
-        if !part.is_empty() && !part.starts_with("file ") {
-            run_command(rt.alloc(), part, &mut shelf, &mut sink)?;
-        }
-    }
+    run_parts(rt.alloc(), text.as_str(), &mut sink)?;
     Ok(())
 }
