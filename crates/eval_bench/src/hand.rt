@@ -1,5 +1,7 @@
 ghost use Rattle.std.specs.Prelude.{◌≤◌};
 
+use ix_eval::{Effect, Inputs};
+
 // The pattern that is left of a number in so many bits, 1 to 128.
 fn low(number: u128, width: u32) -> u128
     requires least { 1 ≤ width }
@@ -17,9 +19,21 @@ fn signed(pattern: u128, width: u32) -> u128
     (pattern ^ sign).wrapping_sub(sign)
 }
 
-/// The square root of a whole number, bit by bit.
-pub fn square_root(word: u32) -> u32 {
-    let mut n = u128::from(word);
+// The effect that writes a word to rd, and nothing else.
+fn written(word: u32) -> Effect {
+    Effect {
+        rd: Some(word),
+        pc: None,
+        custom: [None; 16],
+        load: None,
+        store: None,
+    }
+}
+
+/// The effect of a square root of a whole number, bit by bit.
+#[inline(never)]
+pub fn square_root(inputs: &Inputs) -> Effect {
+    let mut n = u128::from(inputs.rs1);
     let mut r = 0u128;
     for turn in 0..16u32 {
         let bit = 1u128 << (30 - 2 * turn);
@@ -31,13 +45,14 @@ pub fn square_root(word: u32) -> u32 {
             r = r >> 1;
         }
     }
-    u32::try_from(r).unwrap_or(0)
+    written(u32::try_from(r).unwrap_or(0))
 }
 
-/// The sum of the products of four signed bytes.
-pub fn dot_product(a: u32, b: u32) -> u32 {
-    let a = u128::from(a);
-    let b = u128::from(b);
+/// The effect of a sum of the products of four signed bytes.
+#[inline(never)]
+pub fn dot_product(inputs: &Inputs) -> Effect {
+    let a = u128::from(inputs.rs1);
+    let b = u128::from(inputs.rs2);
     let mut sum = 0u128;
     for turn in 0..4u32 {
         let left = signed(low(a >> (8 * turn), 8), 8);
@@ -45,5 +60,5 @@ pub fn dot_product(a: u32, b: u32) -> u32 {
         let product = left.wrapping_mul(right);
         sum = signed(low(sum.wrapping_add(product), 32), 32);
     }
-    u32::try_from(low(sum, 32)).unwrap_or(0)
+    written(u32::try_from(low(sum, 32)).unwrap_or(0))
 }

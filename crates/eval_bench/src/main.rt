@@ -3,7 +3,7 @@
 //! on the standard input, each ended by a byte 30. With a second word it prints the nanoseconds of one evaluation too.
 #![tactic(auto)]
 
-ghost use Rattle.std.specs.Prelude.{MatchOption};
+ghost use Rattle.std.specs.Prelude.{◌≡◌, MatchOption};
 ghost use Rattle.ix_extension.specs.Extensions.{view_extension};
 ghost use Rattle.ix_extension.specs.WellFormed.{IsWellFormed};
 ghost use Rattle.ix_eval.specs.Scratches.{IsScratchOf};
@@ -13,6 +13,7 @@ mod hand;
 use effect_cases::{has_behaviour, values};
 use hand::{dot_product, square_root};
 use ix_behaviour::Which;
+use ix_bits::Bits;
 use ix_elab::elaborate;
 use ix_eval::{Inputs, Scratch, eval};
 use ix_tree::Extension;
@@ -45,6 +46,19 @@ fn extension(alloc: Global, text: &[u8]) -> Option<Extension>
     }
 }
 
+// The state before, with these registers.
+fn state(rs1: u32, custom: [Bits; 16]) -> Inputs
+    ensures { result.custom ≡ custom }
+{
+    Inputs {
+        word: 0x0020_818b,
+        rs1,
+        rs2: rs1.rotate_left(7),
+        pc: 0,
+        custom,
+    }
+}
+
 // The sum of what the first instruction writes to rd.
 fn evaluated(ext: &Extension, scratch: &mut Scratch, count: u32) -> u32
     requires well_formed { IsWellFormed ext.now }
@@ -59,13 +73,7 @@ fn evaluated(ext: &Extension, scratch: &mut Scratch, count: u32) -> u32
     let mut rs1 = 1u32;
     for _ in 0..count {
         rs1 = next(rs1);
-        let inputs = Inputs {
-            word: 0x0020_818b,
-            rs1,
-            rs2: rs1.rotate_left(7),
-            pc: 0,
-            custom,
-        };
+        let inputs = state(rs1, custom);
         let effect = eval(ext, which, &inputs, |_at, _bytes| 0, scratch);
         sum = sum.wrapping_add(effect.rd.unwrap_or(0));
     }
@@ -76,9 +84,11 @@ fn evaluated(ext: &Extension, scratch: &mut Scratch, count: u32) -> u32
 fn square_roots(count: u32) -> u32 {
     let mut sum = 0u32;
     let mut rs1 = 1u32;
+    let custom = values(&[], &[0; 16]);
     for _ in 0..count {
         rs1 = next(rs1);
-        sum = sum.wrapping_add(square_root(rs1));
+        let effect = square_root(&state(rs1, custom));
+        sum = sum.wrapping_add(effect.rd.unwrap_or(0));
     }
     sum
 }
@@ -87,9 +97,11 @@ fn square_roots(count: u32) -> u32 {
 fn dot_products(count: u32) -> u32 {
     let mut sum = 0u32;
     let mut rs1 = 1u32;
+    let custom = values(&[], &[0; 16]);
     for _ in 0..count {
         rs1 = next(rs1);
-        sum = sum.wrapping_add(dot_product(rs1, rs1.rotate_left(7)));
+        let effect = dot_product(&state(rs1, custom));
+        sum = sum.wrapping_add(effect.rd.unwrap_or(0));
     }
     sum
 }
