@@ -1,0 +1,5 @@
+mod Agreeing
+mod Blocks
+mod Edges
+mod Times
+mod Depending

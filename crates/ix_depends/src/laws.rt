@@ -1,0 +1,19 @@
+ghost use Rattle.ix_depends.specs.Laws.{BlindLaw, ByExecuteLaw, DependsLaw, TimesLaw, UnwrittenLaw};
+
+use ix_behaviour::behaviour_laws;
+use ix_graph_laws::graph_laws;
+use ix_typed::form_laws;
+
+/// Laws on what the effects of behaviours depend on: what their operations read; by EX not on what is loaded; and always-blocks on no operand
+/// and no memory. It does nothing: its contract is what it is for.
+pub fn depend_laws()
+    ensures depends { DependsLaw }
+    ensures by_execute { ByExecuteLaw }
+    ensures times { TimesLaw }
+    ensures blind { BlindLaw }
+    ensures unwritten { UnwrittenLaw }
+{
+    form_laws();
+    behaviour_laws();
+    graph_laws();
+}

@@ -1,0 +1,4 @@
+pub mod Settings
+pub mod LawfulTrace
+pub mod Headline
+pub mod Sight

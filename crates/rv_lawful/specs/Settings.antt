@@ -1,0 +1,102 @@
+-- What a trace of a pipeline with an extension is judged against, and what is read from its rows (this project's choice).
+use Rattle.std.specs.Prelude.{◌≡◌, ℕ, zero, suc, ◌-◌, List, [], ◌∷◌, take, Option, Some, None, Bool, true, false, ◌&&◌, if◌then◌else◌, ◌==◌, is_some, is_none, slice_get}
+use Rattle.ix_extension.specs.Extensions.{ExtensionTree, view_extension}
+use Rattle.ix_plan.specs.declared.design.Design.{Design}
+use Rattle.rv_core.specs.declared.Shape.{Shape}
+use Rattle.rv_effect.specs.declared.decoded.Decoded.{Decoded}
+use Rattle.rv_effect.specs.Decoding.{decoded_in}
+use Rattle.rv_seq.specs.declared.arch.Arch.{Arch}
+use Rattle.rv_seq.specs.declared.answer.StepAnswer.{StepAnswer}
+use Rattle.rv_seq.specs.States.{first}
+use Rattle.rv_seq.specs.Steps.{word_at, own_effect}
+use Rattle.rv_seq.specs.Stops.{stop_of}
+use Rattle.rv_seq.specs.Runs.{run, answer_at, access_in}
+use Rattle.rv_asks.specs.declared.asks.Asks.{Asks}
+use Rattle.rv_asks.specs.Asks.{asks_in}
+use Rattle.rv_trace.specs.declared.row.Cell.{Cell}
+use Rattle.rv_trace.specs.declared.row.Row.{Row}
+use Rattle.rv_trace.specs.declared.row.Hold.{Hold}
+use Rattle.rv_trace.specs.declared.row.Hold.TheVariants.{Tail}
+use Rattle.rv_trace.specs.Trace.{with_retired, has_cell}
+
+-- a run as a trace is judged against it: what the step at each place does, the pc there, and whether the step accesses the memory
+pub record Course : Type 0 where
+  pub answer : ℕ → StepAnswer
+  pub pc : ℕ → ℕ
+  pub accesses : ℕ → Bool
+
+-- does an instruction access the memory in this state, its condition true? One that stops does not
+abbrev pub does_access : ExtensionTree → Arch → ℕ → Option Decoded → Bool
+does_access x s word None = false
+does_access x s word (Some d) = is_none (stop_of d (own_effect x s word d)) && is_some (access_in (own_effect x s word d))
+
+-- does the step of a state, with this word at its pc?
+abbrev pub word_accesses : ExtensionTree → Arch → Option ℕ → Bool
+word_accesses x s None = false
+word_accesses x s (Some word) = does_access x s word (decoded_in x word)
+
+-- the run of an image on a core with the extension
+abbrev pub course_of : ExtensionTree → List ℕ → Course
+course_of x image =
+    record {
+      answer = answer_at x image;
+      pc = λ p. (run x image p).pc;
+      accesses = λ p. word_accesses x (run x image p) (word_at image (run x image p).pc);
+    }
+
+-- what a trace is judged against: the image, the waits of the memory, the shape of the core, the run, and what is asked of the instruction of a word
+pub record Setting : Type 0 where
+  pub image : List ℕ
+  pub waits : List ℕ
+  pub shape : Shape
+  pub course : Course
+  pub asks : ℕ → Asks
+
+-- an image on the core of a design whose memory has these waits
+abbrev pub setting : Design → List ℕ → List ℕ → Setting
+setting d image waits =
+    record {
+      image = image;
+      waits = waits;
+      shape = d.sheet.shape;
+      course = course_of (view_extension d.extension) image;
+      asks = λ word. asks_in d word (decoded_in (view_extension d.extension) word);
+    }
+
+-- how many accesses the steps before this place make: the number of the access of the step there, from 0
+unfoldable pub accesses_before : Course → ℕ → ℕ
+accesses_before run zero = 0
+accesses_before run (suc p) = if run.accesses p then suc (accesses_before run p) else accesses_before run p
+
+-- the cells of the core's stages, stage 0 first
+abbrev pub stages_of : Setting → Row → List (Option Cell)
+stages_of k row = take k.shape.stages row.cells
+
+-- the cell stands in this stage in the row
+abbrev pub Stands : Setting → Row → ℕ → Cell → Type 0
+Stands k row stage c = slice_get (stages_of k row) stage ≡ Some (Some c)
+
+-- for how many rows in succession, up to the last of these, the cell of this serial stood in MEM
+unfoldable pub stood : Setting → List Row → ℕ → ℕ
+stood k [] s = 0
+stood k (row ∷ earlier) s = if has_cell (slice_get (stages_of k row) k.shape.mem) s then suc (stood k earlier s) else 0
+
+abbrev pub is_tail : Option Hold → Bool
+is_tail (Some (Tail left)) = true
+is_tail h = false
+
+-- is the cell of this stage one of this serial that shows Tail?
+abbrev pub has_tail : Option (Option Cell) → ℕ → Bool
+has_tail None s = false
+has_tail (Some None) s = false
+has_tail (Some (Some c)) s = (c.serial == s) && is_tail c.hold
+
+-- for how many rows in succession, up to the last of these, the cell of this serial was held by Tail
+unfoldable pub tailed : Setting → List Row → ℕ → ℕ
+tailed k [] s = 0
+tailed k (row ∷ earlier) s = if has_tail (slice_get (stages_of k row) (k.shape.stages - 1)) s then suc (tailed k earlier s) else 0
+
+-- the architectural state after these rows: that of the writes which the rows show
+unfoldable pub architecture : ExtensionTree → List Row → Arch
+architecture x [] = first x
+architecture x (row ∷ earlier) = with_retired row.retired (architecture x earlier)

@@ -1,0 +1,155 @@
+-- From effects to records: where effects agree, words come to the same.
+use Rattle.std.proofs.Common.{◌≡◌, refl, sym, ap, subst, ◌∙◌, ℕ, ◌+◌, ◌%◌, ◌^◌, ◌<◌, List, get_or, Option, Some, None, Bool, true, false, cond}
+use Rattle.std.specs.Prelude.{option_map, slice_index, is_some, is_none, ◌&&◌, nat_eq, unwrap_or}
+use Rattle.std.specs.Option.{option_or}
+use Rattle.std.proofs.lemmas.List.{get_or-set_other}
+use Rattle.std.proofs.lemmas.Bool.{eq-eqb, false≢true}
+use Rattle.ix_bits.specs.declared.number.Bits.{Bits}
+use Rattle.ix_extension.specs.Extensions.{ExtensionTree}
+use Rattle.ix_mean.specs.declared.evaluate.State.{State}
+use Rattle.ix_eval.specs.declared.access.Access.{Access}
+use Rattle.ix_eval.specs.declared.effect.Effect.{Effect}
+use Rattle.rv_isa.specs.declared.base.Base.{Base}
+use Rattle.rv_isa.specs.Fields.{rd_of}
+use Rattle.rv_effect.specs.declared.decoded.Decoded.{Decoded}
+use Rattle.rv_effect.specs.declared.decoded.Decoded.TheVariants as D
+use Rattle.rv_effect.specs.WordEffects.{customs_over, over}
+use Rattle.rv_asks.specs.declared.asks.Asks.{Asks}
+use Rattle.rv_seq.specs.declared.arch.Arch.{Arch}
+use Rattle.rv_seq.specs.declared.answer.StepAnswer.TheVariants.{Done}
+use Rattle.rv_seq.specs.declared.commit.Commit.{Commit}
+use Rattle.rv_seq.specs.declared.commit.Slot.TheVariants.{Absent, Now}
+use Rattle.rv_seq.specs.declared.commit.Stop.{Stop}
+use Rattle.rv_seq.specs.Commits.{x_index, x_slot, slot_of, commit_of, with_x, with_store, applied}
+use Rattle.rv_seq.specs.Runs.{stored_at, access_in}
+use Rattle.rv_seq.specs.Steps.{own_effect, whole_effect, unless_stopped, attempted, of_decoded}
+use Rattle.rv_seq.specs.Stops.{call_stop, load_stop, store_stop, target_stop, stop_of}
+use Rattle.rv_tried.specs.Tried.{effect_seen, whole_seen, tried_instruction, tried}
+use Rattle.rv_lawful.specs.Settings.{does_access}
+use Rattle.rv_lawful.specs.Sight.{IsEarlyCommit, IsEarly, IsKept}
+use Rattle.rv_sight.proofs.Parts.{effect_from, table_get, table_none}
+
+-- ---- effects behind those of always-blocks
+-- the blocks' effects agree where it counts
+pub record IsSameBlocks (b c : Effect) : Type 0 where
+  pub pc : b.pc ≡ c.pc
+  pub custom : b.custom ≡ c.custom
+
+pub over_same : (e f b c : Effect) → e ≡ f → IsSameBlocks b c → over e b ≡ over f c
+unfolding over
+over_same e f b c h g =
+    effect_from (over e b) (over f c) (ap (λ (z : Effect). z.rd) h)
+    (ap (λ (z : Effect). option_or z.pc b.pc) h ∙ ap (option_or f.pc) g.pc)
+    (ap (λ (z : Effect). customs_over z.custom b.custom) h ∙ ap (customs_over f.custom) g.custom)
+    (ap (λ (z : Effect). z.load) h) (ap (λ (z : Effect). z.store) h)
+
+pub over_blocks : (e f b c : Effect) → e.pc ≡ f.pc → e.custom ≡ f.custom → IsSameBlocks b c → IsSameBlocks (over e b) (over f c)
+unfolding over
+over_blocks e f b c p q g =
+    record { pc = ap (λ (z : Option ℕ). option_or z b.pc) p ∙ ap (option_or f.pc) g.pc; custom = ap (λ (z : List (Option Bits)). customs_over z b.custom) q ∙ ap (customs_over f.custom) g.custom }
+
+-- ---- exactly the same
+pub exact_answer : (x : ExtensionTree) (i : State) (memory : List ℕ) (s : Arch) (code : ℕ) (d : Decoded) → i.word ≡ code → i.pc ≡ s.pc → effect_seen x i memory d ≡ own_effect x s code d → whole_seen x i memory d ≡ whole_effect x s code d
+    → (tried x i memory (Some d)).answer ≡ of_decoded x s code (Some d)
+unfolding tried tried_instruction attempted
+exact_answer x i memory s code d w p e h =
+    ap (λ (z : Effect). unless_stopped (stop_of d z) (Done (commit_of i.pc i.word (whole_seen x i memory d)))) e
+    ∙ ap (λ (z : Effect). unless_stopped (stop_of d (own_effect x s code d)) (Done (commit_of i.pc i.word z))) h
+    ∙ ap (λ (z : ℕ). unless_stopped (stop_of d (own_effect x s code d)) (Done (commit_of z i.word (whole_effect x s code d)))) p
+    ∙ ap (λ (z : ℕ). unless_stopped (stop_of d (own_effect x s code d)) (Done (commit_of s.pc z (whole_effect x s code d)))) w
+
+-- ---- the same but for rd and late writes
+pub record IsEarlyEffect (a : Asks) (e f : Effect) : Type 0 where
+  pub load : e.load ≡ f.load
+  pub store : e.store ≡ f.store
+  pub pc : a.late ≡ false → e.pc ≡ f.pc
+  pub customs : (r : ℕ) → get_or a.late_customs r false ≡ false → get_or e.custom r None ≡ get_or f.custom r None
+
+pub early_commit : (a : Asks) (at code : ℕ) (e f b c : Effect) → IsEarlyEffect a e f → IsSameBlocks b c → IsEarlyCommit a (commit_of at code (over e b)) (commit_of at code (over f c))
+unfolding over commit_of
+early_commit a at code e f b c h g =
+    record {
+      store = h.store;
+      next = λ l.
+          ap (λ (z : Option ℕ). unwrap_or (option_or z b.pc) ((at + 4) % 2 ^ 32)) (h.pc l) ∙ ap (λ (z : Option ℕ). unwrap_or (option_or f.pc z) ((at + 4) % 2 ^ 32)) g.pc;
+      customs = λ r l.
+          table_get (λ m. slot_of (get_or (customs_over e.custom b.custom) m None)) (λ m. slot_of (get_or (customs_over f.custom c.custom) m None)) 16 r Absent
+          (λ few. ap slot_of
+          (table_get (λ m. option_or (get_or e.custom m None) (get_or b.custom m None)) (λ m. option_or (get_or f.custom m None) (get_or c.custom m None)) 16 r None
+          (λ less. ap (λ (z : Option Bits). option_or z (get_or b.custom r None)) (h.customs r l) ∙ ap (λ (z : List (Option Bits)). option_or (get_or f.custom r None) (get_or z r None)) g.custom)));
+    }
+
+early_answers : (a : Asks) (c d : Commit) (o p : Option Stop) → o ≡ p → IsEarlyCommit a c d → IsEarly a (unless_stopped o (Done c)) (unless_stopped p (Done d))
+early_answers a c d o p e h = subst (λ (z : Option Stop). IsEarly a (unless_stopped o (Done c)) (unless_stopped z (Done d))) e (by o)
+  where
+    by : (o : Option Stop) → IsEarly a (unless_stopped o (Done c)) (unless_stopped o (Done d))
+    by None = h
+    by (Some stop) = refl
+
+pub early_answer : (a : Asks) (x : ExtensionTree) (i : State) (memory : List ℕ) (s : Arch) (code : ℕ) (d : Decoded) → i.word ≡ code → i.pc ≡ s.pc → stop_of d (effect_seen x i memory d) ≡ stop_of d (own_effect x s code d)
+    → IsEarlyCommit a (commit_of s.pc code (whole_seen x i memory d)) (commit_of s.pc code (whole_effect x s code d)) → IsEarly a (tried x i memory (Some d)).answer (of_decoded x s code (Some d))
+unfolding tried tried_instruction attempted
+early_answer a x i memory s code d w p e h =
+    let P : ℕ → ℕ → Type 0 = λ y z. IsEarly a (unless_stopped (stop_of d (effect_seen x i memory d)) (Done (commit_of y z (whole_seen x i memory d)))) (unless_stopped (stop_of d (own_effect x s code d)) (Done (commit_of s.pc code (whole_effect x s code d)))) in
+    let here : P s.pc code = early_answers a (commit_of s.pc code (whole_seen x i memory d)) (commit_of s.pc code (whole_effect x s code d)) (stop_of d (effect_seen x i memory d)) (stop_of d (own_effect x s code d)) e h in
+    subst (λ (y : ℕ). P y i.word) (sym p) (subst (λ (z : ℕ). P s.pc z) (sym w) here)
+
+pub same_access : (x : ExtensionTree) (i : State) (memory : List ℕ) (s : Arch) (code : ℕ) (d : Decoded) → stop_of d (effect_seen x i memory d) ≡ stop_of d (own_effect x s code d)
+    → (effect_seen x i memory d).load ≡ (own_effect x s code d).load → (effect_seen x i memory d).store ≡ (own_effect x s code d).store → (tried x i memory (Some d)).accesses ≡ does_access x s code (Some d)
+unfolding tried tried_instruction
+same_access x i memory s code d e l t =
+    ap (λ (z : Option Stop). is_none z && is_some (access_in (effect_seen x i memory d))) e
+    ∙ ap (λ (z : Option Access). is_none (stop_of d (own_effect x s code d)) && is_some (option_or z (option_map stored_at (effect_seen x i memory d).store))) l
+    ∙ ap (λ (z : Option (Access × ℕ)). is_none (stop_of d (own_effect x s code d)) && is_some (option_or (own_effect x s code d).load (option_map stored_at z))) t
+
+-- an instruction of an extension stops by its load or its store
+pub own_stop : (n : ℕ) (e f : Effect) → e.load ≡ f.load → e.store ≡ f.store → stop_of (D.Own n) e ≡ stop_of (D.Own n) f
+own_stop n e f l t =
+    ap (λ (z : Option Access). option_or (option_or (option_or None (load_stop z)) (store_stop e.store)) None) l
+    ∙ ap (λ (z : Option (Access × ℕ)). option_or (option_or (option_or None (load_stop f.load)) (store_stop z)) None) t
+
+pub base_stop : (b : Base) (e f : Effect) → e.load ≡ f.load → e.store ≡ f.store → e.pc ≡ f.pc → stop_of (D.Base b) e ≡ stop_of (D.Base b) f
+base_stop b e f l t p =
+    ap (λ (z : Option Access). option_or (option_or (option_or (call_stop (D.Base b)) (load_stop z)) (store_stop e.store)) (target_stop (D.Base b) e.pc)) l
+    ∙ ap (λ (z : Option (Access × ℕ)). option_or (option_or (option_or (call_stop (D.Base b)) (load_stop f.load)) (store_stop z)) (target_stop (D.Base b) e.pc)) t
+    ∙ ap (λ (z : Option ℕ). option_or (option_or (option_or (call_stop (D.Base b)) (load_stop f.load)) (store_stop f.store)) (target_stop (D.Base b) z)) p
+
+-- ---- what a record keeps
+pub record IsUnasked (a : Asks) (code : ℕ) (e b : Effect) : Type 0 where
+  pub rd : (v : ℕ) → e.rd ≡ Some v → a.destination ≡ rd_of code
+  pub own : (r : ℕ) → r < 16 → get_or a.customs r false ≡ false → get_or e.custom r None ≡ None
+  pub blocks : (r : ℕ) → r < 16 → get_or a.customs r false ≡ false → get_or b.custom r None ≡ None
+  pub store : a.stores ≡ false → e.store ≡ None
+
+x_kept : (x : List ℕ) (rd r : ℕ) (o : Option ℕ) → ((v : ℕ) → o ≡ Some v → nat_eq rd 0 ≡ false → rd ≡ r → ⊥) → slice_index (with_x x (x_index rd o) (x_slot rd o)) r ≡ slice_index x r
+x_kept x rd r None h = refl
+x_kept x rd r (Some v) h = by (nat_eq rd 0) refl
+  where
+    by : (b : Bool) → nat_eq rd 0 ≡ b → slice_index (with_x x rd (cond b Absent (Now v))) r ≡ slice_index x r
+    by true e = refl
+    by false e = get_or-set_other x rd r v 0 (λ q. h v refl e (sym q))
+
+pub kept_from : (a : Asks) (s : Arch) (code : ℕ) (e b : Effect) → IsUnasked a code e b → IsKept a s code (commit_of s.pc code (over e b))
+unfolding over commit_of applied
+kept_from a s code e b h =
+    record {
+      at = refl;
+      word = refl;
+      next = refl;
+      x = λ r other. x_kept s.x (rd_of code) r e.rd (λ v is zero_is same. other (sym same ∙ sym (h.rd v is)));
+      zero = x_kept s.x (rd_of code) 0 e.rd (λ v is zero_is same. false≢true (sym zero_is ∙ eq-eqb (rd_of code) 0 same));
+      customs = λ r none.
+          table_none (λ m. slot_of (get_or (customs_over e.custom b.custom) m None)) 16 r Absent
+          (λ few. ap slot_of
+          (table_none (λ m. option_or (get_or e.custom m None) (get_or b.custom m None)) 16 r None
+          (λ less. ap (λ (z : Option Bits). option_or z (get_or b.custom r None)) (h.own r few none) ∙ h.blocks r few none)));
+      memory = λ none. ap (with_store s.mem) (h.store none);
+    }
+
+done_is : (o : Option Stop) (c d : Commit) → unless_stopped o (Done c) ≡ Done d → c ≡ d
+done_is None c d e = cc
+done_is (Some stop) c d e = cc
+
+pub kept_by : (a : Asks) (x : ExtensionTree) (s : Arch) (code : ℕ) (d : Decoded) (c : Commit) → IsKept a s code (commit_of s.pc code (whole_effect x s code d)) → of_decoded x s code (Some d) ≡ Done c → IsKept a s code c
+unfolding attempted
+kept_by a x s code d c h e = subst (IsKept a s code) (done_is (stop_of d (own_effect x s code d)) (commit_of s.pc code (whole_effect x s code d)) c e) h

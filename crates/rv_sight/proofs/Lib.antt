@@ -1,0 +1,9 @@
+mod Parts
+mod Asking
+mod Base
+mod Coming
+mod Plans
+mod Spawning
+mod Quiet
+mod Seeing
+mod Sights
