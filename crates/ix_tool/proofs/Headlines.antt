@@ -14,7 +14,11 @@ use Rattle.ix_listing.specs.Listing.{listing_text}
 use Rattle.rv_record.specs.RunText.{run_text}
 use Rattle.ix_listing.proofs.OneExtension.{is_well_formed}
 use Rattle.ix_tool.specs.CommandLine.{word_of, command_of, commands, first_command, is_command, slots_of, fits_slots, behind, number_within, run_of, run_command, SeqCommand, seq_command, seq_of, AsmCommand, ScheduleCommand, extension_of, report_of, source_of, schedule_of, build_of}
-use Rattle.ix_tool.specs.CommandOutput.{IsFile, AreRead, IsOutput, OutputAnswer, RunAnswer, ListedAnswer, CertifiedAnswer, SteppedAnswer, AssembledAnswer, ScheduledAnswer, image_of_run, told_of}
+use Rattle.ix_spawns.specs.Spawns.{first_spawning}
+use Rattle.rv_asm.specs.ImageText.{IsImageText}
+use Rattle.rv_machine.specs.Promises.{TextLaw}
+use Rattle.ix_tool.proofs.ImageWords.{words_of_text}
+use Rattle.ix_tool.specs.CommandOutput.{IsFile, AreRead, IsRunOutput, IsLawfulPlainRun, IsOutput, OutputAnswer, RunAnswer, ListedAnswer, CertifiedAnswer, SteppedAnswer, AssembledAnswer, ScheduledAnswer, image_of_run, told_of}
 use Rattle.ix_schedules.specs.ScheduleText.{IsScheduleText}
 use Rattle.ix_tool.proofs.Due.{both, one}
 use Rattle.ix_tool.proofs.Taking.{run_read, report_is_read, extension_is_read, source_is_read, schedule_is_read, seq_read, pipeline_read}
@@ -124,28 +128,37 @@ told_is : (files : Option NamedFiles) (name bytes : List ℕ) → told_file file
 told_is None name bytes told f = absurd (told refl)
 told_is (Some files) name bytes told f = ap (λ x. Some x) (sym f.told)
 
-headline_of : (files : Option NamedFiles) (words : List (List ℕ)) (before now : Option (List ℕ)) (command : Command) (vs : List Reading) (text : List ℕ) → is_command command words ≡ true → AreRead files (slots_of command) (behind words) vs → IsOutput command vs text → Appends before now text
+-- the rows of a run of an image's text are lawful
+plain_lawful : TextLaw → (program image : List ℕ) (cycles : ℕ) (text : List ℕ) → IsImageText program image → IsRunOutput image cycles text → IsLawfulPlainRun image cycles text
+plain_lawful law program image cycles text read h =
+    record {
+      design = h.design;
+      plain = h.plain;
+      runs = law h.design image [] cycles text (record { stands = h.plain.stands; quiet = ap (λ y. first_spawning y) h.plain.extension_is; words = words_of_text program image read }) h.runs;
+    }
+
+headline_of : TextLaw → (files : Option NamedFiles) (words : List (List ℕ)) (before now : Option (List ℕ)) (command : Command) (vs : List Reading) (text : List ℕ) → is_command command words ≡ true → AreRead files (slots_of command) (behind words) vs → IsOutput command vs text → Appends before now text
     → told_of files words ≢ None → RunAnswer words (told_of files words) before now
-headline_of files words before now Certify vs text is read out a told =
+headline_of law files words before now Certify vs text is read out a told =
     let r = report_is_read files (behind words) vs read in
     absurd (told (ap (λ o. image_of_run files o) (two_no_run words r.name Certify is r.words)))
-headline_of files words before now Check vs text is read out a told =
+headline_of law files words before now Check vs text is read out a told =
     let r = extension_is_read files (behind words) vs read in
     absurd (told (ap (λ o. image_of_run files o) (two_no_run words r.name Check is r.words)))
-headline_of files words before now Assemble vs text is read out a told =
+headline_of law files words before now Assemble vs text is read out a told =
     let r = source_is_read files (behind words) vs read in
     absurd (told (ap (λ o. image_of_run files o) (pair_no_run Assemble refl words r.name r.other is r.words)))
-headline_of files words before now Schedule vs text is read out a told =
+headline_of law files words before now Schedule vs text is read out a told =
     let r = schedule_is_read files (behind words) vs read in
     absurd (told (ap (λ o. image_of_run files o) (pair_no_run Schedule refl words r.name r.other is r.words)))
-headline_of files words before now Build vs text is read out a told =
+headline_of law files words before now Build vs text is read out a told =
     let r = schedule_is_read files (behind words) vs read in
     absurd (told (ap (λ o. image_of_run files o) (pair_no_run Build refl words r.name r.other is r.words)))
-headline_of files words before now Seq vs text is read out a told =
+headline_of law files words before now Seq vs text is read out a told =
     let r = seq_read files (behind words) vs read in
     absurd (told (ap (λ o. image_of_run files o) (four_no_other words r.name r.other r.number is r.words).0))
-headline_of files words before now RunExtension vs text is read out a told = absurd (told (ap (λ o. image_of_run files o) (pipeline_no_other files words vs is read).run))
-headline_of files words before now RunImage vs text is read out a told =
+headline_of law files words before now RunExtension vs text is read out a told = absurd (told (ap (λ o. image_of_run files o) (pipeline_no_other files words vs is read).run))
+headline_of law files words before now RunImage vs text is read out a told =
     let r = run_read files (behind words) vs read in
     let run = run_words_are words r.name r.number r.cycles is r.words r.within in
     let file : told_of files words ≡ told_file files r.name = ap (λ o. image_of_run files o) run in
@@ -156,12 +169,12 @@ headline_of files words before now RunImage vs text is read out a told =
       text = text;
       run = record { command_is = run; file_is = file ∙ told_is files r.name r.bytes (λ e. told (file ∙ e)) r.file; within = r.file.within };
       read = r.text;
-      output = subst (λ x. IsOutput RunImage x text) r.values out;
+      output = plain_lawful law r.bytes r.image r.cycles text r.text (subst (λ x. IsOutput RunImage x text) r.values out);
       written = a;
     }
 
-pub headline : (files : Option NamedFiles) (words : List (List ℕ)) (before now : Option (List ℕ)) → OutputAnswer files words before now → told_of files words ≢ None → RunAnswer words (told_of files words) before now
-headline files words before now o told = headline_of files words before now o.command o.values o.text (is_of words o.command o.command_is) o.read o.output o.written told
+pub headline : TextLaw → (files : Option NamedFiles) (words : List (List ℕ)) (before now : Option (List ℕ)) → OutputAnswer files words before now → told_of files words ≢ None → RunAnswer words (told_of files words) before now
+headline law files words before now o told = headline_of law files words before now o.command o.values o.text (is_of words o.command o.command_is) o.read o.output o.written told
 
 -- ---- a report that is certified
 report_words_are : (words : List (List ℕ)) (name report : List ℕ) → is_command Certify words ≡ true → behind words ≡ name ∷ [] → report_of words ≡ Some report → name ≡ report

@@ -10,5 +10,6 @@ pub mod Clauses
 mod Taking
 pub mod Headlines
 pub mod ModulesShown
+mod ImageWords
 mod PipelineValues
 mod PipelinesShown

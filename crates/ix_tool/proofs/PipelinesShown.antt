@@ -12,7 +12,11 @@ use Rattle.ix_tool.specs.declared.command.Command.{Command}
 use Rattle.ix_tool.specs.declared.command.Command.TheVariants.{RunImage, Check, Certify, Schedule, Build, Seq, Assemble, RunExtension}
 use Rattle.ix_tool.specs.Readings.{Reading, extension_read, sheet_read, image_read, waits_read, number_read}
 use Rattle.ix_tool.specs.CommandLine.{is_command, slots_of, behind, number_within, PipelineCommand, pipeline_command, pipeline_of}
-use Rattle.ix_tool.specs.CommandOutput.{AreRead, IsExtensionRun, IsPipelineOutput, IsOutput, OutputAnswer, PipelineAnswer}
+use Rattle.ix_spawns.specs.Spawns.{first_spawning}
+use Rattle.rv_asm.specs.ImageText.{IsImageText}
+use Rattle.rv_machine.specs.Promises.{TextLaw}
+use Rattle.ix_tool.specs.CommandOutput.{AreRead, IsExtensionRun, IsLawfulRun, IsPipelineOutput, IsOutput, OutputAnswer, PipelineAnswer}
+use Rattle.ix_tool.proofs.ImageWords.{words_of_text}
 use Rattle.ix_tool.proofs.Due.{both, one}
 use Rattle.ix_tool.proofs.Headlines.{is_of}
 use Rattle.ix_tool.proofs.Taking.{run_read, extension_is_read, report_is_read, source_is_read, schedule_is_read, seq_read, pipeline_read}
@@ -53,30 +57,41 @@ run_of_parts x y s t i j w v n m text e h =
     let f : n ≡ m = cc in
     subst (λ z. IsExtensionRun z s i w n text) (sym a) (subst (λ z. IsExtensionRun y z i w n text) (sym b) (subst (λ z. IsExtensionRun y t z w n text) (sym c) (subst (λ z. IsExtensionRun y t j z n text) (sym d) (subst (λ z. IsExtensionRun y t j v z text) (sym f) h))))
 
-pipelined_of : (files : Option NamedFiles) (words : List (List ℕ)) (before now : Option (List ℕ)) (command : Command) (vs : List Reading) (text : List ℕ) (asked : PipelineCommand) → is_command command words ≡ true → AreRead files (slots_of command) (behind words) vs → IsOutput command vs text → Appends before now text
+-- the rows of a run of an image's text are lawful
+lawful_run : TextLaw → (x : ExtensionTree) (sheet : Sheet) (program image waits : List ℕ) (cycles : ℕ) (text : List ℕ) → IsImageText program image → first_spawning x ≡ None → IsExtensionRun x sheet image waits cycles text → IsLawfulRun x sheet image waits cycles text
+lawful_run law x sheet program image waits cycles text read in_order h =
+    record {
+      design = h.design;
+      stands = h.stands;
+      extension_is = h.extension_is;
+      sheet_is = h.sheet_is;
+      runs = law h.design image waits cycles text (record { stands = h.stands; quiet = ap (λ y. first_spawning y) h.extension_is ∙ in_order; words = words_of_text program image read }) h.runs;
+    }
+
+pipelined_of : TextLaw → (files : Option NamedFiles) (words : List (List ℕ)) (before now : Option (List ℕ)) (command : Command) (vs : List Reading) (text : List ℕ) (asked : PipelineCommand) → is_command command words ≡ true → AreRead files (slots_of command) (behind words) vs → IsOutput command vs text → Appends before now text
     → pipeline_of words ≡ Some asked → PipelineAnswer files asked before now
-pipelined_of files words before now RunImage vs text asked is read out a e =
+pipelined_of law files words before now RunImage vs text asked is read out a e =
     let r = run_read files (behind words) vs read in
     absurd (both (pipeline_of words) asked e (three_no_pipeline words r.name r.number RunImage is r.words))
-pipelined_of files words before now Check vs text asked is read out a e =
+pipelined_of law files words before now Check vs text asked is read out a e =
     let r = extension_is_read files (behind words) vs read in
     absurd (both (pipeline_of words) asked e (two_no_pipeline words r.name Check is r.words))
-pipelined_of files words before now Certify vs text asked is read out a e =
+pipelined_of law files words before now Certify vs text asked is read out a e =
     let r = report_is_read files (behind words) vs read in
     absurd (both (pipeline_of words) asked e (two_no_pipeline words r.name Certify is r.words))
-pipelined_of files words before now Seq vs text asked is read out a e =
+pipelined_of law files words before now Seq vs text asked is read out a e =
     let r = seq_read files (behind words) vs read in
     absurd (both (pipeline_of words) asked e (four_no_pipeline words r.name r.other r.number Seq is r.words))
-pipelined_of files words before now Assemble vs text asked is read out a e =
+pipelined_of law files words before now Assemble vs text asked is read out a e =
     let r = source_is_read files (behind words) vs read in
     absurd (both (pipeline_of words) asked e (three_no_pipeline words r.name r.other Assemble is r.words))
-pipelined_of files words before now Schedule vs text asked is read out a e =
+pipelined_of law files words before now Schedule vs text asked is read out a e =
     let r = schedule_is_read files (behind words) vs read in
     absurd (both (pipeline_of words) asked e (three_no_pipeline words r.name r.other Schedule is r.words))
-pipelined_of files words before now Build vs text asked is read out a e =
+pipelined_of law files words before now Build vs text asked is read out a e =
     let r = schedule_is_read files (behind words) vs read in
     absurd (both (pipeline_of words) asked e (three_no_pipeline words r.name r.other Build is r.words))
-pipelined_of files words before now RunExtension vs text asked is read out a e =
+pipelined_of law files words before now RunExtension vs text asked is read out a e =
     let r = pipeline_read files (behind words) vs read in
     let there : IsPipelineOutput vs text = out in
     let runs : IsExtensionRun r.extension r.sheet r.image r.waits r.cycles text =
@@ -102,9 +117,9 @@ pipelined_of files words before now RunExtension vs text asked is read out a e =
       image_read = r.text;
       waits_file = r.waits_file;
       waits_read = r.waits_are;
-      runs = runs;
+      runs = lawful_run law r.extension r.sheet r.program r.image r.waits r.cycles text r.text r.in_order runs;
       written = a;
     })
 
-pub pipelined : (files : Option NamedFiles) (words : List (List ℕ)) (before now : Option (List ℕ)) → OutputAnswer files words before now → (asked : PipelineCommand) → pipeline_of words ≡ Some asked → PipelineAnswer files asked before now
-pipelined files words before now o asked e = pipelined_of files words before now o.command o.values o.text asked (is_of words o.command o.command_is) o.read o.output o.written e
+pub pipelined : TextLaw → (files : Option NamedFiles) (words : List (List ℕ)) (before now : Option (List ℕ)) → OutputAnswer files words before now → (asked : PipelineCommand) → pipeline_of words ≡ Some asked → PipelineAnswer files asked before now
+pipelined law files words before now o asked e = pipelined_of law files words before now o.command o.values o.text asked (is_of words o.command o.command_is) o.read o.output o.written e

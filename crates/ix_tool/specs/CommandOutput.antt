@@ -11,8 +11,9 @@ use Rattle.ix_tool.specs.declared.command.Slot.TheVariants.{Number, File}
 use Rattle.ix_tool.specs.declared.value.Value.{Value}
 use Rattle.ix_tool.specs.declared.value.Refusal.{Refusal}
 use Rattle.ix_tool.specs.declared.value.Refusal.TheVariants as refusal
-use Rattle.rv_show.specs.PipelineText.{IsPipelineText}
+use Rattle.rv_plain.specs.Plain.{IsPlain}
 use Rattle.rv_machine.specs.DesignText.{IsDesignText}
+use Rattle.rv_machine.specs.LawfulText.{IsLawfulText}
 use Rattle.rv_record.specs.RunText.{run_text}
 use Rattle.rv_asm.specs.ImageText.{IsImageText, IsBadLine, image_text}
 use Rattle.rv_asm.specs.Sources.{Assembles, IsRefusedAs}
@@ -52,9 +53,17 @@ use Rattle.ix_io.specs.Shelf.{NamedFiles, told_file}
 use Rattle.ix_io.specs.Sink.{Appends, AppendsFront}
 
 -- ---- the texts of outputs and of refusals
--- the text of a run on the core of three stages
-abbrev pub IsRunOutput : List ℕ → ℕ → List ℕ → Type 0
-IsRunOutput image cycles text = IsPipelineText 3 1 1 2 image [] cycles text
+-- the text of a run on the core of three stages: that of an extension without sections, over a memory that never waits
+pub record IsRunOutput (image : List ℕ) (cycles : ℕ) (text : List ℕ) : Type 0 where
+  pub design : Design
+  pub plain : IsPlain design
+  pub runs : IsDesignText (record { design = design; image = image; waits = [] }) cycles text
+
+-- what that text shows: these rows are lawful, what they retire is a prefix of the run one instruction at a time, with its states and its stop, and they go on
+pub record IsLawfulPlainRun (image : List ℕ) (cycles : ℕ) (text : List ℕ) : Type 0 where
+  pub design : Design
+  pub plain : IsPlain design
+  pub runs : IsLawfulText design image [] cycles text
 
 -- the text of a run on the core of a datasheet with an extension: a design stands for both, and the rows are those of its machine over this image, whose memory
 -- has these waits
@@ -64,6 +73,14 @@ pub record IsExtensionRun (x : ExtensionTree) (sheet : Datasheet) (image waits :
   pub extension_is : view_extension design.extension ≡ x
   pub sheet_is : design.sheet ≡ sheet
   pub runs : IsDesignText (record { design = design; image = image; waits = waits }) cycles text
+
+-- what that text shows: these rows are lawful, what they retire is a prefix of the run one instruction at a time, with its states and its stop, and they go on
+pub record IsLawfulRun (x : ExtensionTree) (sheet : Datasheet) (image waits : List ℕ) (cycles : ℕ) (text : List ℕ) : Type 0 where
+  pub design : Design
+  pub stands : Stands design
+  pub extension_is : view_extension design.extension ≡ x
+  pub sheet_is : design.sheet ≡ sheet
+  pub runs : IsLawfulText design image waits cycles text
 
 -- a refusal that names a file
 abbrev pub file_line : List ℕ → List ℕ → List ℕ
@@ -434,7 +451,7 @@ pub record RunAnswer (words : List (List ℕ)) (told before now : Option (List �
   pub text : List ℕ
   pub run : IsRunOf words told command file
   pub read : IsImageText file image
-  pub output : IsRunOutput image command.cycles text
+  pub output : IsLawfulPlainRun image command.cycles text
   pub written : Appends before now text
 
 -- the report is certified: it is read, no step of the check finds a fault, and of each behaviour its times are cheapest or there are none; and the yes was written
@@ -551,7 +568,7 @@ pub record SteppedAnswer (files : Option NamedFiles) (command : SeqCommand) (bef
   pub written : Appends before now (run_text extension image command.steps)
 
 -- The files are the texts of this extension, which is well formed and in which no `spawn` stands, of this datasheet, of this image, and of these waits. A design
--- stands for the extension and the datasheet, and the text of the rows of its machine over the image was written whole.
+-- stands for the extension and the datasheet, and the text of rows of which the headline holds was written whole.
 pub record PipelineAnswer (files : Option NamedFiles) (command : PipelineCommand) (before now : Option (List ℕ)) : Type 0 where
   pub bytes : List ℕ
   pub extension : ExtensionTree
@@ -572,7 +589,7 @@ pub record PipelineAnswer (files : Option NamedFiles) (command : PipelineCommand
   pub image_read : IsImageText program image
   pub waits_file : IsFile files command.waits waits_bytes
   pub waits_read : IsWaitsText waits_bytes waits
-  pub runs : IsExtensionRun extension sheet image waits command.cycles text
+  pub runs : IsLawfulRun extension sheet image waits command.cycles text
   pub written : Appends before now text
 
 -- the status that is due, or an answer that every other yields to

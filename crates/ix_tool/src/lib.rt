@@ -4,8 +4,9 @@
 pub mod assembling;
 pub mod building;
 pub mod command;
-pub mod running;
+mod running;
 mod scheduling;
 pub mod status;
+pub mod sure;
 pub mod tool;
 pub mod value;

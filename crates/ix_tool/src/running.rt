@@ -25,7 +25,7 @@ use rv_waits::Waits;
 use std::alloc::Global;
 
 /// Writes the run of an image on the core and with the extension of a design.
-fn run_design<S: Sink>(
+pub(crate) fn run_design<S: Sink>(
     alloc: Global,
     design: &Design,
     image: &Image,

@@ -12,16 +12,16 @@ ghost use Rattle.ix_tool.specs.CommandOutput.{IsRunOutput, Writes, Takes, Answer
 use crate::assembling::assemble_source;
 use crate::building::build_extension;
 use crate::command::{Command, command_of};
-use crate::running::answer_run;
+use crate::running::{answer_run, run_design};
 use crate::scheduling::schedule_extension;
 use crate::status::Status;
 use crate::value::{Refusal, Value, read_words};
 use ix_io::{Shelf, Sink, write_all};
 use ix_listing::listing;
 use ix_tree::Extension;
-use rv_core::Three;
 use rv_isa::Image;
-use rv_show::write_pipeline;
+use rv_machine::rows_laws;
+use rv_plain::plain_design;
 use rv_tell::{RunErr, write_run};
 use rv_waits::Waits;
 use std::alloc::Global;
@@ -47,16 +47,15 @@ fn list_extension<S: Sink>(alloc: Global, extension: &Extension, sink: &mut S) -
     }
 }
 
-/// Writes the run of an image on the core of three stages.
+/// Writes the run of an image on the core of three stages: that of an extension without sections.
 fn run_image<S: Sink>(alloc: Global, image: &Image, cycles: u32, sink: &mut S) -> Status
     ensures { ((result ≡ Status.Memory) × (S.written sink.new ≡ S.written sink.old))
         ⊎ ((text : List ℕ) × IsRunOutput image.now cycles text × Writes Status.Ok text (S.written sink.old) (S.written sink.new) (S.faults sink.old) (S.faults sink.new) result) }
 {
     let waits = Waits::new(alloc);
-    match write_pipeline::<Three, S>(alloc, image, &waits, cycles, sink) {
-        Ok(()) => Status::Ok,
-        Err(RunErr::Memory) => Status::Memory,
-        Err(RunErr::Fault) => Status::WriteFault,
+    match plain_design(alloc) {
+        Ok(design) => run_design(alloc, &design, image, &waits, cycles, sink),
+        Err(_) => Status::Memory,
     }
 }
 
@@ -218,8 +217,9 @@ pub fn run_tool<F: Shelf, S: Sink>(
     ensures modules { result ≡ Status.Ok → (command : BuildCommand) → build_of (bytes_of words.now) ≡ Some command
         → ModulesAnswer (F.files shelf.old) command (S.written sink.old) (S.written sink.new) }
 
-    // A run with an extension is that of a design that stands for the extension and the datasheet which the files are the texts of: its rows are those of the
-    // machine's definition over the image, whose memory has the waits. That these rows are lawful is not part of it yet.
+    // A run with an extension is that of a design that stands for the extension and the datasheet which the files are the texts of. The bytes that were written are the text of
+    // one list of rows over the image, whose memory has the waits. These are lawful, what they retire is a prefix of the run one instruction at a time with the extension, with its
+    // states and its stop, and no more rows than the bound pass without a retirement.
     ensures pipelined { result ≡ Status.Ok → (command : PipelineCommand) → pipeline_of (bytes_of words.now) ≡ Some command
         → PipelineAnswer (F.files shelf.old) command (S.written sink.old) (S.written sink.new) }
 
@@ -266,5 +266,6 @@ pub fn run_tool<F: Shelf, S: Sink>(
         → Premises (F.files shelf.old) (bytes_of words.now) (F.faults shelf.old) (F.faults shelf.new) (S.faults sink.old) (S.faults sink.new) command values
         → Completes command values (S.written sink.old) (S.written sink.new) result }
 {
+    rows_laws();
     run_words(alloc, words, shelf, sink)
 }

@@ -2,8 +2,11 @@ ghost use Rattle.std.specs.Prelude.{◌≡◌, ◌+◌, ◌<◌, [], ◌∷◌, 
 ghost use Rattle.ix_extension.specs.WellFormed.{IsWellFormed};
 ghost use Rattle.ix_sheet.specs.Sheets.{IsValidSheet};
 ghost use Rattle.rv_trace.specs.Trace.{newest};
+ghost use Rattle.rv_lawful.specs.Headline.{Headline};
 ghost use Rattle.rv_machine.specs.Running.{AreRows, machine_at};
+ghost use Rattle.rv_machine.specs.Promises.{IsInOrder};
 
+use crate::laws::rows_laws;
 use ix_bits::Memory;
 use ix_eval::Scratch;
 use ix_plan::Design;
@@ -81,7 +84,9 @@ impl<'a> Machine<'a> {
         ensures setting { self.new.setting ≡ self.old.setting }
         ensures spare { self.new.spare + 1 ≡ self.old.spare }
         ensures are_rows { AreRows self.new.setting self.new.rows }
+        ensures headline { IsInOrder self.new.setting.design self.new.setting.image → Headline self.new.setting.design self.new.setting.image self.new.setting.waits self.new.rows }
     {
+        rows_laws();
         let row = make_row(
             self.design,
             &self.asking,

@@ -6,7 +6,7 @@ use Rattle.ix_tool.proofs.PipelinesShown.{pipelined}
 use Rattle.ix_tool.proofs.tool.run_tool.Goals as goal
 
 pub returns-clause-headline : goal.returns-clause-headline
-returns-clause-headline g c = λ e. headline (g.F.Shelf.files c.args.shelf.now) (bytes_of c.args.words.now) (g.S.Sink.written c.args.sink.now) (g.S.Sink.written c.run_words.new.sink) (output (g.F.Shelf.files c.args.shelf.now) (g.F.Shelf.faults c.args.shelf.now) (g.F.Shelf.faults c.run_words.new.shelf) (bytes_of c.args.words.now) (g.S.Sink.written c.args.sink.now) (g.S.Sink.written c.run_words.new.sink) (g.S.Sink.faults c.args.sink.now) (g.S.Sink.faults c.run_words.new.sink) c.run_words.result c.run_words.ensures e)
+returns-clause-headline g c = λ e. headline c.rows_laws.ensures.text (g.F.Shelf.files c.args.shelf.now) (bytes_of c.args.words.now) (g.S.Sink.written c.args.sink.now) (g.S.Sink.written c.run_words.new.sink) (output (g.F.Shelf.files c.args.shelf.now) (g.F.Shelf.faults c.args.shelf.now) (g.F.Shelf.faults c.run_words.new.shelf) (bytes_of c.args.words.now) (g.S.Sink.written c.args.sink.now) (g.S.Sink.written c.run_words.new.sink) (g.S.Sink.faults c.args.sink.now) (g.S.Sink.faults c.run_words.new.sink) c.run_words.result c.run_words.ensures e)
 
 pub returns-clause-listed : goal.returns-clause-listed
 returns-clause-listed g c = λ e. listed (g.F.Shelf.files c.args.shelf.now) (bytes_of c.args.words.now) (g.S.Sink.written c.args.sink.now) (g.S.Sink.written c.run_words.new.sink) (output (g.F.Shelf.files c.args.shelf.now) (g.F.Shelf.faults c.args.shelf.now) (g.F.Shelf.faults c.run_words.new.shelf) (bytes_of c.args.words.now) (g.S.Sink.written c.args.sink.now) (g.S.Sink.written c.run_words.new.sink) (g.S.Sink.faults c.args.sink.now) (g.S.Sink.faults c.run_words.new.sink) c.run_words.result c.run_words.ensures e)
@@ -27,7 +27,7 @@ pub returns-clause-modules : goal.returns-clause-modules
 returns-clause-modules g c = λ e. modules (g.F.Shelf.files c.args.shelf.now) (bytes_of c.args.words.now) (g.S.Sink.written c.args.sink.now) (g.S.Sink.written c.run_words.new.sink) (output (g.F.Shelf.files c.args.shelf.now) (g.F.Shelf.faults c.args.shelf.now) (g.F.Shelf.faults c.run_words.new.shelf) (bytes_of c.args.words.now) (g.S.Sink.written c.args.sink.now) (g.S.Sink.written c.run_words.new.sink) (g.S.Sink.faults c.args.sink.now) (g.S.Sink.faults c.run_words.new.sink) c.run_words.result c.run_words.ensures e)
 
 pub returns-clause-pipelined : goal.returns-clause-pipelined
-returns-clause-pipelined g c = λ e. pipelined (g.F.Shelf.files c.args.shelf.now) (bytes_of c.args.words.now) (g.S.Sink.written c.args.sink.now) (g.S.Sink.written c.run_words.new.sink) (output (g.F.Shelf.files c.args.shelf.now) (g.F.Shelf.faults c.args.shelf.now) (g.F.Shelf.faults c.run_words.new.shelf) (bytes_of c.args.words.now) (g.S.Sink.written c.args.sink.now) (g.S.Sink.written c.run_words.new.sink) (g.S.Sink.faults c.args.sink.now) (g.S.Sink.faults c.run_words.new.sink) c.run_words.result c.run_words.ensures e)
+returns-clause-pipelined g c = λ e. pipelined c.rows_laws.ensures.text (g.F.Shelf.files c.args.shelf.now) (bytes_of c.args.words.now) (g.S.Sink.written c.args.sink.now) (g.S.Sink.written c.run_words.new.sink) (output (g.F.Shelf.files c.args.shelf.now) (g.F.Shelf.faults c.args.shelf.now) (g.F.Shelf.faults c.run_words.new.shelf) (bytes_of c.args.words.now) (g.S.Sink.written c.args.sink.now) (g.S.Sink.written c.run_words.new.sink) (g.S.Sink.faults c.args.sink.now) (g.S.Sink.faults c.run_words.new.sink) c.run_words.result c.run_words.ensures e)
 
 pub returns-clause-ok : goal.returns-clause-ok
 returns-clause-ok g c = output (g.F.Shelf.files c.args.shelf.now) (g.F.Shelf.faults c.args.shelf.now) (g.F.Shelf.faults c.run_words.new.shelf) (bytes_of c.args.words.now) (g.S.Sink.written c.args.sink.now) (g.S.Sink.written c.run_words.new.sink) (g.S.Sink.faults c.args.sink.now) (g.S.Sink.faults c.run_words.new.sink) c.run_words.result c.run_words.ensures

@@ -19,3 +19,6 @@ returns-clause-are_rows c =
     rw (reverse_push c.self.inside.trace.rows c.make_row-row.result c.push.new.self.rows c.push.ensures.rows)
     (rows_after (setting c.self.inside.design.now c.self.inside.words.now c.self.inside.waits.now) c.self.inside.asking c.self.inside.scratch c.make_row-row.new.scratch c.self.inside.kept c.make_row-row.new.kept (reverse c.self.inside.trace.rows) c.make_row-row.result c.self.inside.trace.spare c.push.new.self.spare c.push.ensures.spare
     c.self.invariant going c.make_row-row.ensures.row c.make_row-row.ensures.after c.make_row-row.ensures.fit c.make_row-row.ensures.scratch)
+
+pub returns-clause-headline : goal.returns-clause-headline
+returns-clause-headline c = λ promised. c.rows_laws.ensures.rows c.self.inside.design.now c.self.inside.words.now c.self.inside.waits.now _ promised (returns-clause-are_rows c)

@@ -1,0 +1,142 @@
+-- Each row that the machine makes agrees with the run.
+use Rattle.std.proofs.Common.{◌≡◌, ℕ, suc, ◌+◌, ◌<◌, ◌≤◌, List, [], ◌∷◌, drop, length, Option, Some, None, Bool, true, false, refl, sym, ap, ◌∙◌, subst, arith}
+use Rattle.std.specs.Prelude.{◌&&◌, ◌||◌, if◌then◌else◌, ◌==◌, is_some, is_none}
+use Rattle.std.proofs.lemmas.List.{length-drop}
+use Rattle.ix_extension.specs.Extensions.{ExtensionTree}
+use Rattle.rv_seq.specs.declared.arch.Arch.{Arch}
+use Rattle.rv_seq.specs.declared.commit.Commit.{Commit}
+use Rattle.rv_seq.specs.declared.commit.Stop.{Stop}
+use Rattle.rv_seq.specs.declared.commit.Stop.TheVariants.{Fetch}
+use Rattle.rv_seq.specs.declared.answer.StepAnswer.TheVariants.{Done, Stopped}
+use Rattle.rv_seq.specs.Steps.{word_at, of_word, step}
+use Rattle.rv_seq.specs.Runs.{answer_at}
+use Rattle.rv_trace.specs.declared.row.Cell.{Cell}
+use Rattle.rv_trace.specs.declared.row.Hold.{Hold}
+use Rattle.rv_trace.specs.declared.row.Row.{Row}
+use Rattle.rv_trace.specs.Trace.{place, retirements}
+use Rattle.rv_holds.specs.declared.token.Token.{Token}
+use Rattle.rv_holds.specs.Tokens.{Slots, or_else, stop_of}
+use Rattle.rv_holds.specs.Holds.{drain, staying, drain_hold, own_hold, stops_now, waiting_hold}
+use Rattle.rv_holds.specs.Flushing.{slot_stop, remains}
+use Rattle.rv_engine.specs.Settings.{Setting, Machine, shape_of, tree_of}
+use Rattle.rv_engine.specs.Rows.{waited, advanced, with_serial, retired_of, seen_by, fetch_by, left_by}
+use Rattle.rv_lawful.specs.Headline.{AgreesWithRun}
+use Rattle.rv_lawful.specs.LawfulTrace.{StopsRun}
+use Rattle.rv_machine.specs.Placed.{judged, run, count, tail, expected, IsReady}
+use Rattle.rv_machine.specs.Told.{out_of}
+use Rattle.rv_machine.proofs.Deciding.{or_else_none, or_else_none_b}
+use Rattle.rv_machine.specs.Made.{Made}
+use Rattle.rv_machine.proofs.Standing.{here_of, At, out_le, out_drop, StayingIs, staying_is}
+use Rattle.rv_machine.proofs.OwnHolds.{ordered, stops_then}
+use Rattle.rv_machine.proofs.Stopping.{stopper, no_stops}
+use Rattle.rv_machine.specs.Left.{Left}
+use Rattle.rv_machine.proofs.Succeeding as S
+use Rattle.rv_machine.proofs.Lawful as L
+use Rattle.rv_machine.proofs.Lawful.{fetch_case}
+
+drain_none : (o : Option ℕ) → drain o ≡ None → o ≡ None
+drain_none None h = refl
+drain_none (Some j) h = cc
+
+if_so : (c : Bool) (z : Option Hold) → c ≡ true → (if c then z else None) ≡ None → z ≡ None
+if_so true z p q = q
+if_so false z p q = cc
+
+-- what stops the run has no older token that stays
+no_drain : (k : Setting) (stage : ℕ) (t : Token) (older : Slots) → stops_now (shape_of k) stage t older ≡ true → staying older ≡ None
+no_drain k stage t older n = by_case (stage == (shape_of k).ex) (is_some (stop_of t)) refl refl (own_hold (shape_of k) stage t older) refl n where
+  by_case : (b d : Bool) → (stage == (shape_of k).ex) ≡ b → is_some (stop_of t) ≡ d → (o : Option Hold) → own_hold (shape_of k) stage t older ≡ o → (b && d && is_none o) ≡ true → staying older ≡ None
+  by_case true true e w None q y =
+      drain_none (staying older)
+      (if_so (is_some (stop_of t)) (drain (staying older)) w
+      (if_so (stage == (shape_of k).ex) (drain_hold t older) e
+      (or_else_none (if stage == (shape_of k).ex then drain_hold t older else None) _ (or_else_none_b (waiting_hold (shape_of k) stage t older) _ q))))
+  by_case true true e w (Some h) q y = cc
+  by_case true false e w o q y = cc
+  by_case false d e w o q y = cc
+
+-- where no token is left, the address is the run's
+expected_empty : (k : Setting) (r stage : ℕ) (l : Slots) → count l ≡ 0 → expected k r stage l ≡ (run k r).pc
+expected_empty k r stage [] e = refl
+expected_empty k r stage (None ∷ l) e = expected_empty k r (suc stage) l e
+expected_empty k r stage (Some t ∷ l) e = absurd (omega (arith, e))
+
+empty_advanced : (l : Slots) → remains l ≡ false → count (advanced None l) ≡ 0
+empty_advanced [] h = refl
+empty_advanced (None ∷ l) h = empty_advanced l h
+empty_advanced (Some t ∷ []) h = ap (λ (b : Bool). count ((if b then Some (waited t) else None) ∷ [])) h
+empty_advanced (Some t ∷ u ∷ l) h = cc
+
+empty_tail : (l : Slots) → count l ≡ 0 → count (tail l) ≡ 0
+empty_tail [] e = refl
+empty_tail (None ∷ l) e = e
+empty_tail (Some t ∷ l) e = absurd (omega (arith, e))
+
+-- a run with no word at its pc stops
+no_word : (x : ExtensionTree) (image : List ℕ) (s : Arch) → word_at image s.pc ≡ None → step x image s ≡ Stopped Fetch
+unfolding step
+no_word x image s e = ap (λ o. of_word x s o) e
+
+module _ (k : Setting) (ready : IsReady k) (earlier : List Row) (m : Machine) (row : Row) (made : Made k earlier m row) (left : Left k earlier m row) where
+  -- what is retired
+
+  retired_at : (s : ℕ) (c : Commit) → row.retired ≡ Some (s, c) → (place (row ∷ earlier) s ≡ retirements earlier) × (answer_at (tree_of k) k.image (retirements earlier) ≡ Done c)
+  retired_at s c e = by_left (left_by k m) refl where
+    same_pair : (a b : ℕ × Commit) → ◌≡◌ {A = Option (ℕ × Commit)} (Some a) (Some b) → a ≡ b
+    same_pair a b q = cc
+
+    by_left : (o : Option Token) → left_by k m ≡ o → (place (row ∷ earlier) s ≡ retirements earlier) × (answer_at (tree_of k) k.image (retirements earlier) ≡ Done c)
+    by_left None g = cc (made.is.retired ∙ ap retired_of g, e)
+    by_left (Some t) g =
+        let x = made.retires t g in
+        let pair = same_pair (t.cell.serial, x.0) (s, c) (sym (made.is.retired ∙ ap retired_of g ∙ ap (λ o. with_serial t.cell.serial o) x.1) ∙ e) in (
+          ap (λ (p : ℕ × Commit). place (row ∷ earlier) p.0) (sym pair) ∙ left.serial t g,
+          left.recorded t x.0 g x.1 ∙ ap (λ (p : ℕ × Commit). Done p.1) pair,
+        )
+
+  -- at the stop every older token goes out
+  stop_place : (stage : ℕ) (c : Cell) (stop : Stop) (at : At k (retirements earlier) stage c (seen_by k m)) → StopsRun (judged k) earlier row stage c stop → retirements earlier + count at.older ≡ retirements earlier + out_of (seen_by k m)
+  stop_place stage c stop at s =
+      let s' = subst (λ d. StopsRun (judged k) earlier row stage d stop) (sym at.is) s in
+      let n = stops_then k ready earlier row (seen_by k m) made.told stage at.token at.older at.rest at.placed stop s' in
+      let o = ordered k ready earlier row (seen_by k m) made.told stage at.token at.older at.rest at.placed in
+      let all = subst (λ z. StayingIs (row ∷ earlier) (retirements earlier) at.older z) (no_drain k stage at.token at.older n) (staying_is (row ∷ earlier) (retirements earlier) at.older o.1) in
+      all_out at.older at.token all (longer at.older at.token at.rest s.executing) at.rest where
+        longer : (older : Slots) (t : Token) → drop stage (seen_by k m) ≡ Some t ∷ older → stage ≡ (shape_of k).ex → 0 < length older
+        longer older t rest e =
+            let l = ap length rest in
+            let d = length-drop stage (seen_by k m) in
+            let a = ready.ex_last in
+            let n = L.seen_length k ready earlier m row made in
+            omega (arith, l, d, a, e, n)
+
+        all_out : (older : Slots) (t : Token) → count older ≤ out_of older → 0 < length older → drop stage (seen_by k m) ≡ Some t ∷ older → retirements earlier + count older ≡ retirements earlier + out_of (seen_by k m)
+        all_out [] t ge lt rest = absurd (omega arith)
+        all_out (u ∷ others) t ge lt rest =
+            let same = out_drop (seen_by k m) (u ∷ others) (Some t) stage rest in
+            let le = out_le (u ∷ others) in
+            omega (arith, same, le, ge)
+
+  stop_agrees : (stop : Stop) → row.stop ≡ Some stop → answer_at (tree_of k) k.image (retirements (row ∷ earlier)) ≡ Stopped stop
+  stop_agrees stop e = why (slot_stop (shape_of k) 0 (seen_by k m)) refl (sym made.is.stop ∙ e) where
+    why : (o : Option Stop) → slot_stop (shape_of k) 0 (seen_by k m) ≡ o → or_else o (if remains (seen_by k m) || is_some (word_at k.image (fetch_by k m)) then None else Some Fetch) ≡ Some stop → answer_at (tree_of k) k.image (retirements (row ∷ earlier)) ≡ Stopped stop
+    why (Some s) q e =
+        let x = stopper k 0 (seen_by k m) stop (q ∙ e) in
+        let y = L.stopper_stops k ready earlier m row made stop x in
+        let low = S.left_from k ready earlier m row made x.index x.token (here_of (seen_by k m) x.older x.token x.index x.rest) in
+        let at = S.cell_at k ready earlier m row made x.index x.token.cell low y.0 in
+        let p = ap (λ (d : Cell). place (row ∷ earlier) d.serial) (sym at.is) ∙ (ordered k ready earlier row (seen_by k m) made.told x.index at.token at.older at.rest at.placed).0.0 ∙ stop_place x.index x.token.cell stop at y.1 ∙ sym left.now in
+        ap (λ n. answer_at (tree_of k) k.image n) (sym p) ∙ y.1.due
+    why None q e =
+        let f = fetch_case (remains (seen_by k m)) (word_at k.image (fetch_by k m)) stop e in
+        let gone = empty_tail (advanced None (seen_by k m)) (empty_advanced (seen_by k m) f.0) in
+        let at : fetch_by k m ≡ (run k (retirements (row ∷ earlier))).pc = left.fetch (no_stops k 0 (seen_by k m) q) ∙ expected_empty k (retirements (row ∷ earlier)) 1 (tail (advanced None (seen_by k m))) gone in
+        no_word (tree_of k) k.image (run k (retirements (row ∷ earlier))) (ap (λ n. word_at k.image n) (sym at) ∙ f.1) ∙ ap (λ z. Stopped z) (sym f.2)
+
+  pub agrees : AgreesWithRun (tree_of k) k.image earlier row
+  agrees = record {
+    placed = λ s c e. (retired_at s c e).0;
+    recorded = λ s c e. (retired_at s c e).1;
+    state = left.state;
+    stop = stop_agrees;
+  }

@@ -1,0 +1,283 @@
+-- The slots before a row is made: with their operands, trials, holds and loads, and what goes out of them.
+use Rattle.std.proofs.Common.{◌≡◌, ℕ, zero, suc, ◌+◌, ◌%◌, ◌^◌, ◌<◌, ◌≤◌, List, [], ◌∷◌, drop, take, length, get_or, Option, Some, None, Bool, true, false, refl, sym, ap, ◌∙◌, subst, arith, add-zero}
+use Rattle.std.specs.Prelude.{if◌then◌else◌, ◌==◌, is_some, slice_index, nat_lt}
+use Rattle.rv_seq.specs.declared.arch.Arch.{Arch}
+use Rattle.rv_seq.specs.States.{zero_bit}
+use Rattle.rv_seq.specs.Steps.{word_at}
+use Rattle.rv_trace.specs.declared.row.Row.{Row}
+use Rattle.rv_trace.specs.Trace.{retirements}
+use Rattle.rv_holds.specs.declared.token.Token.{Token}
+use Rattle.rv_holds.specs.declared.flushing.Turn.{Turn}
+use Rattle.rv_holds.specs.Tokens.{Slots}
+use Rattle.rv_holds.specs.Holds.{oldest, writes_late}
+use Rattle.rv_holds.specs.Flushing.{next_of, settles, settled, nearest, mismatch, turn_of, struck}
+use Rattle.rv_engine.specs.Settings.{Setting, Machine, shape_of, tree_of}
+use Rattle.rv_engine.specs.Rows.{fill_first, trying, loading, owed_by, new_by, read_by, held_by, loaded_by, turn_by, seen_by}
+use Rattle.rv_machine.specs.Placed.{run, count, tail, settling_stage, expected_after, expected, settled_before, IsFuture, Placed, IsReady, Inv}
+use Rattle.rv_machine.specs.Told.{Decided, NoStops}
+use Rattle.rv_machine.proofs.Deciding.{decided_is}
+use Rattle.rv_machine.proofs.Moving.{fill_length}
+use Rattle.rv_machine.proofs.Filling.{fill_placed}
+use Rattle.rv_machine.proofs.Reading.{AlikeSlot, Alike, IsAlike, alike_length, alike_count, alike_oldest, reading_alike, trying_alike, decided_alike, loading_alike, Read, reading_placed, reading_read, trying_read, decided_read, loading_read, cleared_read, all_decided}
+use Rattle.rv_machine.proofs.Trying.{at_ex, trying_placed}
+use Rattle.rv_machine.proofs.Loading.{Loaded, loading_decided, loading_placed, loading_loaded}
+use Rattle.rv_machine.proofs.Ripe.{Ripe, trying_ripe, decided_ripe, loading_ripe, cleared_ripe}
+use Rattle.rv_machine.proofs.Clearing.{cleared_drop, cleared_length, cleared_placed, cleared_decided, cleared_loaded}
+use Rattle.rv_machine.proofs.Going.{AreSeen}
+
+-- ---- slots that are alike
+
+alike_one : (t u v : Token) → IsAlike t u → IsAlike u v → IsAlike t v
+alike_one t u v g h = record { serial = h.serial ∙ g.serial; at = h.at ∙ g.at; word = h.word ∙ g.word; asks = h.asks ∙ g.asks; tail = h.tail ∙ g.tail }
+
+pub alike_trans : (a b c : Slots) → Alike a b → Alike b c → Alike a c
+alike_trans [] [] [] g h = tt
+alike_trans [] [] (w ∷ c) g h = absurd h
+alike_trans [] (u ∷ b) c g h = absurd g
+alike_trans (s ∷ a) [] c g h = absurd g
+alike_trans (s ∷ a) (u ∷ b) [] g h = absurd h
+alike_trans (s ∷ a) (u ∷ b) (w ∷ c) g h = (by_slot s u w g.0 h.0, alike_trans a b c g.1 h.1) where
+  by_slot : (s u w : Option Token) → AlikeSlot s u → AlikeSlot u w → AlikeSlot s w
+  by_slot None None None g h = tt
+  by_slot None None (Some w) g h = absurd h
+  by_slot None (Some u) w g h = absurd g
+  by_slot (Some s) None w g h = absurd g
+  by_slot (Some s) (Some u) None g h = absurd h
+  by_slot (Some s) (Some u) (Some w) g h = alike_one s u w g h
+
+pub alike_drop : (n : ℕ) (a b : Slots) → Alike a b → Alike (drop n a) (drop n b)
+alike_drop zero a b h = h
+alike_drop (suc n) [] [] h = tt
+alike_drop (suc n) [] (u ∷ b) h = absurd h
+alike_drop (suc n) (s ∷ a) [] h = absurd h
+alike_drop (suc n) (s ∷ a) (u ∷ b) h = alike_drop n a b h.1
+
+pub alike_settled : (reg : ℕ) (a b : Slots) → Alike a b → settled_before reg b ≡ settled_before reg a
+alike_settled reg [] [] h = refl
+alike_settled reg [] (u ∷ b) h = absurd h
+alike_settled reg (s ∷ a) [] h = absurd h
+alike_settled reg (s ∷ a) (u ∷ b) h =
+    ap (λ (o : Option ℕ). if is_some o then settled_before reg b else count (u ∷ b)) (alike_oldest (λ x. get_or x.late_customs reg false) (s ∷ a) (u ∷ b) h)
+    ∙ ap (λ n. if is_some (oldest (writes_late reg) (s ∷ a)) then n else count (u ∷ b)) (alike_settled reg a b h.1)
+    ∙ ap (λ n. if is_some (oldest (writes_late reg) (s ∷ a)) then settled_before reg a else n) (alike_count (s ∷ a) (u ∷ b) h)
+
+drop_filled : (n : ℕ) (new : Option Token) (l : Slots) → drop (suc n) (fill_first new l) ≡ drop (suc n) l
+drop_filled n new [] = refl
+drop_filled n new (s ∷ l) = refl
+
+-- ---- addresses are words
+
+pub expected_word : (k : Setting) (ready : IsReady k) (r stage : ℕ) (slots : Slots) → expected k r stage slots < 2 ^ 32
+expected_word k ready r stage [] = ready.pcs r
+expected_word k ready r stage (s ∷ older) = by_slot s (expected_word k ready r (suc stage) older) where
+  by_test : (b : Bool) (m n : ℕ) → m < 2 ^ 32 → n < 2 ^ 32 → (if b then m else n) < 2 ^ 32
+  by_test true m n g h = g
+  by_test false m n g h = h
+
+  by_slot : (s : Option Token) → expected k r (suc stage) older < 2 ^ 32 → expected_after k (r + count older) stage s (expected k r (suc stage) older) < 2 ^ 32
+  by_slot None h = h
+  by_slot (Some t) h = by_test (nat_lt (settling_stage k t) stage) (run k (suc (r + count older))).pc ((t.cell.at + 4) % 2 ^ 32) (ready.pcs (suc (r + count older))) (omega arith)
+
+-- ---- the token that settles its successor
+
+pub record Settler (k : Setting) (base : ℕ) (slots : Slots) (turn : Turn) : Type 0 where
+  pub index : ℕ
+  pub token : Token
+  pub older : Slots
+  pub rest : drop index slots ≡ Some token ∷ older
+  pub settles_it : settles (shape_of k) (base + index) token older ≡ true
+  pub stage : turn.stage ≡ base + index
+  pub address : turn.address ≡ next_of token
+
+one_further : (k : Setting) (base : ℕ) (s : Option Token) (older : Slots) (turn : Turn) → Settler k (suc base) older turn → Settler k base (s ∷ older) turn
+one_further k base s older turn x =
+    let e : suc base + x.index ≡ base + suc x.index = omega arith in
+    record {
+      index = suc x.index;
+      token = x.token;
+      older = x.older;
+      rest = x.rest;
+      settles_it = ap (λ n. settles (shape_of k) n x.token x.older) (sym e) ∙ x.settles_it;
+      stage = x.stage ∙ e;
+      address = x.address;
+    }
+
+pub settler : (k : Setting) (base : ℕ) (slots : Slots) (turn : Turn) → settled (shape_of k) base slots ≡ Some turn → Settler k base slots turn
+settler k base [] turn h = cc
+settler k base (None ∷ older) turn h = one_further k base None older turn (settler k (suc base) older turn h)
+settler k base (Some t ∷ older) turn h = by_case (settles (shape_of k) base t older) refl h (settler k (suc base) older turn) where
+  same_turn : (a b : Turn) → ◌≡◌ {A = Option Turn} (Some a) (Some b) → a ≡ b
+  same_turn a b e = cc
+
+  by_case : (b : Bool) → settles (shape_of k) base t older ≡ b → (if b then Some (record { stage = base; address = next_of t }) else settled (shape_of k) (suc base) older) ≡ Some turn → (settled (shape_of k) (suc base) older ≡ Some turn → Settler k (suc base) older turn) → Settler k base (Some t ∷ older) turn
+  by_case true e q rest =
+      let same = same_turn (record { stage = base; address = next_of t }) turn q in
+      record {
+        index = 0;
+        token = t;
+        older = older;
+        rest = refl;
+        settles_it = ap (λ n. settles (shape_of k) n t older) (add-zero base) ∙ e;
+        stage = sym (ap (λ (x : Turn). x.stage) same) ∙ sym (add-zero base);
+        address = sym (ap (λ (x : Turn). x.address) same);
+      }
+  by_case false e q rest = one_further k base (Some t) older turn (rest q)
+
+-- it stands in a stage
+inside : (n : ℕ) (slots older : Slots) (t : Token) → drop n slots ≡ Some t ∷ older → n < length slots
+inside zero [] older t e = cc
+inside zero (s ∷ l) older t e = omega arith
+inside (suc n) [] older t e = cc
+inside (suc n) (s ∷ l) older t e = let x = inside n l older t e in omega (arith, x)
+
+-- where the fetch is turned, a token settles another address than stands next
+pub record Turning (k : Setting) (fetch : ℕ) (slots : Slots) (turn : Turn) : Type 0 where
+  pub by : Settler k 0 slots turn
+  pub differs : (turn.address == nearest fetch (take turn.stage slots)) ≡ false
+
+pub turning : (k : Setting) (fetch : ℕ) (slots : Slots) (turn : Turn) → turn_of (shape_of k) fetch slots ≡ Some turn → Turning k fetch slots turn
+turning k fetch slots turn h = by_settled (settled (shape_of k) 0 slots) refl h where
+  same_turn : (a b : Turn) → ◌≡◌ {A = Option Turn} (Some a) (Some b) → a ≡ b
+  same_turn a b e = cc
+
+  by_test : (a : Turn) (b : Bool) → (a.address == nearest fetch (take a.stage slots)) ≡ b → (if b then None else Some a) ≡ Some turn → (a ≡ turn) × ((a.address == nearest fetch (take a.stage slots)) ≡ false)
+  by_test a true e q = cc
+  by_test a false e q = (same_turn a turn q, e)
+
+  by_settled : (o : Option Turn) → settled (shape_of k) 0 slots ≡ o → mismatch fetch slots o ≡ Some turn → Turning k fetch slots turn
+  by_settled None e q = cc
+  by_settled (Some a) e q =
+      let x = by_test a (a.address == nearest fetch (take a.stage slots)) refl q in
+      record {
+        by = settler k 0 slots turn (e ∙ ap Some x.0);
+        differs = subst (λ (z : Turn). (z.address == nearest fetch (take z.stage slots)) ≡ false) x.0 x.1;
+      }
+
+-- so many stages are flushed
+pub struck_in : (k : Setting) (fetch : ℕ) (slots : Slots) (o : Option Turn) → turn_of (shape_of k) fetch slots ≡ o → struck o ≤ length slots
+struck_in k fetch slots None h = omega arith
+struck_in k fetch slots (Some turn) h =
+    let x = (turning k fetch slots turn h).by in
+    let s = x.stage in
+    let lt = inside x.index slots x.older x.token x.rest in
+    omega (arith, s, lt)
+
+module _ (k : Setting) (ready : IsReady k) (earlier : List Row) (m : Machine) (inv : Inv k earlier m) where
+  abbrev r : ℕ
+  r = retirements earlier
+
+  abbrev filled : Slots
+  filled = fill_first (new_by k m) m.slots
+
+  abbrev tried_slots : Slots
+  tried_slots = trying (tree_of k) (shape_of k) m.future m.arch.mem 0 (read_by k m)
+
+  fetch_word : m.fetch < 2 ^ 32
+  fetch_word = subst (λ n. n < 2 ^ 32) (sym inv.fetch) (expected_word k ready r 1 (tail m.slots))
+
+  pub filled_placed : Placed k r 0 filled
+  filled_placed = fill_placed k ready r m.next m.fetch m.future m.slots (word_at k.image m.fetch) inv.placed inv.fetch fetch_word refl inv.future_wide
+
+  ranged : (reg : ℕ) → slice_index m.arch.x reg < 2 ^ 32
+  ranged = subst (λ (s : Arch). (reg : ℕ) → slice_index s.x reg < 2 ^ 32) (sym inv.arch) (ready.words r)
+
+  read_placed : Placed k r 0 (read_by k m)
+  read_placed = reading_placed k ready m.arch.x (owed_by k m) r 0 filled ranged filled_placed
+
+  read_read : Read k (run k r).x 0 (read_by k m)
+  read_read = subst (λ (s : Arch). Read k s.x 0 (read_by k m)) inv.arch (reading_read k m.arch.x (owed_by k m) 0 filled)
+
+  -- past stage 0 the slots are those from before the row
+  read_from : (n : ℕ) → Alike (drop (suc n) m.slots) (drop (suc n) (read_by k m))
+  read_from n =
+      subst (λ l. Alike l (drop (suc n) (read_by k m))) (drop_filled n (new_by k m) m.slots)
+      (alike_drop (suc n) filled (read_by k m) (reading_alike (shape_of k) m.arch.x (owed_by k m) 0 filled))
+
+  future_there : IsFuture k r m.future (drop (suc (shape_of k).ex) (read_by k m))
+  future_there reg =
+      inv.future reg
+      ∙ ap (λ n. get_or (run k (r + n)).custom reg zero_bit) (sym (alike_settled reg (drop (suc (shape_of k).ex) m.slots) (drop (suc (shape_of k).ex) (read_by k m)) (read_from (shape_of k).ex)))
+
+  tried_placed : Placed k r 0 tried_slots
+  tried_placed =
+      trying_placed k ready r 0 (read_by k m) m.arch.mem m.future inv.future_wide read_placed read_read
+      (at_ex k r m.future 0 (shape_of k).ex (read_by k m) (omega arith) future_there)
+
+  pub held_placed : Placed k r 0 (held_by k m)
+  held_placed = all_decided k r 0 tried_slots tried_placed
+
+  pub held_decided : Decided k 0 (held_by k m)
+  held_decided = decided_is k 0 tried_slots
+
+  loaded_same : (P : Slots → Type 0) → P (loading (tree_of k) (shape_of k) (run k r).mem 0 (held_by k m)) → P (loaded_by k m)
+  loaded_same P h = subst (λ (s : Arch). P (loading (tree_of k) (shape_of k) s.mem 0 (held_by k m))) (sym inv.arch) h
+
+  pub loaded_placed : Placed k r 0 (loaded_by k m)
+  loaded_placed = loaded_same (λ l. Placed k r 0 l) (loading_placed k ready r 0 (held_by k m) held_placed held_decided)
+
+  pub loaded_loaded : Loaded k r 0 (loaded_by k m)
+  loaded_loaded = loaded_same (λ l. Loaded k r 0 l) (loading_loaded k ready r 0 (held_by k m) held_placed held_decided)
+
+  pub loaded_decided : Decided k 0 (loaded_by k m)
+  loaded_decided = loading_decided k ready (tree_of k) m.arch.mem 0 (held_by k m) held_decided
+
+  pub loaded_read : Read k (run k r).x 0 (loaded_by k m)
+  loaded_read =
+      loading_read k (tree_of k) (run k r).x m.arch.mem 0 (held_by k m)
+      (decided_read k (run k r).x 0 tried_slots (trying_read k (tree_of k) (run k r).x m.arch.mem m.future 0 (read_by k m) read_read))
+
+  pub loaded_ripe : Ripe k 0 (loaded_by k m)
+  loaded_ripe = loading_ripe k (tree_of k) m.arch.mem 0 (held_by k m) (decided_ripe k 0 tried_slots (trying_ripe k (tree_of k) m.future m.arch.mem 0 (read_by k m)))
+
+  -- the slots are alike from the fetch to the loads
+  pub loaded_alike : Alike filled (loaded_by k m)
+  loaded_alike =
+      alike_trans filled (read_by k m) (loaded_by k m) (reading_alike (shape_of k) m.arch.x (owed_by k m) 0 filled)
+      (alike_trans (read_by k m) tried_slots (loaded_by k m) (trying_alike (tree_of k) (shape_of k) m.future m.arch.mem 0 (read_by k m))
+      (alike_trans tried_slots (held_by k m) (loaded_by k m) (decided_alike (shape_of k) 0 tried_slots) (loading_alike (tree_of k) (shape_of k) m.arch.mem 0 (held_by k m))))
+
+  pub loaded_from : (n : ℕ) → Alike (drop (suc n) m.slots) (drop (suc n) (loaded_by k m))
+  loaded_from n =
+      subst (λ l. Alike l (drop (suc n) (loaded_by k m))) (drop_filled n (new_by k m) m.slots) (alike_drop (suc n) filled (loaded_by k m) loaded_alike)
+
+  pub loaded_length : length (loaded_by k m) ≡ (shape_of k).stages
+  loaded_length = alike_length filled (loaded_by k m) loaded_alike ∙ fill_length (new_by k m) m.slots ∙ inv.stages
+
+  pub struck_inside : struck (turn_by k m) ≤ length (loaded_by k m)
+  struck_inside = struck_in k m.fetch (loaded_by k m) (turn_by k m) refl
+
+  pub seen_placed : Placed k r 0 (seen_by k m)
+  seen_placed = cleared_placed k r 0 (struck (turn_by k m)) (loaded_by k m) struck_inside loaded_placed
+
+  pub seen_decided : Decided k 0 (seen_by k m)
+  seen_decided = cleared_decided k 0 (struck (turn_by k m)) (loaded_by k m) struck_inside loaded_decided
+
+  pub seen_read : Read k (run k r).x 0 (seen_by k m)
+  seen_read = cleared_read k (run k r).x 0 (struck (turn_by k m)) (loaded_by k m) struck_inside loaded_read
+
+  pub seen_loaded : Loaded k r 0 (seen_by k m)
+  seen_loaded = cleared_loaded k r 0 (struck (turn_by k m)) (loaded_by k m) struck_inside loaded_loaded
+
+  pub seen_ripe : Ripe k 0 (seen_by k m)
+  seen_ripe = cleared_ripe k 0 (struck (turn_by k m)) (loaded_by k m) struck_inside loaded_ripe
+
+  pub seen_length : length (seen_by k m) ≡ (shape_of k).stages
+  seen_length = cleared_length (struck (turn_by k m)) (loaded_by k m) struck_inside ∙ loaded_length
+
+  -- what is known of the slots, where none stops the run
+  pub seen_all : NoStops k 0 (seen_by k m) → AreSeen k r 0 (seen_by k m)
+  seen_all n =
+      record {
+        placed = seen_placed;
+        read = cleared_read k (run k r).x 0 (struck (turn_by k m)) (loaded_by k m) struck_inside loaded_read;
+        decided = seen_decided;
+        stops = n;
+        loaded = cleared_loaded k r 0 (struck (turn_by k m)) (loaded_by k m) struck_inside loaded_loaded;
+        ripe = cleared_ripe k 0 (struck (turn_by k m)) (loaded_by k m) struck_inside loaded_ripe;
+      }
+
+  -- past the flushed stages, and past stage 0, the slots are alike to those from before the row
+  pub seen_from : (n : ℕ) → struck (turn_by k m) ≤ suc n → Alike (drop (suc n) m.slots) (drop (suc n) (seen_by k m))
+  seen_from n le =
+      subst (λ l. Alike (drop (suc n) m.slots) l) (sym (cleared_drop (struck (turn_by k m)) (suc n) (loaded_by k m) le struck_inside))
+      (loaded_from n)

@@ -1,0 +1,126 @@
+-- Before the first row the machine is at the start of the run.
+use Rattle.std.proofs.Common.{◌≡◌, ℕ, zero, suc, ◌+◌, ◌≤◌, List, [], ◌∷◌, drop, take, length, get_or, Some, None, Bool, true, false, refl, sym, ap, arith}
+use Rattle.std.specs.Prelude.{if◌then◌else◌, is_some, nat_lt, replicate}
+use Rattle.std.proofs.lemmas.Bool.Decides.{nat_tests}
+use Rattle.rv_core.specs.declared.Shape.{Shape}
+use Rattle.rv_seq.specs.States.{first as first_state, zero_bit}
+use Rattle.rv_seq.specs.Runs.{run as seq_run}
+use Rattle.rv_waits.specs.Waits.{greatest}
+use Rattle.rv_trace.specs.declared.row.Row.{Row}
+use Rattle.rv_trace.specs.Trace.{blank, place, is_flushed, is_retired, retirements, rows_without}
+use Rattle.rv_trace.specs.LawfulTrace.{MovesInto, names_of, serial_after}
+use Rattle.rv_holds.specs.declared.token.Token.{Token}
+use Rattle.rv_holds.specs.Tokens.{Slots, cell_of, cells_of}
+use Rattle.rv_holds.specs.Holds.{oldest, writes_late}
+use Rattle.rv_engine.specs.Settings.{Setting, shape_of, first_machine}
+use Rattle.rv_engine.specs.Rows.{first_slot, owed_by}
+use Rattle.rv_lawful.specs.Settings.{Course, accesses_before, architecture}
+use Rattle.rv_lawful.specs.LawfulTrace.{fetch_address, next_serial}
+use Rattle.rv_machine.specs.Placed.{judged, run, count, tail, expected, past_ex, settled_before, to_go, Placed, Serials, IsReady, Inv}
+
+abbrev nothing : ℕ → Slots
+nothing n = replicate n None
+
+long_none : (n : ℕ) → length (nothing n) ≡ n
+long_none zero = refl
+long_none (suc n) = ap suc (long_none n)
+
+moves_none : (n m : ℕ) → n ≤ m → MovesInto blank None (take n (replicate m None)) (names_of (cells_of (nothing n)))
+moves_none zero m le = tt
+moves_none (suc n) zero le = absurd (omega (arith, le))
+moves_none (suc n) (suc m) le = (refl, moves_none n m (omega (arith, le)))
+
+placed_none : (k : Setting) (stage n : ℕ) → Placed k 0 stage (nothing n)
+placed_none k stage zero = tt
+placed_none k stage (suc n) = (tt, placed_none k (suc stage) n)
+
+serials_none : (rows : List Row) (n : ℕ) → Serials rows 0 (nothing n)
+serials_none rows zero = tt
+serials_none rows (suc n) = serials_none rows n
+
+first_none : (n : ℕ) → serial_after 0 (cell_of (first_slot (nothing n))) ≡ 0
+first_none zero = refl
+first_none (suc n) = refl
+
+count_none : (n : ℕ) → count (nothing n) ≡ 0
+count_none zero = refl
+count_none (suc n) = count_none n
+
+expected_none : (k : Setting) (stage n : ℕ) → expected k 0 stage (nothing n) ≡ (run k 0).pc
+expected_none k stage zero = refl
+expected_none k stage (suc n) = expected_none k (suc stage) n
+
+tail_none : (k : Setting) (n : ℕ) → expected k 0 1 (tail (nothing n)) ≡ (run k 0).pc
+tail_none k zero = refl
+tail_none k (suc n) = expected_none k 1 n
+
+to_go-none : (k : Shape) (most owed stage n : ℕ) → to_go k most owed stage (nothing n) ≡ 0
+to_go-none k most owed stage zero = refl
+to_go-none k most owed stage (suc n) = rw (to_go-none k most owed (suc stage) n) refl
+
+count_dropped : (i n : ℕ) → count (drop i (nothing n)) ≡ 0
+count_dropped zero n = count_none n
+count_dropped (suc i) zero = refl
+count_dropped (suc i) (suc n) = count_dropped i n
+
+none_dropped : {A : Type 0} (i n : ℕ) (t : Token) (older : Slots) → drop i (nothing n) ≡ Some t ∷ older → A
+none_dropped zero zero t older e = cc
+none_dropped zero (suc n) t older e = cc
+none_dropped (suc i) zero t older e = cc
+none_dropped (suc i) (suc n) t older e = none_dropped i n t older e
+
+-- with no token nothing is settled before a register
+settled_zero : (reg : ℕ) (l : Slots) → count l ≡ 0 → settled_before reg l ≡ 0
+settled_zero reg [] e = refl
+settled_zero reg (None ∷ l) e = by_case (is_some (oldest (writes_late reg) l)) (settled_zero reg l e) where
+  by_case : (b : Bool) → settled_before reg l ≡ 0 → (if b then settled_before reg l else count l) ≡ 0
+  by_case true h = h
+  by_case false h = e
+settled_zero reg (Some t ∷ l) e = absurd (omega (arith, e))
+
+no_accesses : (run : Course) (p : ℕ) → p ≡ 0 → 0 ≡ accesses_before run p
+unfolding accesses_before
+no_accesses run zero e = refl
+no_accesses run (suc p) e = absurd (omega (arith, e))
+
+none_below : (s : ℕ) → nat_lt s 0 ≡ false
+none_below s = grind (arith, nat_tests)
+
+pub first : (k : Setting) (ready : IsReady k) → Inv k [] (first_machine k)
+unfolding retirements is_flushed is_retired place fetch_address next_serial seq_run first_state architecture rows_without
+first k ready =
+    let n = (shape_of k).stages in
+    let most = ready.most in
+    let c = count_none n in
+    let t = tail_none k n in
+    let g = to_go-none (shape_of k) (greatest k.waits) (owed_by k (first_machine k)) 0 n in
+    let dropped = count_dropped (suc (shape_of k).mem) n in
+    record {
+      stages = long_none n;
+      arch = refl;
+      next_place = omega (arith, c);
+      next_first = first_none n;
+      fetch = sym t;
+      few = omega arith;
+      few_accesses = omega arith;
+      few_stood = omega arith;
+      accesses = no_accesses (judged k).course _ (omega (arith, dropped));
+      stood_is = λ t older e. none_dropped (shape_of k).mem n t older e;
+      tail_is = λ i t older e. none_dropped i n t older e;
+      future = λ reg.
+          let z = settled_zero reg (past_ex k (nothing n)) (count_dropped (suc (shape_of k).ex) n) in
+          let e : 0 ≡ 0 + settled_before reg (past_ex k (nothing n)) = omega (arith, z) in
+          ap (λ p. get_or (run k p).custom reg zero_bit) e;
+      future_wide = ready.wide 0;
+      placed = placed_none k 0 n;
+      serials = serials_none [] n;
+      fetch_is = refl;
+      next_is = refl;
+      moved = moves_none n 5 most;
+      words = λ s word h. absurd h;
+      fresh = λ s word h. absurd h;
+      retired = λ s alive. sym (none_below (place [] s));
+      unflushed = λ s le. refl;
+      state = refl;
+      progress = rw g (omega arith);
+    }

@@ -1,0 +1,300 @@
+-- The flush of a row: which tokens it takes, what it leaves, and where the serials stand then.
+use Rattle.std.proofs.Common.{◌≡◌, ℕ, zero, suc, ◌+◌, ◌-◌, ◌<◌, ◌≤◌, List, [], ◌∷◌, drop, take, length, Option, Some, None, Bool, true, false, refl, sym, ap, ◌∙◌, subst, arith, ◌⊎◌, inl, inr}
+use Rattle.std.specs.Prelude.{slice_get, nat_lt, replicate}
+use Rattle.std.proofs.lemmas.Bool.{cases_lt}
+use Rattle.std.proofs.lemmas.Bool.Decides.{nat_tests}
+use Rattle.ix_bits.specs.declared.number.Bits.{Bits}
+use Rattle.ix_plan.specs.declared.design.Design.{Design}
+use Rattle.rv_seq.specs.Steps.{word_at}
+use Rattle.rv_trace.specs.declared.row.Cell.{Cell}
+use Rattle.rv_trace.specs.declared.row.Row.{Row}
+use Rattle.rv_trace.specs.Trace.{place, has_serial, is_flushed, is_retired, retirements}
+use Rattle.rv_trace.specs.LawfulTrace.{AscendFrom}
+use Rattle.rv_holds.specs.declared.token.Token.{Token}
+use Rattle.rv_holds.specs.declared.flushing.Turn.{Turn}
+use Rattle.rv_holds.specs.Tokens.{Slots, cells_of}
+use Rattle.rv_holds.specs.Flushing.{struck, cleared}
+use Rattle.rv_engine.specs.Settings.{Setting, Machine}
+use Rattle.rv_engine.specs.Rows.{fetched, fill_first, next_after, new_by, loaded_by, turn_by, seen_by, IsRowOf}
+use Rattle.rv_lawful.specs.Settings as Lawful
+use Rattle.rv_lawful.specs.LawfulTrace.{IsWordOf}
+use Rattle.rv_machine.specs.Placed.{judged, count, HasWord, Serials, IsReady, Inv}
+use Rattle.rv_machine.proofs.Places.{stood, one_token, token_order, token_of, serials_drop, serials_more, serials_filled, place_same, flushed_same, flushed_now, flushed_before, unflushed_before, place_over, place_suc, place_lt, place_le, lower_place, next_placed, Unflushed, HasSerial}
+use Rattle.rv_machine.proofs.Standing.{here_of}
+use Rattle.rv_machine.proofs.Moving.{Named, filled_from, KeepsAll, keeps_all, FlushesFirst}
+use Rattle.rv_machine.proofs.Reading.{Alike, IsAlike, alike_count, alike_serials}
+use Rattle.rv_machine.proofs.Before.{Turning, turning}
+use Rattle.rv_machine.proofs.Before as B
+use Rattle.rv_machine.proofs.Clearing.{cleared_serials, cleared_count, cleared_at, cleared_get, cleared_drop, unheld_get, ShownAs, shown_as, take_get, get_take, none_listed, listed_of, listed_only, listed_ascend, none_ascend}
+
+-- a token of slots that are alike
+pub alike_get : (a b : Slots) (i : ℕ) (u : Token) → Alike a b → slice_get b i ≡ Some (Some u) → (t : Token) × (slice_get a i ≡ Some (Some t)) × IsAlike t u
+alike_get [] [] i u h e = cc
+alike_get [] (x ∷ b) i u h e = absurd h
+alike_get (s ∷ a) [] i u h e = absurd h
+alike_get (None ∷ a) (None ∷ b) zero u h e = cc
+alike_get (None ∷ a) (Some v ∷ b) zero u h e = absurd h.0
+alike_get (Some t ∷ a) (None ∷ b) zero u h e = absurd h.0
+alike_get (Some t ∷ a) (Some v ∷ b) zero u h e = (t, refl, subst (λ (w : Token). IsAlike t w) (same_here v u e) h.0) where
+  same_here : (v w : Token) → ◌≡◌ {A = Option (Option Token)} (Some (Some v)) (Some (Some w)) → v ≡ w
+  same_here v w e = cc
+alike_get (s ∷ a) (x ∷ b) (suc i) u h e = alike_get a b i u h.1 e
+
+pub new_serial : (d : Design) (future : List Bits) (serial at : ℕ) (o : Option ℕ) → HasSerial serial (fetched d future serial at o)
+new_serial d future serial at None = tt
+new_serial d future serial at (Some word) = refl
+
+pub fetched_serial : (serial : ℕ) (new : Option Token) (u : Token) → HasSerial serial new → new ≡ Some u → u.cell.serial ≡ serial
+fetched_serial serial None u h e = cc
+fetched_serial serial (Some t) u h e = sym (ap (λ (v : Token). v.cell.serial) (same_token t u e)) ∙ h where
+  same_token : (t u : Token) → ◌≡◌ {A = Option Token} (Some t) (Some u) → t ≡ u
+  same_token t u e = cc
+
+module _ (k : Setting) (ready : IsReady k) (earlier : List Row) (m : Machine) (row : Row) (inv : Inv k earlier m) (is : IsRowOf k m row) where
+  -- The slots before the flush
+
+  abbrev filled : Slots
+  filled = fill_first (new_by k m) m.slots
+
+  alike : Alike (fill_first (new_by k m) m.slots) (loaded_by k m)
+  alike = B.loaded_alike k ready earlier m inv
+
+  new_has : HasSerial m.next (new_by k m)
+  new_has = new_serial k.design m.future m.next m.fetch (word_at k.image m.fetch)
+
+  pub loaded_serials : Serials earlier (retirements earlier) (loaded_by k m)
+  loaded_serials =
+      alike_serials earlier (retirements earlier) (fill_first (new_by k m) m.slots) (loaded_by k m) alike
+      (serials_filled earlier (retirements earlier) m.next (new_by k m) m.slots inv.serials inv.next_place (inv.unflushed m.next (omega arith)) new_has)
+
+  some_slots : 0 < length m.slots
+  some_slots = let a = ready.ex_last in omega (arith, inv.stages, a)
+
+  loaded_count : place earlier (next_after m.next m.slots (new_by k m)) ≡ retirements earlier + count (loaded_by k m)
+  loaded_count =
+      next_placed earlier (retirements earlier) m.next (new_by k m) m.slots some_slots inv.next_place (inv.unflushed m.next (omega arith))
+      ∙ ap (λ n. retirements earlier + n) (sym (alike_count (fill_first (new_by k m) m.slots) (loaded_by k m) alike))
+
+  -- each token was fetched
+  pub loaded_fresh : (i : ℕ) (t : Token) → slice_get (loaded_by k m) i ≡ Some (Some t) → t.cell.serial < next_after m.next m.slots (new_by k m)
+  loaded_fresh i t e =
+      let x = stood earlier (retirements earlier) i (loaded_by k m) t loaded_serials e in
+      let hi = x.high in
+      lower_place earlier t.cell.serial (next_after m.next m.slots (new_by k m)) (omega (arith, hi, loaded_count))
+
+  -- Which stages are flushed
+
+  pub struck_inside : struck (turn_by k m) ≤ length (loaded_by k m)
+  struck_inside = B.struck_inside k ready earlier m inv
+
+  pub flushes_first : FlushesFirst row (struck (turn_by k m)) (loaded_by k m)
+  flushes_first i t lt e =
+      ap (λ l. has_serial l t.cell.serial) is.flushed
+      ∙ listed_of (take (struck (turn_by k m)) (loaded_by k m)) (replicate (5 - length (take (struck (turn_by k m)) (loaded_by k m))) None) i t (take_get (struck (turn_by k m)) i (loaded_by k m) lt ∙ e)
+
+  -- a flushed serial is that of a token of these stages
+  pub flushed_from : (s : ℕ) → has_serial row.flushed s ≡ true → (i : ℕ) × (t : Token) × (i < struck (turn_by k m)) × (slice_get (loaded_by k m) i ≡ Some (Some t)) × (t.cell.serial ≡ s)
+  flushed_from s h =
+      elim (listed_only (take (struck (turn_by k m)) (loaded_by k m)) (replicate (5 - length (take (struck (turn_by k m)) (loaded_by k m))) None) s (sym (ap (λ l. has_serial l s) is.flushed) ∙ h)) [
+        | inl x ↦ cc (x, none_listed (5 - length (take (struck (turn_by k m)) (loaded_by k m))) s)
+        | inr y ↦ let g = get_take (struck (turn_by k m)) y.0 (loaded_by k m) y.1 y.2 in (y.0, y.1, g.0, g.1, y.3)
+      ]
+
+  pub row_ascends : AscendFrom None row.flushed
+  row_ascends =
+      subst (λ l. AscendFrom None l) (sym is.flushed)
+      (listed_ascend earlier (retirements earlier) (struck (turn_by k m)) (loaded_by k m) (replicate (5 - length (take (struck (turn_by k m)) (loaded_by k m))) None) loaded_serials
+      (λ i t e. none_ascend (Some t.cell.serial) (5 - length (take (struck (turn_by k m)) (loaded_by k m)))) (none_ascend None (5 - length (take (struck (turn_by k m)) (loaded_by k m)))))
+
+  -- up to the serial of a token that is left nothing is flushed
+  pub none_below : (i : ℕ) (t : Token) → struck (turn_by k m) ≤ i → slice_get (loaded_by k m) i ≡ Some (Some t) → (j : ℕ) → j ≤ t.cell.serial → has_serial row.flushed j ≡ false
+  none_below i t le e j low = by_case (has_serial row.flushed j) refl where
+    by_case : (b : Bool) → has_serial row.flushed j ≡ b → has_serial row.flushed j ≡ false
+    by_case false q = q
+    by_case true q =
+        let x = flushed_from j q in
+        let lt = x.2 in
+        let o = token_order earlier (retirements earlier) x.0 i (loaded_by k m) x.1 t loaded_serials (omega (arith, lt, le)) x.3 e in
+        let same = x.4 in
+        absurd (omega (arith, o, same, low))
+
+  -- The slots after the flush
+
+  pub left_from : (i : ℕ) (t : Token) → slice_get (seen_by k m) i ≡ Some (Some t) → (struck (turn_by k m) ≤ i) × (slice_get (loaded_by k m) i ≡ Some (Some t))
+  left_from i t e = cleared_at (struck (turn_by k m)) i (loaded_by k m) t struck_inside e
+
+  seen_unflushed : Unflushed row (seen_by k m)
+  seen_unflushed i t e j le = let x = left_from i t e in none_below i t x.0 x.1 j le
+
+  pub seen_kept : KeepsAll row (seen_by k m)
+  seen_kept = keeps_all row (seen_by k m) (λ i t e. seen_unflushed i t e t.cell.serial (omega arith))
+
+  pub seen_serials : Serials (row ∷ earlier) (retirements earlier) (seen_by k m)
+  seen_serials = serials_more row earlier (retirements earlier) (seen_by k m) seen_unflushed (cleared_serials earlier (retirements earlier) (struck (turn_by k m)) (loaded_by k m) struck_inside loaded_serials)
+
+  -- what stands in the row
+
+  pub stands_at : (stage : ℕ) → struck (turn_by k m) ≤ stage → slice_get (Lawful.stages_of (judged k) row) stage ≡ slice_get (cells_of (seen_by k m)) stage
+  stands_at stage le =
+      ap (λ l. slice_get l stage) is.cells ∙ unheld_get (struck (turn_by k m)) stage (loaded_by k m) le ∙ sym (cells_get (struck (turn_by k m)) stage (loaded_by k m) le struck_inside) where
+        cells_get : (n stage : ℕ) (slots : Slots) → n ≤ stage → n ≤ length slots → slice_get (cells_of (cleared n slots)) stage ≡ slice_get (cells_of slots) stage
+        cells_get zero stage slots le long = refl
+        cells_get (suc n) zero slots le long = absurd (omega (arith, le))
+        cells_get (suc n) (suc stage) [] le long = absurd (omega arith)
+        cells_get (suc n) (suc stage) (s ∷ older) le long = cells_get n stage older (omega (arith, le)) (omega (arith, long))
+
+  pub shown_at : (stage : ℕ) (c : Cell) → Lawful.Stands (judged k) row stage c → ShownAs (struck (turn_by k m)) stage (loaded_by k m) c
+  shown_at stage c s = shown_as (struck (turn_by k m)) stage (loaded_by k m) c (sym (ap (λ l. slice_get l stage) is.cells) ∙ s)
+
+  pub stands_flushed : (stage : ℕ) (c : Cell) → stage < struck (turn_by k m) → Lawful.Stands (judged k) row stage c → (c.hold ≡ None) × (has_serial row.flushed c.serial ≡ true)
+  stands_flushed stage c lt s =
+      let x = shown_at stage c s in
+      (x.free lt, ap (λ n. has_serial row.flushed n) (sym x.serial) ∙ flushes_first stage x.token lt x.here_is)
+
+  -- Serials after the flush
+
+  -- a serial between that of the token that turns the fetch and the next one is flushed
+  over : (turn : Turn) (x : Turning k m.fetch (loaded_by k m) turn) → struck (turn_by k m) ≡ x.by.index → (j : ℕ) → suc x.by.token.cell.serial ≤ j → j < next_after m.next m.slots (new_by k m) → is_flushed (row ∷ earlier) j ≡ true
+  over turn x n j le lt = by_case (is_flushed earlier j) refl where
+    here : slice_get (loaded_by k m) x.by.index ≡ Some (Some x.by.token)
+    here = here_of (loaded_by k m) x.by.older x.by.token x.by.index x.by.rest
+
+    by_case : (b : Bool) → is_flushed earlier j ≡ b → is_flushed (row ∷ earlier) j ≡ true
+    by_case true e = flushed_before row earlier j e
+    by_case false e =
+        let s = stood earlier (retirements earlier) x.by.index (loaded_by k m) x.by.token loaded_serials here in
+        let low = s.low in
+        let above = place_lt earlier x.by.token.cell.serial j s.alive (omega (arith, le)) in
+        let below = place_lt earlier j (next_after m.next m.slots (new_by k m)) e lt in
+        let u = token_of earlier (retirements earlier) j (loaded_by k m) loaded_serials e (omega (arith, low, above)) (omega (arith, below, loaded_count)) in
+        let serial = u.3 in
+        elim (cases_lt u.0 x.by.index) [
+          | inl less ↦ flushed_now row earlier j (ap (λ i. has_serial row.flushed i) (sym serial) ∙ flushes_first u.0 u.1 (omega (arith, less, n)) u.2)
+          | inr more ↦ elim (cases_lt x.by.index u.0) [
+            | inl past ↦ let o = token_order earlier (retirements earlier) x.by.index u.0 (loaded_by k m) x.by.token u.1 loaded_serials past here u.2 in absurd (omega (arith, o, serial, le))
+            | inr not ↦
+                let same : u.0 ≡ x.by.index = omega (arith, more, not) in
+                let token = one_token earlier (retirements earlier) u.0 x.by.index (loaded_by k m) u.1 x.by.token loaded_serials u.2 here (ap (λ (v : Token). v.cell.serial) (at_one u.0 x.by.index same u.2 here)) in
+                let is_ex = ap (λ (v : Token). v.cell.serial) token in
+                absurd (omega (arith, is_ex, serial, le))
+          ]
+        ] where
+          at_one : (a b : ℕ) → a ≡ b → {v w : Token} → slice_get (loaded_by k m) a ≡ Some (Some v) → slice_get (loaded_by k m) b ≡ Some (Some w) → v ≡ w
+          at_one a b e p q = cc
+
+  -- the place of the next serial
+  pub seen_count : place (row ∷ earlier) (next_after m.next m.slots (new_by k m)) ≡ retirements earlier + count (seen_by k m)
+  seen_count = by_case (turn_by k m) refl where
+    by_case : (o : Option Turn) → turn_by k m ≡ o → place (row ∷ earlier) (next_after m.next m.slots (new_by k m)) ≡ retirements earlier + count (seen_by k m)
+    by_case None e =
+        let n : struck (turn_by k m) ≡ 0 = ap (λ o. struck o) e in
+        place_same row earlier (next_after m.next m.slots (new_by k m)) (λ j lt. none_flushed n j)
+        ∙ loaded_count ∙ ap (λ i. retirements earlier + count (cleared i (loaded_by k m))) (sym n) where
+          none_flushed : struck (turn_by k m) ≡ 0 → (j : ℕ) → has_serial row.flushed j ≡ false
+          none_flushed n j = by_flag (has_serial row.flushed j) refl where
+            by_flag : (b : Bool) → has_serial row.flushed j ≡ b → has_serial row.flushed j ≡ false
+            by_flag false q = q
+            by_flag true q = let x = flushed_from j q in let lt = x.2 in absurd (omega (arith, lt, n))
+    by_case (Some turn) e =
+        let x = turning k m.fetch (loaded_by k m) turn e in
+        let z : 0 + x.by.index ≡ x.by.index = omega arith in
+        let n : struck (turn_by k m) ≡ x.by.index = ap (λ o. struck o) e ∙ x.by.stage ∙ z in
+        let here = here_of (loaded_by k m) x.by.older x.by.token x.by.index x.by.rest in
+        let fresh = loaded_fresh x.by.index x.by.token here in
+        let gap : (g : ℕ) × (suc x.by.token.cell.serial + g ≡ next_after m.next m.slots (new_by k m)) = (next_after m.next m.slots (new_by k m) - suc x.by.token.cell.serial, omega (arith, fresh)) in
+        let all = place_over (row ∷ earlier) (suc x.by.token.cell.serial) gap.0 (λ j le lt. over turn x n j le (omega (arith, lt, gap.1))) in
+        let kept = none_below x.by.index x.by.token (omega (arith, n)) here in
+        let alive = flushed_same row earlier x.by.token.cell.serial (kept x.by.token.cell.serial (omega arith)) ∙ (stood earlier (retirements earlier) x.by.index (loaded_by k m) x.by.token loaded_serials here).alive in
+        let one = place_suc (row ∷ earlier) x.by.token.cell.serial alive in
+        let seen_here = cleared_get (struck (turn_by k m)) x.by.index (loaded_by k m) (omega (arith, n)) struck_inside ∙ here in
+        let tail = cleared_drop (struck (turn_by k m)) x.by.index (loaded_by k m) (omega (arith, n)) struck_inside ∙ x.by.rest in
+        let o = subst (λ l. Serials earlier (retirements earlier) l) x.by.rest (serials_drop earlier (retirements earlier) x.by.index (loaded_by k m) loaded_serials) in
+        let c = cleared_count (struck (turn_by k m)) (loaded_by k m) struck_inside ∙ ap (λ i. count (drop i (loaded_by k m))) n ∙ ap count x.by.rest in
+        let p = place_same row earlier x.by.token.cell.serial (λ j lt. kept j (omega (arith, lt))) ∙ o.0.0 in
+        ap (λ i. place (row ∷ earlier) i) (sym gap.1) ∙ all ∙ one ∙ omega (arith, p, c)
+
+  -- the next serials are not flushed
+  pub unflushed_next : (s : ℕ) → next_after m.next m.slots (new_by k m) ≤ s → is_flushed (row ∷ earlier) s ≡ false
+  unflushed_next s le = flushed_same row earlier s (by_flag (has_serial row.flushed s) refl) ∙ inv.unflushed s (before m.slots (new_by k m) le) where
+    by_flag : (b : Bool) → has_serial row.flushed s ≡ b → has_serial row.flushed s ≡ false
+    by_flag false q = q
+    by_flag true q =
+        let x = flushed_from s q in
+        let lt = loaded_fresh x.0 x.1 x.3 in
+        let same = x.4 in
+        absurd (omega (arith, lt, same, le))
+
+    before : (l : Slots) (o : Option Token) → next_after m.next l o ≤ s → m.next ≤ s
+    before [] o h = h
+    before (Some t ∷ l) o h = h
+    before (None ∷ l) None h = h
+    before (None ∷ l) (Some t) h = omega (arith, h)
+
+  -- whether a serial is retired is told by its place still
+  pub before_retired : (s : ℕ) → is_flushed (row ∷ earlier) s ≡ false → is_retired earlier s ≡ nat_lt (place (row ∷ earlier) s) (retirements earlier)
+  before_retired s alive = inv.retired s (unflushed_before row earlier s alive) ∙ by_case (turn_by k m) refl where
+    not_lt : (a b : ℕ) → b ≤ a → nat_lt a b ≡ false
+    not_lt a b h = grind (arith, nat_tests)
+
+    by_case : (o : Option Turn) → turn_by k m ≡ o → nat_lt (place earlier s) (retirements earlier) ≡ nat_lt (place (row ∷ earlier) s) (retirements earlier)
+    by_case None e =
+        let n : struck (turn_by k m) ≡ 0 = ap (λ o. struck o) e in
+        ap (λ p. nat_lt p (retirements earlier)) (sym (place_same row earlier s (λ j lt. none_flushed n j))) where
+          none_flushed : struck (turn_by k m) ≡ 0 → (j : ℕ) → has_serial row.flushed j ≡ false
+          none_flushed n j = by_flag (has_serial row.flushed j) refl where
+            by_flag : (b : Bool) → has_serial row.flushed j ≡ b → has_serial row.flushed j ≡ false
+            by_flag false q = q
+            by_flag true q = let x = flushed_from j q in let lt = x.2 in absurd (omega (arith, lt, n))
+    by_case (Some turn) e =
+        let x = turning k m.fetch (loaded_by k m) turn e in
+        let z : 0 + x.by.index ≡ x.by.index = omega arith in
+        let n : struck (turn_by k m) ≡ x.by.index = ap (λ o. struck o) e ∙ x.by.stage ∙ z in
+        let here = here_of (loaded_by k m) x.by.older x.by.token x.by.index x.by.rest in
+        let kept = none_below x.by.index x.by.token (omega (arith, n)) here in
+        let st = stood earlier (retirements earlier) x.by.index (loaded_by k m) x.by.token loaded_serials here in
+        let low = st.low in
+        elim (cases_lt x.by.token.cell.serial s) [
+          | inl above ↦
+              let a = place_le earlier x.by.token.cell.serial s (omega (arith, above)) in
+              let b = place_le (row ∷ earlier) x.by.token.cell.serial s (omega (arith, above)) in
+              let same = place_same row earlier x.by.token.cell.serial (λ j lt. kept j (omega (arith, lt))) in
+              not_lt (place earlier s) (retirements earlier) (omega (arith, a, low))
+              ∙ sym (not_lt (place (row ∷ earlier) s) (retirements earlier) (omega (arith, b, same, low)))
+          | inr below ↦ ap (λ p. nat_lt p (retirements earlier)) (sym (place_same row earlier s (λ j lt. kept j (omega (arith, lt, below)))))
+        ]
+
+  -- Words
+
+  -- a token before the flush stood before the row, or is the new one
+  loaded_from : (i : ℕ) (t : Token) → slice_get (loaded_by k m) i ≡ Some (Some t) → Named m.slots i t ⊎ (t.cell.serial ≡ m.next)
+  loaded_from i t e =
+      let v = alike_get (fill_first (new_by k m) m.slots) (loaded_by k m) i t alike e in
+      elim (filled_from (new_by k m) i m.slots v.0 v.1) [
+        | inl before ↦ inl (record { token = v.0; here = before; serial = v.2.serial; word = v.2.word })
+        | inr new ↦ inr (v.2.serial ∙ fetched_serial m.next (new_by k m) v.0 new_has new)
+      ]
+
+  loaded_words : (s word : ℕ) → IsWordOf (judged k) (row ∷ earlier) s word → HasWord (loaded_by k m) s word
+  loaded_words s word (inr h) i t here serial = elim (loaded_from i t here) [
+    | inl x ↦ x.word ∙ inv.words s word h i x.token x.here (sym x.serial ∙ serial)
+    | inr new ↦ let lt = inv.fresh s word h in absurd (omega (arith, lt, new, serial))
+  ]
+  loaded_words s word (inl h) i t here serial =
+      let x = shown_at h.0 h.1 h.2 in
+      let same = one_token earlier (retirements earlier) i h.0 (loaded_by k m) t x.token loaded_serials here x.here_is (serial ∙ sym (x.serial ∙ h.3)) in
+      ap (λ (v : Token). v.cell.word) same ∙ x.word ∙ h.4
+
+  pub words_now : (s word : ℕ) → IsWordOf (judged k) (row ∷ earlier) s word → HasWord (seen_by k m) s word
+  words_now s word h i t here serial = loaded_words s word h i t (left_from i t here).1 serial
+
+  pub fresh_now : (s word : ℕ) → IsWordOf (judged k) (row ∷ earlier) s word → s < next_after m.next m.slots (new_by k m)
+  fresh_now s word (inr h) = more m.slots (new_by k m) (inv.fresh s word h) where
+    more : (l : Slots) (o : Option Token) → s < m.next → s < next_after m.next l o
+    more [] o lt = lt
+    more (Some t ∷ l) o lt = lt
+    more (None ∷ l) None lt = lt
+    more (None ∷ l) (Some t) lt = omega (arith, lt)
+  fresh_now s word (inl h) =
+      let x = shown_at h.0 h.1 h.2 in
+      let lt = loaded_fresh h.0 x.token x.here_is in
+      subst (λ n. n < next_after m.next m.slots (new_by k m)) (x.serial ∙ h.3) lt

@@ -1,0 +1,19 @@
+-- After a row without a stop the machine is tied to the rows again.
+use Rattle.std.proofs.Common.{◌≡◌, List, ◌∷◌, None}
+use Rattle.rv_trace.specs.declared.row.Row.{Row}
+use Rattle.rv_engine.specs.Settings.{Setting, Machine}
+use Rattle.rv_engine.specs.Rows.{IsRowOf, machine_after}
+use Rattle.rv_lawful.specs.LawfulTrace.{Lawful}
+use Rattle.rv_machine.specs.Placed.{judged, IsReady, Inv}
+use Rattle.rv_machine.proofs.GoesNext.{goes_next}
+use Rattle.rv_machine.proofs.TailsAfter.{tails_after}
+use Rattle.rv_machine.proofs.EachRow as R
+use Rattle.rv_machine.proofs.WideFuture.{wide_future}
+use Rattle.rv_machine.proofs.Untailed.{untailed}
+use Rattle.rv_machine.proofs.ModuleWaits.{ended}
+
+pub goes_on : (k : Setting) (ready : IsReady k) (earlier : List Row) (m : Machine) (row : Row) → Inv k earlier m → IsRowOf k m row → Lawful (judged k) earlier → row.stop ≡ None → Inv k (row ∷ earlier) (machine_after k m)
+goes_on k ready earlier m row inv is law stop =
+    goes_next k ready earlier m row inv is stop (wide_future k ready earlier m row inv is stop)
+    (tails_after k ready earlier m row inv is (untailed k earlier m inv) (ended k ready earlier m row inv is law))
+    (R.progress k ready earlier m row inv is stop)

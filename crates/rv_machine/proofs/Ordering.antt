@@ -1,0 +1,188 @@
+-- The holds kind by kind: the first true one is the first one of the first kind that has a true one.
+use Rattle.std.proofs.Common.{◌≡◌, ℕ, suc, ◌<◌, ◌≤◌, List, Option, Some, None, Bool, true, false, refl, arith, inl, inr}
+use Rattle.std.specs.Prelude.{if◌then◌else◌}
+use Rattle.std.proofs.lemmas.Bool.{cases_lt}
+use Rattle.rv_trace.specs.declared.row.Cell.{Cell}
+use Rattle.rv_trace.specs.declared.row.Hold.{Hold}
+use Rattle.rv_trace.specs.declared.row.Hold.TheVariants.{Operand, Board, Custom, Late, Drain, Wait, StoreAhead, Tail, UnitFull, Port, Behind}
+use Rattle.rv_trace.specs.declared.row.Row.{Row}
+use Rattle.rv_trace.specs.LawfulTrace.{kind_of, ComesFirst}
+use Rattle.rv_holds.specs.Tokens.{or_else}
+use Rattle.rv_lawful.specs.Settings.{Setting}
+use Rattle.rv_lawful.specs.LawfulTrace.{OwnHold}
+
+-- Which hold is of which kind
+
+pub operand_kind : (h : Hold) → kind_of h ≡ 0 → (r : ℕ) × (j : ℕ) × (h ≡ Operand r j)
+operand_kind (Operand r j) e = (r, j, refl)
+operand_kind (Board target j) e = absurd (omega (arith, e))
+operand_kind (Custom r j) e = absurd (omega (arith, e))
+operand_kind (Late j) e = absurd (omega (arith, e))
+operand_kind (Drain j) e = absurd (omega (arith, e))
+operand_kind (Wait left) e = absurd (omega (arith, e))
+operand_kind (StoreAhead j) e = absurd (omega (arith, e))
+operand_kind (Tail left) e = absurd (omega (arith, e))
+operand_kind (UnitFull u) e = absurd (omega (arith, e))
+operand_kind (Port j) e = absurd (omega (arith, e))
+operand_kind Behind e = absurd (omega (arith, e))
+
+pub custom_kind : (h : Hold) → kind_of h ≡ 2 → (r : ℕ) × (j : ℕ) × (h ≡ Custom r j)
+custom_kind (Operand r j) e = absurd (omega (arith, e))
+custom_kind (Board target j) e = absurd (omega (arith, e))
+custom_kind (Custom r j) e = (r, j, refl)
+custom_kind (Late j) e = absurd (omega (arith, e))
+custom_kind (Drain j) e = absurd (omega (arith, e))
+custom_kind (Wait left) e = absurd (omega (arith, e))
+custom_kind (StoreAhead j) e = absurd (omega (arith, e))
+custom_kind (Tail left) e = absurd (omega (arith, e))
+custom_kind (UnitFull u) e = absurd (omega (arith, e))
+custom_kind (Port j) e = absurd (omega (arith, e))
+custom_kind Behind e = absurd (omega (arith, e))
+
+pub late_kind : (h : Hold) → kind_of h ≡ 3 → (j : ℕ) × (h ≡ Late j)
+late_kind (Operand r j) e = absurd (omega (arith, e))
+late_kind (Board target j) e = absurd (omega (arith, e))
+late_kind (Custom r j) e = absurd (omega (arith, e))
+late_kind (Late j) e = (j, refl)
+late_kind (Drain j) e = absurd (omega (arith, e))
+late_kind (Wait left) e = absurd (omega (arith, e))
+late_kind (StoreAhead j) e = absurd (omega (arith, e))
+late_kind (Tail left) e = absurd (omega (arith, e))
+late_kind (UnitFull u) e = absurd (omega (arith, e))
+late_kind (Port j) e = absurd (omega (arith, e))
+late_kind Behind e = absurd (omega (arith, e))
+
+pub drain_kind : (h : Hold) → kind_of h ≡ 4 → (j : ℕ) × (h ≡ Drain j)
+drain_kind (Operand r j) e = absurd (omega (arith, e))
+drain_kind (Board target j) e = absurd (omega (arith, e))
+drain_kind (Custom r j) e = absurd (omega (arith, e))
+drain_kind (Late j) e = absurd (omega (arith, e))
+drain_kind (Drain j) e = (j, refl)
+drain_kind (Wait left) e = absurd (omega (arith, e))
+drain_kind (StoreAhead j) e = absurd (omega (arith, e))
+drain_kind (Tail left) e = absurd (omega (arith, e))
+drain_kind (UnitFull u) e = absurd (omega (arith, e))
+drain_kind (Port j) e = absurd (omega (arith, e))
+drain_kind Behind e = absurd (omega (arith, e))
+
+pub wait_kind : (h : Hold) → kind_of h ≡ 5 → (left : ℕ) × (h ≡ Wait left)
+wait_kind (Operand r j) e = absurd (omega (arith, e))
+wait_kind (Board target j) e = absurd (omega (arith, e))
+wait_kind (Custom r j) e = absurd (omega (arith, e))
+wait_kind (Late j) e = absurd (omega (arith, e))
+wait_kind (Drain j) e = absurd (omega (arith, e))
+wait_kind (Wait left) e = (left, refl)
+wait_kind (StoreAhead j) e = absurd (omega (arith, e))
+wait_kind (Tail left) e = absurd (omega (arith, e))
+wait_kind (UnitFull u) e = absurd (omega (arith, e))
+wait_kind (Port j) e = absurd (omega (arith, e))
+wait_kind Behind e = absurd (omega (arith, e))
+
+pub store_kind : (h : Hold) → kind_of h ≡ 6 → (j : ℕ) × (h ≡ StoreAhead j)
+store_kind (Operand r j) e = absurd (omega (arith, e))
+store_kind (Board target j) e = absurd (omega (arith, e))
+store_kind (Custom r j) e = absurd (omega (arith, e))
+store_kind (Late j) e = absurd (omega (arith, e))
+store_kind (Drain j) e = absurd (omega (arith, e))
+store_kind (Wait left) e = absurd (omega (arith, e))
+store_kind (StoreAhead j) e = (j, refl)
+store_kind (Tail left) e = absurd (omega (arith, e))
+store_kind (UnitFull u) e = absurd (omega (arith, e))
+store_kind (Port j) e = absurd (omega (arith, e))
+store_kind Behind e = absurd (omega (arith, e))
+
+pub module_kind : (h : Hold) → kind_of h ≡ 7 → (left : ℕ) × (h ≡ Tail left)
+module_kind (Operand r j) e = absurd (omega (arith, e))
+module_kind (Board target j) e = absurd (omega (arith, e))
+module_kind (Custom r j) e = absurd (omega (arith, e))
+module_kind (Late j) e = absurd (omega (arith, e))
+module_kind (Drain j) e = absurd (omega (arith, e))
+module_kind (Wait left) e = absurd (omega (arith, e))
+module_kind (StoreAhead j) e = absurd (omega (arith, e))
+module_kind (Tail left) e = (left, refl)
+module_kind (UnitFull u) e = absurd (omega (arith, e))
+module_kind (Port j) e = absurd (omega (arith, e))
+module_kind Behind e = absurd (omega (arith, e))
+
+-- The first of a kind, and the first of a kind or a later one
+
+-- it is the first of the true holds of this kind, or there is none
+abbrev pub FirstOf : Setting → List Row → Row → ℕ → Cell → ℕ → Option Hold → Type 0
+FirstOf k earlier row stage c n None = (h : Hold) → kind_of h ≡ n → OwnHold k earlier row stage c h → ⊥
+FirstOf k earlier row stage c n (Some h) = (kind_of h ≡ n) × OwnHold k earlier row stage c h × ((g : Hold) → kind_of g ≡ n → OwnHold k earlier row stage c g → ComesFirst h g)
+
+-- the same of this kind and the later ones
+abbrev pub FirstFrom : Setting → List Row → Row → ℕ → Cell → ℕ → Option Hold → Type 0
+FirstFrom k earlier row stage c n None = (h : Hold) → n ≤ kind_of h → OwnHold k earlier row stage c h → ⊥
+FirstFrom k earlier row stage c n (Some h) = OwnHold k earlier row stage c h × ((g : Hold) → n ≤ kind_of g → OwnHold k earlier row stage c g → ComesFirst h g)
+
+pub joined : (k : Setting) (earlier : List Row) (row : Row) (stage : ℕ) (c : Cell) (n : ℕ) (o p : Option Hold) → FirstOf k earlier row stage c n o → (o ≡ None → FirstFrom k earlier row stage c (suc n) p) → FirstFrom k earlier row stage c n (or_else o p)
+joined k earlier row stage c n (Some h) p x y = (
+  x.1,
+  λ g le own. elim (cases_lt n (kind_of g)) [
+    | inl less ↦ let e = x.0 in inl (omega (arith, less, e))
+    | inr more ↦ let e : kind_of g ≡ n = omega (arith, le, more) in x.2 g e own
+  ],
+)
+joined k earlier row stage c n None None x y = λ h le own. elim (cases_lt n (kind_of h)) [
+  | inl less ↦ y refl h (omega (arith, less)) own
+  | inr more ↦ let e : kind_of h ≡ n = omega (arith, le, more) in x h e own
+]
+joined k earlier row stage c n None (Some h) x y =
+    let z = y refl in (
+      z.0,
+      λ g le own. elim (cases_lt n (kind_of g)) [
+        | inl less ↦ z.1 g (omega (arith, less)) own
+        | inr more ↦ let e : kind_of g ≡ n = omega (arith, le, more) in absurd (x g e own)
+      ],
+    )
+
+-- the scoreboard has no hold, and neither have units
+pub no_board : (k : Setting) (earlier : List Row) (row : Row) (stage : ℕ) (c : Cell) (h : Hold) → kind_of h ≡ 1 → OwnHold k earlier row stage c h → ⊥
+no_board k earlier row stage c (Operand r j) e o = omega (arith, e)
+no_board k earlier row stage c (Board target j) e o = o
+no_board k earlier row stage c (Custom r j) e o = omega (arith, e)
+no_board k earlier row stage c (Late j) e o = omega (arith, e)
+no_board k earlier row stage c (Drain j) e o = omega (arith, e)
+no_board k earlier row stage c (Wait left) e o = omega (arith, e)
+no_board k earlier row stage c (StoreAhead j) e o = omega (arith, e)
+no_board k earlier row stage c (Tail left) e o = omega (arith, e)
+no_board k earlier row stage c (UnitFull u) e o = omega (arith, e)
+no_board k earlier row stage c (Port j) e o = omega (arith, e)
+no_board k earlier row stage c Behind e o = omega (arith, e)
+
+pub no_unit : (k : Setting) (earlier : List Row) (row : Row) (stage : ℕ) (c : Cell) (h : Hold) → 8 ≤ kind_of h → OwnHold k earlier row stage c h → ⊥
+no_unit k earlier row stage c (Operand r j) e o = omega (arith, e)
+no_unit k earlier row stage c (Board target j) e o = omega (arith, e)
+no_unit k earlier row stage c (Custom r j) e o = omega (arith, e)
+no_unit k earlier row stage c (Late j) e o = omega (arith, e)
+no_unit k earlier row stage c (Drain j) e o = omega (arith, e)
+no_unit k earlier row stage c (Wait left) e o = omega (arith, e)
+no_unit k earlier row stage c (StoreAhead j) e o = omega (arith, e)
+no_unit k earlier row stage c (Tail left) e o = omega (arith, e)
+no_unit k earlier row stage c (UnitFull u) e o = o
+no_unit k earlier row stage c (Port j) e o = o
+no_unit k earlier row stage c Behind e o = o
+
+-- whatever is true of a cell of its own comes before Behind
+pub own_kind : (k : Setting) (earlier : List Row) (row : Row) (stage : ℕ) (c : Cell) (h : Hold) → OwnHold k earlier row stage c h → kind_of h < 8
+own_kind k earlier row stage c h o = elim (cases_lt (kind_of h) 8) [ inl less ↦ less | inr more ↦ absurd (no_unit k earlier row stage c h more o) ]
+
+-- The order in which they are decided
+
+pub or_assoc : (a b c : Option Hold) → or_else (or_else a b) c ≡ or_else a (or_else b c)
+or_assoc None b c = refl
+or_assoc (Some h) b c = refl
+
+pub if_or : (b : Bool) (x y : Option Hold) → (if b then or_else x y else None) ≡ or_else (if b then x else None) (if b then y else None)
+if_or true x y = refl
+if_or false x y = refl
+
+-- where nothing is there the next one is
+pub or_none : (a b : Option Hold) → a ≡ None → or_else a b ≡ b
+or_none None b e = refl
+or_none (Some h) b e = cc
+
+pub or_right : (a : Option Hold) → or_else a None ≡ a
+or_right None = refl
+or_right (Some h) = refl

@@ -1,0 +1,103 @@
+-- The rows of a machine keep what is promised of them, where its design stands.
+use Rattle.std.proofs.Common.{◌≡◌, ℕ, ◌+◌, ◌^◌, ◌<◌, ◌≤◌, List, [], ◌∷◌, ◌++◌, Option, Some, None, refl, ap, ◌∙◌, arith, sym}
+use Rattle.std.specs.Prelude.{reverse}
+use Rattle.ix_extension.specs.Extensions.{view_extension}
+use Rattle.ix_plan.specs.declared.design.Design.{Design}
+use Rattle.ix_spawns.specs.Spawns.{first_spawning}
+use Rattle.ix_standing.specs.Standing.{Stands}
+use Rattle.rv_seq.specs.declared.arch.Arch.{Arch}
+use Rattle.rv_trace.specs.declared.row.Row.{Row}
+use Rattle.rv_seq.specs.declared.commit.Commit.{Commit}
+use Rattle.rv_trace.specs.Trace.{newest, with_retired}
+use Rattle.rv_trace.specs.TraceText.{trace_text}
+use Rattle.rv_record.specs.RunText.{state_text}
+use Rattle.rv_engine.specs.Settings.{Setting, setting, tree_of}
+use Rattle.rv_engine.specs.Rows.{arch_after, retired_of, left_by}
+use Rattle.rv_lawful.specs.Settings.{architecture}
+use Rattle.rv_lawful.specs.Headline.{Headline}
+use Rattle.rv_lawful.specs.Sight.{EarlyLaw, ExactLaw, KeepsLaw, TailLaw}
+use Rattle.rv_machine.specs.Running.{AreRows, machine_at}
+use Rattle.rv_machine.specs.DesignText.{IsDesignText}
+use Rattle.rv_machine.specs.LawfulText.{IsLawfulText}
+use Rattle.rv_machine.specs.Promises.{IsInOrder, RowsLaw, TextLaw}
+use Rattle.rv_machine.specs.Placed.{Inv, IsReady}
+use Rattle.rv_machine.proofs.First.{first}
+use Rattle.rv_machine.proofs.GoesOn.{goes_on}
+use Rattle.rv_machine.proofs.OneMore.{one_more_row}
+use Rattle.rv_machine.proofs.RunWords.{run_words}
+use Rattle.rv_machine.proofs.RunWidths.{run_wide}
+
+-- the laws of what a word may see
+pub record Sights : Type 0 where
+  pub early : (d : Design) → Stands d → first_spawning (view_extension d.extension) ≡ None → EarlyLaw d
+  pub exact : (d : Design) → Stands d → ExactLaw d
+  pub keeps : (d : Design) → Stands d → first_spawning (view_extension d.extension) ≡ None → KeepsLaw d
+  pub tails : (d : Design) → Stands d → TailLaw d
+
+-- so a design that stands is ready
+ready_of : Sights → (d : Design) (image waits : List ℕ) → IsInOrder d image → IsReady (setting d image waits)
+ready_of sights d image waits h =
+    let law = d.sheet.shape.lawful in
+    let a = law.memory_late in
+    let b = law.memory_inside in
+    let formed = h.stands.well_formed in
+    record {
+      rd_pos = law.reads_late;
+      rd_ex = law.reads_first;
+      ex_rd = law.reads_near;
+      ex_mem = law.memory_late;
+      mem_last = omega (arith, b);
+      ex_last = omega (arith, a, b);
+      most = law.most;
+      early = sights.early d h.stands h.quiet;
+      exact = sights.exact d h.stands;
+      keeps = sights.keeps d h.stands h.quiet;
+      tails = sights.tails d h.stands;
+      wide = λ p. run_wide formed.0 (view_extension d.extension) image p formed.1;
+      words = λ p. (run_words (view_extension d.extension) image p).registers;
+      pcs = λ p. (run_words (view_extension d.extension) image p).pc;
+      image = h.words;
+    }
+
+-- what is known of the rows of a machine, the newest first
+record IsKnown (k : Setting) (rows : List Row) : Type 0 where
+  pub headline : Headline k.design k.image k.waits rows
+  pub going : (newest rows).stop ≡ None → Inv k rows (machine_at k rows)
+
+known : (k : Setting) → IsReady k → (rows : List Row) → AreRows k rows → IsKnown k rows
+unfolding machine_at
+known k ready [] are = record { headline = record { lawful = tt; agrees = tt; progress = tt }; going = λ _. first k ready }
+known k ready (row ∷ earlier) are =
+    let before = known k ready earlier are.2 in
+    let inv = before.going are.1 in
+    record {
+      headline = one_more_row k ready earlier (machine_at k earlier) row inv are.0 are.1 before.headline;
+      going = λ none. goes_on k ready earlier (machine_at k earlier) row inv are.0 before.headline.lawful none;
+    }
+
+pub rows_law : Sights → RowsLaw
+rows_law sights d image waits rows h are = (known (setting d image waits) (ready_of sights d image waits h) rows are).headline
+
+-- the writes of a retired record, as the machine and as the rows tell them
+same_writes : (s : Arch) (o : Option (ℕ × Commit)) → arch_after s o ≡ with_retired o s
+same_writes s None = refl
+same_writes s (Some r) = refl
+
+-- the state of the machine is that which its rows tell
+arch_is : (k : Setting) (rows : List Row) → AreRows k rows → (machine_at k rows).arch ≡ architecture (tree_of k) rows
+unfolding machine_at architecture
+arch_is k [] are = refl
+arch_is k (row ∷ earlier) are =
+    same_writes (machine_at k earlier).arch (retired_of (left_by k (machine_at k earlier)))
+    ∙ ap (λ (o : Option (ℕ × Commit)). with_retired o (machine_at k earlier).arch) (sym are.0.retired)
+    ∙ ap (λ (a : Arch). with_retired row.retired a) (arch_is k earlier are.2)
+
+pub text_law : Sights → TextLaw
+text_law sights d image waits cycles text h t =
+    record {
+      rows = t.rows;
+      headline = rows_law sights d image waits t.rows h t.are_rows;
+      few = t.few;
+      whole = t.whole;
+      text_is = t.text_is ∙ ap (λ (a : Arch). trace_text d.sheet.shape.stages 0 (reverse t.rows) ++ state_text (view_extension d.extension) a) (arch_is (setting d image waits) t.rows t.are_rows);
+    }

@@ -1,0 +1,133 @@
+-- Facts on the run with an extension.
+use Rattle.std.proofs.Common.{◌≡◌, ◌≢◌, ℕ, zero, suc, ◌<◌, ◌≤◌, List, get_or, Option, Some, None, false, refl, sym, ap, ◌∙◌, subst, arith, inl, inr}
+use Rattle.std.specs.Prelude.{slice_index}
+use Rattle.std.proofs.lemmas.List.{get_or_past}
+use Rattle.std.proofs.lemmas.Bool.{cases_lt}
+use Rattle.ix_bits.specs.declared.number.Bits.{Bits}
+use Rattle.ix_eval.proofs.Tables.{table_at}
+use Rattle.ix_extension.specs.Extensions.{ExtensionTree}
+use Rattle.rv_effect.specs.Decoding.{decoded_in}
+use Rattle.rv_effect.specs.WordEffects.{AreWide}
+use Rattle.rv_seq.specs.declared.arch.Arch.{Arch}
+use Rattle.rv_seq.specs.declared.answer.StepAnswer.{StepAnswer}
+use Rattle.rv_seq.specs.declared.answer.StepAnswer.TheVariants.{Done, Stopped}
+use Rattle.rv_seq.specs.declared.commit.Commit.{Commit}
+use Rattle.rv_seq.specs.declared.commit.Slot.TheVariants.{Absent}
+use Rattle.rv_seq.specs.declared.commit.Stop.{Stop}
+use Rattle.rv_seq.specs.Commits.{applied, with_slot, with_customs}
+use Rattle.rv_seq.specs.States.{zero_bit}
+use Rattle.rv_seq.specs.States.{first as first_state}
+use Rattle.rv_seq.specs.Steps.{word_at, of_word, of_decoded, after, step}
+use Rattle.rv_seq.specs.Runs.{run as seq_run}
+use Rattle.rv_engine.specs.Settings.{Setting, tree_of}
+use Rattle.rv_lawful.specs.Settings.{does_access, word_accesses}
+use Rattle.rv_lawful.specs.Sight.{asked, IsKept}
+use Rattle.rv_machine.specs.Placed.{judged, run, IsReady}
+
+-- what the step at a place comes to
+abbrev pub answer : Setting → ℕ → StepAnswer
+answer k p = (judged k).course.answer p
+
+pub run_suc : (k : Setting) (p : ℕ) → run k (suc p) ≡ after (run k p) (answer k p)
+unfolding seq_run
+run_suc k p = refl
+
+step_at : (x : ExtensionTree) (image : List ℕ) (s : Arch) (o : Option ℕ) → word_at image s.pc ≡ o → step x image s ≡ of_word x s o
+unfolding step
+step_at x image s o w = ap (λ q. of_word x s q) w
+
+-- at a place with a word the step is that of the word
+pub step_word : (k : Setting) (p word : ℕ) → word_at k.image (run k p).pc ≡ Some word → answer k p ≡ of_decoded (tree_of k) (run k p) word (decoded_in (tree_of k) word)
+step_word k p word w = step_at (tree_of k) k.image (run k p) (Some word) w
+
+-- and it accesses the memory where that does
+pub access_word : (k : Setting) (p word : ℕ) → word_at k.image (run k p).pc ≡ Some word → (judged k).course.accesses p ≡ does_access (tree_of k) (run k p) word (decoded_in (tree_of k) word)
+access_word k p word w = ap (λ o. word_accesses (tree_of k) (run k p) o) w
+
+-- what its record leaves as it is
+pub kept_word : (k : Setting) (ready : IsReady k) (p word : ℕ) (c : Commit) → word_at k.image (run k p).pc ≡ Some word → answer k p ≡ Done c → IsKept (asked k.design word) (run k p) word c
+kept_word k ready p word c w h = ready.keeps word (run k p) c (ready.wide p) (ready.words p) (ready.image (run k p).pc word w) (ready.pcs p) (sym (step_word k p word w) ∙ h)
+
+run_done : (k : Setting) (p : ℕ) (c : Commit) → answer k p ≡ Done c → run k (suc p) ≡ applied c (run k p)
+run_done k p c h = run_suc k p ∙ ap (λ a. after (run k p) a) h
+
+run_stopped : (k : Setting) (p : ℕ) (stop : Stop) → answer k p ≡ Stopped stop → run k (suc p) ≡ run k p
+run_stopped k p stop h = run_suc k p ∙ ap (λ a. after (run k p) a) h
+
+-- a fact on the state behind a step: where it stops, and where it writes a record
+after_step : (k : Setting) (p : ℕ) (P : Arch → Type 0) → P (run k p) → ((c : Commit) → answer k p ≡ Done c → P (applied c (run k p))) → P (run k (suc p))
+after_step k p P same done = by_answer (answer k p) refl where
+  by_answer : (a : StepAnswer) → answer k p ≡ a → P (run k (suc p))
+  by_answer (Done c) h = subst P (sym (run_done k p c h)) (done c h)
+  by_answer (Stopped stop) h = subst P (sym (run_stopped k p stop h)) same
+
+-- a register that is not written
+pub run_other : (k : Setting) (ready : IsReady k) (p word reg : ℕ) → word_at k.image (run k p).pc ≡ Some word → (asked k.design word).destination ≢ reg → slice_index (run k (suc p)).x reg ≡ slice_index (run k p).x reg
+run_other k ready p word reg w ne =
+    after_step k p (λ s. slice_index s.x reg ≡ slice_index (run k p).x reg) refl
+    (λ c h. (kept_word k ready p word c w h).x reg (λ e. ne (sym e)))
+
+-- memory, where the instruction does not store
+pub run_memory : (k : Setting) (ready : IsReady k) (p word : ℕ) → word_at k.image (run k p).pc ≡ Some word → (asked k.design word).stores ≡ false → (run k (suc p)).mem ≡ (run k p).mem
+run_memory k ready p word w n =
+    after_step k p (λ s. s.mem ≡ (run k p).mem) refl (λ c h. (kept_word k ready p word c w h).memory n)
+
+-- ---- custom registers
+
+custom_of : (c : Commit) (s : Arch) → (applied c s).custom ≡ with_customs s.custom c.custom
+unfolding applied
+custom_of c s = refl
+
+-- one of the sixteen behind a record
+pub custom_at : (c : Commit) (s : Arch) (reg : ℕ) → reg < 16 → get_or (applied c s).custom reg zero_bit ≡ with_slot (get_or s.custom reg zero_bit) (get_or c.custom reg Absent)
+custom_at c s reg lt =
+    ap (λ l. get_or l reg zero_bit) (custom_of c s)
+    ∙ table_at (λ r. with_slot (get_or s.custom r zero_bit) (get_or c.custom r Absent)) 16 reg zero_bit lt
+
+-- one past the sixteen
+pub custom_past : (x : ExtensionTree) (file : List Bits) (reg : ℕ) → AreWide x file → 16 ≤ reg → get_or file reg zero_bit ≡ zero_bit
+custom_past x file reg h le = let n = h.count in get_or_past file reg zero_bit (omega (arith, n, le))
+
+pub run_done_custom : (k : Setting) (p : ℕ) (c : Commit) (reg : ℕ) → answer k p ≡ Done c → reg < 16 → get_or (run k (suc p)).custom reg zero_bit ≡ with_slot (get_or (run k p).custom reg zero_bit) (get_or c.custom reg Absent)
+run_done_custom k p c reg h lt = ap (λ (s : Arch). get_or s.custom reg zero_bit) (run_done k p c h) ∙ custom_at c (run k p) reg lt
+
+-- one that is not used
+pub run_custom : (k : Setting) (ready : IsReady k) (p word reg : ℕ) → word_at k.image (run k p).pc ≡ Some word → get_or (asked k.design word).customs reg false ≡ false → get_or (run k (suc p)).custom reg zero_bit ≡ get_or (run k p).custom reg zero_bit
+run_custom k ready p word reg w n = elim (cases_lt reg 16) [
+  | inl lt ↦ after_step k p (λ s. get_or s.custom reg zero_bit ≡ get_or (run k p).custom reg zero_bit) refl
+      (λ c h. custom_at c (run k p) reg lt ∙ ap (λ o. with_slot (get_or (run k p).custom reg zero_bit) o) ((kept_word k ready p word c w h).customs reg n))
+  | inr le ↦ custom_past (tree_of k) (run k (suc p)).custom reg (ready.wide (suc p)) le ∙ sym (custom_past (tree_of k) (run k p).custom reg (ready.wide p) le)
+]
+
+-- ---- x0 is 0
+
+zero_step : (k : Setting) (ready : IsReady k) (p : ℕ) (o : Option ℕ) → word_at k.image (run k p).pc ≡ o → slice_index (run k (suc p)).x 0 ≡ slice_index (run k p).x 0
+zero_step k ready p None w =
+    after_step k p (λ s. slice_index s.x 0 ≡ slice_index (run k p).x 0) refl
+    (λ c h. absurd (cc (step_at (tree_of k) k.image (run k p) None w, h)))
+zero_step k ready p (Some word) w =
+    after_step k p (λ s. slice_index s.x 0 ≡ slice_index (run k p).x 0) refl (λ c h. (kept_word k ready p word c w h).zero)
+
+pub run_zero : (k : Setting) (ready : IsReady k) (p : ℕ) → slice_index (run k p).x 0 ≡ 0
+unfolding seq_run first_state
+run_zero k ready zero = refl
+run_zero k ready (suc p) = zero_step k ready p (word_at k.image (run k p).pc) refl ∙ run_zero k ready p
+
+-- ---- a step that writes a record
+
+-- its record, and the pc behind it
+pub record GoesOn (k : Setting) (p code : ℕ) (c : Commit) : Type 0 where
+  pub at : c.at ≡ (run k p).pc
+  pub word : c.word ≡ code
+  pub state : run k (suc p) ≡ applied c (run k p)
+  pub pc : (run k (suc p)).pc ≡ c.next
+
+pub goes_on : (k : Setting) (ready : IsReady k) (p word : ℕ) (c : Commit) → word_at k.image (run k p).pc ≡ Some word → answer k p ≡ Done c → GoesOn k p word c
+goes_on k ready p word c w h =
+    let kept = kept_word k ready p word c w h in
+    record {
+      at = kept.at;
+      word = kept.word;
+      state = run_done k p c h;
+      pc = ap (λ (s : Arch). s.pc) (run_done k p c h) ∙ kept.next;
+    }

@@ -1,0 +1,22 @@
+-- What is known of what goes out in a row that a machine makes, so that it can be shown to agree with the run (this project's choice).
+use Rattle.std.specs.Prelude.{◌≡◌, ◌+◌, List, ◌∷◌, Some, None}
+use Rattle.rv_seq.specs.declared.commit.Commit.{Commit}
+use Rattle.rv_seq.specs.declared.answer.StepAnswer.TheVariants.{Done}
+use Rattle.rv_seq.specs.Runs.{answer_at}
+use Rattle.rv_trace.specs.declared.row.Row.{Row}
+use Rattle.rv_trace.specs.Trace.{place, retirements}
+use Rattle.rv_holds.specs.declared.token.Token.{Token}
+use Rattle.rv_holds.specs.Tokens.{commit_of}
+use Rattle.rv_engine.specs.Settings.{Setting, Machine, tree_of}
+use Rattle.rv_engine.specs.Rows.{advanced, seen_by, fetch_by, left_by}
+use Rattle.rv_lawful.specs.Settings.{architecture}
+use Rattle.rv_machine.specs.Placed.{run, tail, expected}
+use Rattle.rv_machine.specs.Told.{NoStops, out_of}
+
+pub record Left (k : Setting) (earlier : List Row) (m : Machine) (row : Row) : Type 0 where
+  pub serial : (t : Token) → left_by k m ≡ Some t → place (row ∷ earlier) t.cell.serial ≡ retirements earlier
+  pub recorded : (t : Token) (c : Commit) → left_by k m ≡ Some t → commit_of t ≡ Some c → answer_at (tree_of k) k.image (retirements earlier) ≡ Done c
+  pub now : retirements (row ∷ earlier) ≡ retirements earlier + out_of (seen_by k m)
+  pub state : architecture (tree_of k) (row ∷ earlier) ≡ run k (retirements (row ∷ earlier))
+  -- where no token stops the run, the next fetch is from behind the tokens that are left
+  pub fetch : NoStops k 0 (seen_by k m) → fetch_by k m ≡ expected k (retirements (row ∷ earlier)) 1 (tail (advanced None (seen_by k m)))

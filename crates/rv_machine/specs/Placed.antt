@@ -1,0 +1,192 @@
+-- Where the tokens of a pipeline with an extension stand in the sequential run, and what ties its machine to the rows before (this project's choice).
+use Rattle.std.specs.Prelude.{◌≡◌, ℕ, zero, suc, ◌+◌, ◌-◌, ◌%◌, ◌^◌, ◌<◌, ◌≤◌, List, [], ◌∷◌, drop, length, get_or, Option, Some, None, Bool, true, false, if◌then◌else◌, ◌==◌, is_some, nat_lt, slice_get, slice_index}
+use Rattle.ix_bits.specs.declared.number.Bits.{Bits}
+use Rattle.rv_core.specs.declared.Shape.{Shape}
+use Rattle.rv_isa.specs.Fields.{rs1_of, rs2_of}
+use Rattle.rv_effect.specs.Decoding.{decoded_in}
+use Rattle.rv_seq.specs.declared.arch.Arch.{Arch}
+use Rattle.rv_seq.specs.States.{zero_bit}
+use Rattle.rv_seq.specs.Steps.{word_at}
+use Rattle.rv_seq.specs.Runs as Runs
+use Rattle.rv_trace.specs.declared.row.Row.{Row}
+use Rattle.rv_trace.specs.Trace.{newest, place, is_flushed, is_retired, retirements, rows_without}
+use Rattle.rv_trace.specs.LawfulTrace.{MovesInto, names_of, serial_after}
+use Rattle.rv_tried.specs.declared.trial.Trial.{Trial}
+use Rattle.rv_waits.specs.Waits.{greatest}
+use Rattle.rv_holds.specs.declared.token.Token.{Token}
+use Rattle.rv_holds.specs.Tokens.{Slots, cell_of, cells_of, stop_in}
+use Rattle.rv_holds.specs.Holds.{oldest, is_late, writes_late}
+use Rattle.rv_engine.specs.Settings.{Setting, Machine, shape_of, tree_of}
+use Rattle.rv_engine.specs.Rows.{first_slot, owed_by}
+use Rattle.rv_lawful.specs.Settings as Lawful
+use Rattle.rv_lawful.specs.LawfulTrace.{fetch_address, next_serial, IsWordOf}
+use Rattle.rv_lawful.specs.Sight.{asked, HasWords, AreWords, IsEarly, EarlyLaw, ExactLaw, KeepsLaw, TailLaw}
+use Rattle.rv_effect.specs.WordEffects.{AreWide}
+
+-- what the rows of a setting are judged against
+abbrev pub judged : Setting → Lawful.Setting
+judged k = Lawful.setting k.design k.image k.waits
+
+-- the state after so many steps of the run
+abbrev pub run : Setting → ℕ → Arch
+run k p = Runs.run (tree_of k) k.image p
+
+-- what a core and its extension have to keep: the numbers of the stages, and that words come to what the run's steps come to
+pub record IsReady (k : Setting) : Type 0 where
+  pub rd_pos : 0 < (shape_of k).rd
+  pub rd_ex : (shape_of k).rd ≤ (shape_of k).ex
+  pub ex_rd : (shape_of k).ex ≤ (shape_of k).rd + 1
+  pub ex_mem : (shape_of k).ex < (shape_of k).mem
+  pub mem_last : (shape_of k).mem < (shape_of k).stages
+  pub ex_last : (shape_of k).ex + 1 < (shape_of k).stages
+  pub most : (shape_of k).stages ≤ 5
+  pub early : EarlyLaw k.design
+  pub exact : ExactLaw k.design
+  pub keeps : KeepsLaw k.design
+  pub tails : TailLaw k.design
+  pub wide : (p : ℕ) → AreWide (tree_of k) (run k p).custom
+  pub words : (p : ℕ) → HasWords (run k p)
+  pub pcs : (p : ℕ) → (run k p).pc < 2 ^ 32
+  pub image : (at word : ℕ) → word_at k.image at ≡ Some word → word < 2 ^ 32
+
+abbrev pub one_more : Option Token → ℕ → ℕ
+one_more None n = n
+one_more (Some t) n = suc n
+
+-- how many tokens there are
+abbrev pub count : Slots → ℕ
+count [] = 0
+count (s ∷ rest) = one_more s (count rest)
+
+-- the stage as which a token leaves its successor is settled: EX, or the last one where it writes the pc late
+abbrev pub settling_stage : Setting → Token → ℕ
+settling_stage k t = if is_late t then (shape_of k).stages - 1 else (shape_of k).ex
+
+-- is the address behind a token of this stage known? It has left the stage that settles it
+abbrev pub is_known : Setting → ℕ → Token → Bool
+is_known k stage t = nat_lt (settling_stage k t) stage
+
+-- the address that comes after a token of the place p in the stage: the run's where it is known, and a guess before
+abbrev pub expected_after : Setting → ℕ → ℕ → Option Token → ℕ → ℕ
+expected_after k p stage None address = address
+expected_after k p stage (Some t) address = if is_known k stage t then (run k (suc p)).pc else (t.cell.at + 4) % 2 ^ 32
+
+-- the address that the next younger token has, or that is fetched next, where these stand from the stage on
+abbrev pub expected : Setting → ℕ → ℕ → Slots → ℕ
+expected k r stage [] = (run k r).pc
+expected k r stage (s ∷ older) = expected_after k (r + count older) stage s (expected k r (suc stage) older)
+
+-- the token was tried, comes to what the step of place p comes to but for rd and late writes, and accesses the memory where that step does
+pub record IsTried (k : Setting) (p : ℕ) (t : Token) (trial : Trial) : Type 0 where
+  pub tried : t.trial ≡ Some trial
+  pub early : IsEarly t.asks trial.answer ((judged k).course.answer p)
+  pub accesses : trial.accesses ≡ (judged k).course.accesses p
+
+-- the token of the place p stands in this stage, at this address, with these older ones
+pub record IsPlaced (k : Setting) (p address stage : ℕ) (older : Slots) (t : Token) : Type 0 where
+  pub at : t.cell.at ≡ address
+  pub word : word_at k.image t.cell.at ≡ Some t.cell.word
+  pub decoded : t.decoded ≡ decoded_in (tree_of k) t.cell.word
+  pub asks : t.asks ≡ asked k.design t.cell.word
+  pub input_word : t.inputs.word ≡ t.cell.word
+  pub input_pc : t.inputs.pc ≡ t.cell.at
+  pub words : AreWords t.inputs
+  pub wide : AreWide (tree_of k) t.inputs.custom
+  -- past RD it has the operands of the run
+  pub first : (shape_of k).rd < stage → rs1_of t.cell.word ≡ t.asks.first → t.inputs.rs1 ≡ slice_index (run k p).x (rs1_of t.cell.word)
+  pub second : (shape_of k).rd < stage → rs2_of t.cell.word ≡ t.asks.second → t.inputs.rs2 ≡ slice_index (run k p).x (rs2_of t.cell.word)
+  -- before EX it was not tried; where it was, no older one was late or owed it a custom register
+  pub untried : stage < (shape_of k).ex → t.trial ≡ None
+  pub tried : (trial : Trial) → t.trial ≡ Some trial → IsTried k p t trial
+  pub settled : (trial : Trial) → t.trial ≡ Some trial → oldest is_late older ≡ None
+  pub clear : (trial : Trial) → t.trial ≡ Some trial → (r : ℕ) → get_or t.asks.customs r false ≡ true → oldest (writes_late r) older ≡ None
+  pub seen : (trial : Trial) → t.trial ≡ Some trial → (r : ℕ) → get_or t.asks.customs r false ≡ true → get_or t.inputs.custom r zero_bit ≡ get_or (run k p).custom r zero_bit
+  -- past EX it was tried, and goes on
+  pub gone : (shape_of k).ex < stage → (trial : Trial) × (t.trial ≡ Some trial) × (stop_in trial.answer ≡ None)
+  -- what it was tried to is the run's, where it loads once it is past MEM
+  pub exact : (trial : Trial) → t.trial ≡ Some trial → (t.asks.loads ≡ true → (shape_of k).mem < stage) → trial.answer ≡ (judged k).course.answer p
+
+abbrev pub IsPlacedSlot : Setting → ℕ → ℕ → ℕ → Slots → Option Token → Type 0
+IsPlacedSlot k p address stage older None = Unit {0}
+IsPlacedSlot k p address stage older (Some t) = IsPlaced k p address stage older t
+
+-- each token stands in its place, where r are retired
+abbrev pub Placed : Setting → ℕ → ℕ → Slots → Type 0
+Placed k r stage [] = Unit {0}
+Placed k r stage (s ∷ older) = IsPlacedSlot k (r + count older) (expected k r (suc stage) older) stage older s × Placed k r (suc stage) older
+
+-- each token is not flushed, and has as its place the number of tokens beyond it and of those retired
+abbrev pub Serials : List Row → ℕ → Slots → Type 0
+Serials rows r [] = Unit {0}
+Serials rows r (None ∷ older) = Serials rows r older
+Serials rows r (Some t ∷ older) = ((place rows t.cell.serial ≡ r + count older) × (is_flushed rows t.cell.serial ≡ false)) × Serials rows r older
+
+-- a token of this serial has this word
+abbrev pub HasWord : Slots → ℕ → ℕ → Type 0
+HasWord slots s word = (n : ℕ) (u : Token) → slice_get slots n ≡ Some (Some u) → u.cell.serial ≡ s → u.cell.word ≡ word
+
+-- the slots behind stage 0
+abbrev pub tail : Slots → Slots
+tail [] = []
+tail (s ∷ older) = older
+
+-- the slots past EX
+abbrev pub past_ex : Setting → Slots → Slots
+past_ex k slots = drop (suc (shape_of k).ex) slots
+
+-- the tokens past EX whose writes of a custom register the future file has: all, or those older than the one that writes it late
+abbrev pub settled_before : ℕ → Slots → ℕ
+settled_before reg [] = 0
+settled_before reg (s ∷ older) = if is_some (oldest (writes_late reg) (s ∷ older)) then settled_before reg older else count (s ∷ older)
+
+-- the future file has each custom register as the run has it behind these
+abbrev pub IsFuture : Setting → ℕ → List Bits → Slots → Type 0
+IsFuture k r future gone = (reg : ℕ) → get_or future reg zero_bit ≡ get_or (run k (r + settled_before reg gone)).custom reg zero_bit
+
+-- the rows for which a token of this stage may still wait for the memory: the most before MEM, so many at MEM, none behind it
+abbrev pub may_wait : Shape → ℕ → ℕ → ℕ → ℕ
+may_wait k most owed stage = if nat_lt stage k.mem then most else if stage == k.mem then owed else 0
+
+abbrev pub here : Shape → ℕ → ℕ → ℕ → Option Token → ℕ → ℕ
+here k most owed stage None n = 0
+here k most owed stage (Some t) n = suc (n + may_wait k most owed stage + t.tail)
+
+abbrev pub first_of_two : ℕ → ℕ → ℕ
+first_of_two zero b = b
+first_of_two (suc a) b = suc a
+
+-- how many rows the oldest token has still to go, to wait and to be held for its module, 0 where there is none
+abbrev pub to_go : Shape → ℕ → ℕ → ℕ → Slots → ℕ
+to_go k most owed stage [] = 0
+to_go k most owed stage (s ∷ older) = first_of_two (to_go k most owed (suc stage) older) (here k most owed stage s (length older))
+
+-- the rows that may still pass without a retirement: with no token, all that one may need, its module's 64 cycles among them
+abbrev pub rank : Shape → ℕ → ℕ → Slots → ℕ
+rank k most owed slots = first_of_two (to_go k most owed 0 slots) (suc (k.stages + most + 64))
+
+-- what ties the machine to the rows before
+pub record Inv (k : Setting) (earlier : List Row) (m : Machine) : Type 0 where
+  pub stages : length m.slots ≡ (shape_of k).stages
+  pub arch : m.arch ≡ run k (retirements earlier)
+  pub next_place : place earlier m.next ≡ retirements earlier + count m.slots
+  pub next_first : serial_after m.next (cell_of (first_slot m.slots)) ≡ m.next
+  pub fetch : m.fetch ≡ expected k (retirements earlier) 1 (tail m.slots)
+  pub few : m.next ≤ length earlier
+  pub few_accesses : m.accesses ≤ length earlier
+  pub few_stood : m.stood ≤ length earlier
+  pub accesses : m.accesses ≡ Lawful.accesses_before (judged k).course (retirements earlier + count (drop (suc (shape_of k).mem) m.slots))
+  pub stood_is : (t : Token) (older : Slots) → drop (shape_of k).mem m.slots ≡ Some t ∷ older → m.stood ≡ Lawful.stood (judged k) earlier t.cell.serial
+  pub tail_is : (n : ℕ) (t : Token) (older : Slots) → drop n m.slots ≡ Some t ∷ older → t.tail + Lawful.tailed (judged k) earlier t.cell.serial ≡ t.asks.tail
+  pub future : IsFuture k (retirements earlier) m.future (past_ex k m.slots)
+  pub future_wide : AreWide (tree_of k) m.future
+  pub placed : Placed k (retirements earlier) 0 m.slots
+  pub serials : Serials earlier (retirements earlier) m.slots
+  pub fetch_is : m.fetch ≡ fetch_address (judged k) earlier
+  pub next_is : m.next ≡ next_serial (judged k) earlier
+  pub moved : MovesInto (newest earlier) None (Lawful.stages_of (judged k) (newest earlier)) (names_of (cells_of m.slots))
+  pub words : (s word : ℕ) → IsWordOf (judged k) earlier s word → HasWord m.slots s word
+  pub fresh : (s word : ℕ) → IsWordOf (judged k) earlier s word → s < m.next
+  pub retired : (s : ℕ) → is_flushed earlier s ≡ false → is_retired earlier s ≡ nat_lt (place earlier s) (retirements earlier)
+  pub unflushed : (s : ℕ) → m.next ≤ s → is_flushed earlier s ≡ false
+  pub state : Lawful.architecture (tree_of k) earlier ≡ run k (retirements earlier)
+  pub progress : rows_without earlier + rank (shape_of k) (greatest k.waits) (owed_by k m) m.slots ≤ (shape_of k).stages + greatest k.waits + 65

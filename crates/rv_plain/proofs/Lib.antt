@@ -1,0 +1,2 @@
+mod Native
+mod Standing
