@@ -2,7 +2,7 @@
 """Makes stdin and stdout of crates/unroll_cases: unroll_cases.py VECTORS ...
 
 Each VECTORS is a file of JSON lines, plain or gzipped, a case a line, whose `files` or `ext` have texts of extensions; taken are those with
-a loop that are not nested too deep, and before them the texts of tools/unroll. The answers come from the parser and the unrolling below, which follow docs/LANGUAGE.md
+a loop that are not nested too deep, and before them the texts of tools/unroll (in a file with several, lines of four dashes part them). The answers come from the parser and the unrolling below, which follow docs/LANGUAGE.md
 and share nothing with the crates.
 """
 import gzip
@@ -610,7 +610,8 @@ def texts_of(path):
 
 
 def main():
-    taken = [path.read_text() for path in sorted((TOP / "tools" / "unroll").glob("*.core_desc"))]
+    files = sorted((TOP / "tools" / "unroll").glob("*.core_desc*"))
+    taken = [text for path in files for text in path.read_text().split("----\n")]
     for path in sys.argv[1:]:
         for text in texts_of(path):
             if isinstance(text, str) and re.search(r"\bfor\b", text) and text not in taken:

@@ -8,8 +8,6 @@ mod memory;
 mod name;
 mod number;
 mod operator;
-#[cfg(test)]
-mod tests;
 mod width;
 
 pub use arithmetic::{binary, cast, is_negative, range, unary, width_of_both};

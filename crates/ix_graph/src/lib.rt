@@ -6,8 +6,6 @@ mod graph;
 mod kind;
 mod laws;
 mod role;
-#[cfg(test)]
-mod tests;
 
 pub use args::{Arg, Args};
 pub use graph::{Graph, Mode, Op};

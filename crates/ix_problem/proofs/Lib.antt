@@ -5,5 +5,4 @@ mod Trails
 mod ChainLists
 mod BoundLists
 pub mod Places
-mod Additions
 mod EdgeRelation

@@ -5,8 +5,6 @@ mod bounds;
 mod chains;
 mod problem;
 mod reach;
-#[cfg(test)]
-mod tests;
 
 pub use bounds::constraints;
 pub use problem::problem_of;

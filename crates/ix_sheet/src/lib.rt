@@ -6,8 +6,6 @@ mod problem;
 mod read;
 mod rules;
 mod sheet;
-#[cfg(test)]
-mod tests;
 mod window;
 
 pub use laws::{bounds_law, chosen_law, cycle_law, flow_law, minimum_law, problem_law};

@@ -6,8 +6,6 @@ mod extension;
 mod grammar;
 mod section;
 mod stmt;
-#[cfg(test)]
-mod tests;
 mod token;
 mod typed;
 

@@ -3,8 +3,6 @@
 
 mod laws;
 mod result_type;
-#[cfg(test)]
-mod tests;
 
 pub use laws::result_laws;
 pub use result_type::{TypeErr, common, embeds, type_of_binary, type_of_unary};

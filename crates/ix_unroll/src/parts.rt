@@ -69,7 +69,7 @@ pub fn choice(
 ) -> Result<Stmt, Memory>
     ensures { IfOk result (λ r. view_whole r ≡ s_if span (put (bindings scope.now) (view condition.now)) (view_whole x)) }
 {
-    let x = Box::new(alloc, x)?;
+    let x = boxed(alloc, x)?;
     let condition = put(alloc, scope, condition)?;
     Ok(Stmt {
         span,
@@ -90,8 +90,31 @@ pub fn choice_else(
     ensures ok { OnOk result (IsOk y) }
     ensures err { IfErr result (λ e. KeepsErr y e) }
 {
-    let y = Box::new(alloc, y?)?;
-    let x = Box::new(alloc, x)?;
+    match y {
+        Ok(y) => Ok(both(alloc, scope, span, condition, x, y)?),
+        Err(error) => {
+            drop(x);
+            Err(error)
+        }
+    }
+}
+
+// An `if` with both its branches.
+fn both(
+    alloc: Global,
+    scope: &Scope,
+    span: Span,
+    condition: &Expr,
+    x: Stmt,
+    y: Stmt,
+) -> Result<Stmt, Memory>
+    ensures { IfOk result (λ r. view_whole r ≡ s_if_else span (put (bindings scope.now) (view condition.now)) (view_whole x) (view_whole y)) }
+{
+    let Ok(y) = boxed(alloc, y) else {
+        drop(x);
+        return Err(Memory);
+    };
+    let x = boxed(alloc, x)?;
     let condition = put(alloc, scope, condition)?;
     Ok(Stmt {
         span,
@@ -99,11 +122,18 @@ pub fn choice_else(
     })
 }
 
+// The statement in a box of its own.
+fn boxed(alloc: Global, x: Stmt) -> Result<Box<Stmt>, Memory>
+    ensures { IfOk result (λ r. view_whole r.value ≡ view_whole x) }
+{
+    Ok(Box::new(alloc, x)?)
+}
+
 /// A `spawn` over a body that is without loops.
 pub fn spawned(alloc: Global, span: Span, x: Stmt) -> Result<Stmt, Memory>
     ensures { IfOk result (λ r. view_whole r ≡ s_spawn span (view_whole x)) }
 {
-    let x = Box::new(alloc, x)?;
+    let x = boxed(alloc, x)?;
     Ok(Stmt {
         span,
         kind: StmtKind::Spawn(x),

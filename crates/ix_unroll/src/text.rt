@@ -110,7 +110,10 @@ fn unrolled_instruction(alloc: Global, count: &mut u32, instr: Instr) -> Result<
     ensures refused { IfErr result (λ e. Refuses e count.old (met (view_whole instr.body) [])) }
 {
     match alone(alloc, &Scope::Outside, count, &instr.body) {
-        Err(error) => Err(error),
+        Err(error) => {
+            drop(instr);
+            Err(error)
+        }
         Ok(body) => Ok(with_body(instr, body)),
     }
 }
@@ -119,10 +122,17 @@ fn unrolled_instruction(alloc: Global, count: &mut u32, instr: Instr) -> Result<
 fn with_body(instr: Instr, body: Stmt) -> Instr
     ensures { view_instr result ≡ record { span = instr.span; name = instr.name; pieces = instr.pieces; body = view_whole body } }
 {
+    let Instr {
+        span,
+        name,
+        pieces,
+        body: former,
+    } = instr;
+    drop(former);
     Instr {
-        span: instr.span,
-        name: instr.name,
-        pieces: instr.pieces,
+        span,
+        name,
+        pieces,
         body,
     }
 }
@@ -150,11 +160,23 @@ fn unrolled_block(alloc: Global, count: &mut u32, block: BlockText) -> Result<Bl
     ensures refused { IfErr result (λ e. Refuses e count.old (met (view_whole block.body) [])) }
 {
     match alone(alloc, &Scope::Outside, count, &block.body) {
-        Err(error) => Err(error),
-        Ok(body) => Ok(BlockText {
-            span: block.span,
-            name: block.name,
-            body,
-        }),
+        Err(error) => {
+            drop(block);
+            Err(error)
+        }
+        Ok(body) => Ok(with_block_body(block, body)),
     }
+}
+
+// The always-block with this behaviour.
+fn with_block_body(block: BlockText, body: Stmt) -> BlockText
+    ensures { view_block result ≡ record { span = block.span; name = block.name; body = view_whole body } }
+{
+    let BlockText {
+        span,
+        name,
+        body: former,
+    } = block;
+    drop(former);
+    BlockText { span, name, body }
 }

@@ -5,8 +5,6 @@ ghost use Rattle.std.specs.Prelude.{ℕ, ◌≡◌, ◌≤◌, ◌<◌, ◌+◌}
 ghost use Rattle.rv_core.specs.Stages.{IsLawful};
 
 mod cores;
-#[cfg(test)]
-mod tests;
 
 pub use cores::{CoreKind, Five, Four, Three};
 

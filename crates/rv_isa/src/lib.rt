@@ -9,8 +9,6 @@ mod image;
 mod law;
 pub mod rows;
 mod table;
-#[cfg(test)]
-mod tests;
 mod word;
 
 pub use base::Base;

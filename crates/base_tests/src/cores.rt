@@ -1,0 +1,42 @@
+use rv_core::{Core, CoreKind, Shape, shape_of};
+
+/// A core of a user: one more `impl`, with the proof of its law.
+struct Late;
+
+impl Core for Late {
+    const STAGES: u8 = 5;
+
+    const RD: u8 = 2;
+
+    const EX: u8 = 3;
+
+    const MEM: u8 = 4;
+
+    ghost use Rattle.rv_core.specs.Stages.{late_lawful};
+
+    ghost STAGES = { 5 };
+
+    ghost RD = { 2 };
+
+    ghost EX = { 3 };
+
+    ghost MEM = { 4 };
+
+    ghost lawful = { late_lawful };
+}
+
+fn numbers(shape: Shape) -> (u8, u8, u8, u8) {
+    (shape.stages, shape.rd, shape.ex, shape.mem)
+}
+
+#[test]
+fn named_cores(rt: HostRuntime) {
+    assert_eq!(rt; numbers(CoreKind::Three.shape()), (3, 1, 1, 2));
+    assert_eq!(rt; numbers(CoreKind::Four.shape()), (4, 1, 2, 3));
+    assert_eq!(rt; numbers(CoreKind::Five.shape()), (5, 1, 2, 3));
+}
+
+#[test]
+fn a_core_of_a_user(rt: HostRuntime) {
+    assert_eq!(rt; numbers(shape_of::<Late>()), (5, 2, 3, 4));
+}

@@ -1,0 +1,184 @@
+#!/usr/bin/env python3
+"""Makes stdin and stdout of crates/command_cases: the commands of docs/TUTORIAL.md (tools/commands/tutorial), programs on pipelines with extensions, whose answers come from a
+pipeline in another language written from the rules (tools/commands/runs), and, here below, commands on files, with reads and writes that fail, and the answers due by hand.
+"""
+import re
+from pathlib import Path
+
+END = "\x1e"
+FOLDER = Path(__file__).resolve().parent.parent / "crates" / "command_cases"
+parts, answers = [], []
+
+
+def file(name, text):
+    parts.append(f"file {name}\n{text}")
+
+
+def many(name, count, text):
+    parts.append(f"many {name} {count}\n{text}")
+
+
+def due(words, status, text, faults=None):
+    """A command, and what it writes with its exit status; `faults` are the failing read, the bytes of a read, the failing write and the bytes of a write."""
+    line = "faults " + " ".join(str(it) for it in faults) + "\n" if faults else ""
+    parts.append(line + words)
+    answers.append(f"{text}status {status}")
+
+
+# Five and seven are added, then a break.
+file("ADD", "00500093\n00700113\n002081b3\n00100073\n")
+ADD_RUN = """0 0@00000000 - -
+1 1@00000004 0@00000000 -
+2 2@00000008 1@00000004 0@00000000 r0
+= 0 00000000 00500093 x1=00000005
+3 3@0000000c/Behind 2@00000008/Operand(x2,1) 1@00000004 r1
+= 1 00000004 00700113 x2=00000007
+4 3@0000000c 2@00000008 -
+5 - 3@0000000c 2@00000008 r2 stop Ebreak
+= 2 00000008 002081b3 x3=0000000c
+state
+pc 0000000c
+x1 00000005
+x2 00000007
+x3 0000000c
+"""
+EMPTY_RUN = "0 - - - stop Fetch\nstate\npc 00000000\n"
+NO_CYCLE = "state\npc 00000000\n"
+
+due("run ADD 20", 0, ADD_RUN)
+# each write of ten bytes that fails leaves what was written before it, and one behind the last is never made
+for n in range(len(ADD_RUN) // 10 + 3):
+    if 10 * n < len(ADD_RUN):
+        due("run ADD 20", 5, ADD_RUN[: 10 * n], ("-", 4096, n, 10))
+    else:
+        due("run ADD 20", 0, ADD_RUN, ("-", 4096, n, 10))
+# thirty-six bytes take six reads of seven, and one more sees the end
+for n in range(9):
+    due("run ADD 20", 4 if n < 7 else 0, "refused ReadFault ADD\n" if n < 7 else ADD_RUN, (n, 7, "-", 4096))
+due("run LOST 5", 4, "refused ReadFault LOST\n")
+# a refusal that cannot be written
+due("run", 5, "", ("-", 7, 0, 10))
+
+file("EMPTY", "")
+for words in ["-", "run", "run EMPTY", "walk EMPTY 5", "run EMPTY 5 5", "run run EMPTY 5", "certify", "certify EMPTY EMPTY", "Certify EMPTY", "certify EMPTY 5 5", "certif EMPTY", "5 EMPTY run"]:
+    due(words, 2, "refused Usage\n")
+for cycles in ["", "+5", "-5", "5\t", "\t5", "0x5", "5_0", "five", "00000000005", "200001", "4294967297", "9999999999"]:
+    due(f"run EMPTY {cycles}", 2, "refused Usage\n")
+for cycles in ["5", "05", "0000000005", "200000"]:
+    due(f"run EMPTY {cycles}", 0, EMPTY_RUN)
+
+# lines of an image
+for n, text in enumerate(["00100073", "00100073\n", "# a note\n\n // another\r\n\t00100073 \r\n", "\n\n", "00A00093", "00a00093"]):
+    file(f"I{n}", text)
+    due(f"run I{n} 0", 0, NO_CYCLE)
+# a word with seven digits, with nine, with a letter that is no digit, with a space, a prefix, and a lone slash
+for n, text in enumerate(["\n0010007\n", "#\n001000733\n", "//\n0010007g", "00100073\n0010 0073", "\n0x100073", "\n/"]):
+    file(f"J{n}", text)
+    due(f"run J{n} 0", 9, "refused Image 2\n")
+# two words between lines that are skipped
+file("SKIPPED", "# adds\n\n  00500093\t\n// again\nFFf00113")
+due("run SKIPPED 2", 0, "0 0@00000000 - -\n1 1@00000004 0@00000000 -\nstate\npc 00000000\n")
+
+# the greatest file, and the greatest image
+many("LINES", 1048576, "\n")
+many("LINES1", 1048577, "\n")
+many("WORDS", 65536, "00000013\n")
+many("WORDS1", 65537, "00000013\n")
+due("run LINES 1", 0, EMPTY_RUN)
+due("run LINES1 1", 6, "refused TooLong LINES1\n")
+due("run WORDS 0", 0, NO_CYCLE)
+due("run WORDS1 0", 9, "refused Image 65537\n")
+
+# reports
+HEAD = "longnail report 1\nperiod 1000\n"
+READ = "behaviour read InPipeline\nop 0 RdPC delay 0 latency 0 early 1 late 2 time 1\n"
+file("R0", HEAD)
+file("R1", HEAD + READ + "cost 1\nflow 1 early 0\nend\n")
+for name in ["R0", "R1"]:
+    due(f"certify {name}", 0, "yes\n")
+for n, (report, line) in enumerate([
+    ("", "1 Line"),
+    ("longnail report 1\nperiod 0\n", "2 Line"),
+    ("refused x\nlongnail report 1\nperiod 9\nend\n", "4 Line"),
+    (HEAD + READ + "cost 2\nflow 1 early 0\nend\n", "5 Value"),
+]):
+    file(f"S{n}", report)
+    due(f"certify S{n}", 11, f"refused Certificate {line}\n")
+due("certify LINES", 11, "refused Certificate 1 Line\n")
+due("certify LINES1", 6, "refused TooLong LINES1\n")
+# thirty bytes take five reads of seven, and one more sees the end
+for n in range(8):
+    due("certify R0", 4 if n < 6 else 0, "refused ReadFault R0\n" if n < 6 else "yes\n", (n, 7, "-", 4096))
+due("certify LOST", 4, "refused ReadFault LOST\n")
+for n in range(6):
+    due("certify R0", 5 if n < 4 else 0, "yes\n"[:n] if n < 4 else "yes\n", ("-", 4096, n, 1))
+
+# an addition whose sum is wider than a register, and each front of its text
+ADDITION = "InstructionSet AddX extends RV32I {\n  instructions {\n    addx {\n      encoding: 7'd0 :: rs2[4:0] :: rs1[4:0] :: 3'd0 :: rd[4:0] :: 7'b0001011;\n      behavior: X[rd] = (unsigned<32>)(X[rs1] + X[rs2]);\n    }\n  }\n}"
+file("ADDX", ADDITION)
+due("check ADDX", 0, "set AddX\ninstruction addx mask fe00707f match 0000000b\npiece rs2 4 0 at 20\npiece rs1 4 0 at 15\npiece rd 4 0 at 7\n")
+TOKENS = [(it.start(), it.end(), it[0]) for it in re.finditer(r"[0-9]+'[bd][0-9]+|[0-9]+|[A-Za-z_][A-Za-z0-9_]*|::|[^\sA-Za-z0-9_]", ADDITION)]
+# words that no name may stand for where they stand
+FIXED = {"InstructionSet", "extends", "RV32I", "instructions", "encoding", "behavior"}
+
+
+def refusal_of_front(end):
+    """What is due of the text up to this byte: the token that is cut is none, is another one than the text wants, or would do, so that the text ends too early."""
+    for start, stop, token in TOKENS:
+        cut = token[: end - start]
+        if start < end < stop:
+            if re.fullmatch(r"[0-9]+'[bd]?", cut):
+                return f"BadNumber {start} {start}"
+            if token in FIXED or token == "::" or ("'" in token and "'" not in cut):
+                return f"At {start} {end}"
+    return f"At {end} {end}"
+
+
+for end in range(len(ADDITION)):
+    file(f"F{end}", ADDITION[:end])
+    due(f"check F{end}", 7, f"refused Extension {refusal_of_front(end)}\n")
+for n, (text, line) in enumerate([("/*", "Unclosed 0 0"), ("InstructionSet Two extends RV32I { } }", "At 37 38")]):
+    file(f"G{n}", text)
+    due(f"check G{n}", 7, f"refused Extension {line}\n")
+many("SPACES", 1048576, " ")
+many("SPACES1", 1048577, " ")
+due("check SPACES", 7, "refused Extension At 1048576 1048576\n")
+due("check SPACES1", 6, "refused TooLong SPACES1\n")
+
+# long texts: a comment, and 150,000 tokens, of which the first one begins no text
+many("COMMENT", 1048576, "/")
+due("check COMMENT", 7, "refused Extension At 1048576 1048576\n")
+many("TOKENS", 37500, "x + 10; ")
+due("check TOKENS", 7, "refused Extension At 0 1\n")
+
+# a product that is as wide as both registers, cut: scheduled, and without a schedule; each report is certified, and its flow or cycle is of the kind that the check accepts
+file("MULX", "InstructionSet MulX extends RV32I { instructions { mulx { encoding: 7'd0 :: rs2[4:0] :: rs1[4:0] :: 3'd0 :: rd[4:0] :: 7'b0001011; behavior: X[rd] = (unsigned<32>)(X[rs1] * X[rs2]); } } }")
+file("FIVE", 'core = "five"\nperiod = 1000\n[delay]\nmul = 600\n')
+file("SLOW", 'core = "five"\nperiod = 1000\n[delay]\nmul = 1200\n')
+LINES = """op 0 RdRS1 delay 0 latency 0 early 1 late 2 time 1
+op 1 RdRS2 delay 0 latency 0 early 1 late 2 time 1
+op 2 mul delay 600 latency 0 early 1 late 64 time 1
+op 3 cast delay 0 latency 0 early 1 late 64 time 1
+op 4 WrRD delay 0 latency 0 early 2 late 4 time 2
+edge 0 2
+edge 1 2
+edge 2 3
+edge 3 4
+cost 7
+"""
+FLOW = FLOW_OF_PRODUCT = "flow 3 early 0\nflow 2 early 1\n"
+NONE = """refused NoSchedule mulx
+longnail report 1
+period 1000
+behaviour mulx none
+"""
+for n, (sheet, line) in enumerate([("core =", "Toml -"), ("period = 1000\n", "Core core"), ('core = "five"\n', "Number period"), ('core = "five"\nperiod = 1000\n[window]\nWrRD = [1, 4]\n', "Window WrRD")]):
+    file(f"T{n}", sheet)
+    due(f"schedule MULX T{n}", 8, f"refused Sheet {line}\n")
+parts.append("byte NOTEXT 255")
+due("schedule MULX NOTEXT", 8, "refused Sheet Utf8 -\n")
+due("schedule EMPTY EMPTY", 7, "refused Extension At 0 0\n")
+
+STORED = [Path(__file__).resolve().parent / "commands" / name for name in ["tutorial", "runs"]]
+FOLDER.joinpath("stdin").write_bytes(b"".join(it.with_suffix(".cases").read_bytes() for it in STORED) + "".join(part + END for part in parts).encode())
+FOLDER.joinpath("stdout").write_bytes(b"".join(it.with_suffix(".answers").read_bytes() for it in STORED) + "".join(answer + END for answer in answers).encode())
