@@ -70,9 +70,16 @@ fn assigned(
     ensures { (r : Result T.Judged Refusal) → Tells value r → TellsAssign result state.new (assigned state.old span op at (seen_place place) r) }
 {
     match value {
-        Err(error) => Err(error),
+        Err(error) => {
+            drop(place);
+            Err(error)
+        }
         Ok(value) => match result_into(span, op, at, place.ty, value.tree.ty) {
-            Err(error) => Err(error),
+            Err(error) => {
+                drop(place);
+                drop(value);
+                Err(error)
+            }
             Ok(_) => written(state, span, op, place, value),
         },
     }
@@ -118,7 +125,11 @@ fn written(
     ensures { TellsAssign result state.new (Ok (record { item = record { span = span; target = typed_place place.tree; op = op; value = typed_view value.tree }; after = behind_write state.old place.writes value.accessed })) }
 {
     match write(state, place.writes, value.accessed) {
-        Err(error) => Err(error),
+        Err(error) => {
+            drop(place);
+            drop(value);
+            Err(error)
+        }
         Ok(()) => Ok(TypedAssign {
             span,
             target: place.tree,

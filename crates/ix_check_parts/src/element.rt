@@ -10,6 +10,7 @@ ghost use Rattle.ix_unroll.specs.Values as V;
 ghost use Rattle.ix_check_parts.specs.Telling.{seen, seen_pair, Tells, TellsType};
 
 use crate::CheckErr;
+use crate::boxes::{boxed_pair, boxed_triple};
 use crate::judged::{Judged, Pair};
 use crate::same::is_same;
 use crate::types::{goes_into, type_near};
@@ -34,8 +35,14 @@ pub fn word(
     ensures { (r : Result T.Judged Refusal) → Tells judged r → Tells result (word setting state.now accessed (view x.now) r) }
 {
     match &x.kind {
-        ExprKind::X => x_word(setting, state, accessed, x.span),
-        ExprKind::Mem => mem_word(setting, accessed, x.span),
+        ExprKind::X => {
+            drop(judged);
+            x_word(setting, state, accessed, x.span)
+        }
+        ExprKind::Mem => {
+            drop(judged);
+            mem_word(setting, accessed, x.span)
+        }
         _ => judged,
     }
 }
@@ -54,7 +61,10 @@ pub fn based(
     match &x.kind {
         ExprKind::Name(name) => match table(setting, state, name.as_str()) {
             None => judged,
-            Some(shape) => with_name(alloc, accessed, x.span, shape.ty, name),
+            Some(shape) => {
+                drop(judged);
+                with_name(alloc, accessed, x.span, shape.ty, name)
+            }
         },
         _ => word(setting, state, accessed, x, judged),
     }
@@ -139,9 +149,16 @@ pub fn indexed(
     ensures { (r : Result T.Judged Refusal) → Tells index r → Tells result (indexed setting state.now span (view x.now) (view i.now) (seen base) r) }
 {
     match index {
-        Err(error) => Err(error),
+        Err(error) => {
+            drop(base);
+            Err(error)
+        }
         Ok(index) => match element_type(setting, state, span, x, i, base.tree.ty, index.tree.ty) {
-            Err(error) => Err(error),
+            Err(error) => {
+                drop(base);
+                drop(index);
+                Err(error)
+            }
             Ok(ty) => element(alloc, span, ty, base.tree, index),
         },
     }
@@ -156,19 +173,16 @@ fn element(
 ) -> Result<Judged, CheckErr>
     ensures { Tells result (Ok (record { tree = t_index span ty (typed_view base) (typed_view index.tree); ty = ty; accessed = index.accessed })) }
 {
-    match Box::new(alloc, base) {
+    match boxed_pair(alloc, base, index.tree) {
         Err(_) => Err(CheckErr::Memory),
-        Ok(base) => match Box::new(alloc, index.tree) {
-            Err(_) => Err(CheckErr::Memory),
-            Ok(tree) => Ok(Judged {
-                tree: TypedExpr {
-                    span,
-                    ty,
-                    kind: TypedExprKind::Index(base, tree),
-                },
-                accessed: index.accessed,
-            }),
-        },
+        Ok((base, tree)) => Ok(Judged {
+            tree: TypedExpr {
+                span,
+                ty,
+                kind: TypedExprKind::Index(base, tree),
+            },
+            accessed: index.accessed,
+        }),
     }
 }
 
@@ -315,9 +329,16 @@ pub fn ranged(
     ensures { (r : Result T.Judged Refusal) → Tells low r → Tells result (ranged span (view x.now) (view h.now) (view l.now) (seen_pair both) r) }
 {
     match low {
-        Err(error) => Err(error),
+        Err(error) => {
+            drop(both);
+            Err(error)
+        }
         Ok(low) => match range_type(span, x, h, l, both.first.tree.ty, low.tree.ty) {
-            Err(error) => Err(error),
+            Err(error) => {
+                drop(both);
+                drop(low);
+                Err(error)
+            }
             Ok(ty) => range_of(alloc, span, ty, both, low),
         },
     }
@@ -326,22 +347,16 @@ pub fn ranged(
 fn range_of(alloc: Global, span: Span, ty: Ty, both: Pair, low: Judged) -> Result<Judged, CheckErr>
     ensures { Tells result (Ok (record { tree = t_range span ty (typed_view both.first.tree) (typed_view both.second.tree) (typed_view low.tree); ty = ty; accessed = low.accessed })) }
 {
-    match Box::new(alloc, both.first.tree) {
+    match boxed_triple(alloc, both.first.tree, both.second.tree, low.tree) {
         Err(_) => Err(CheckErr::Memory),
-        Ok(x) => match Box::new(alloc, both.second.tree) {
-            Err(_) => Err(CheckErr::Memory),
-            Ok(h) => match Box::new(alloc, low.tree) {
-                Err(_) => Err(CheckErr::Memory),
-                Ok(tree) => Ok(Judged {
-                    tree: TypedExpr {
-                        span,
-                        ty,
-                        kind: TypedExprKind::Range(x, h, tree),
-                    },
-                    accessed: low.accessed,
-                }),
+        Ok((x, h, tree)) => Ok(Judged {
+            tree: TypedExpr {
+                span,
+                ty,
+                kind: TypedExprKind::Range(x, h, tree),
             },
-        },
+            accessed: low.accessed,
+        }),
     }
 }
 

@@ -2,6 +2,7 @@
 #![tactic(auto)]
 
 mod assign;
+mod boxes;
 mod element;
 mod error;
 mod expression;

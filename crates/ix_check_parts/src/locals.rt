@@ -8,6 +8,7 @@ ghost use Rattle.ix_check_parts.specs.Telling.{Tells, TellsDecl, TellsDecls};
 
 use crate::CheckErr;
 use crate::assign::{fits_into, span_of};
+use crate::boxes::put;
 use crate::expression::expression;
 use crate::judged::Judged;
 use ix_bits::{Name, Ty};
@@ -29,7 +30,7 @@ pub fn declarations(
     for decl in decls {
         match declaration(alloc, setting, state, ty, decl) {
             Err(error) => return Err(error),
-            Ok(decl) => match out.push(decl) {
+            Ok(decl) => match put(&mut out, decl) {
                 Err(_) => return Err(CheckErr::Memory),
                 Ok(()) => {}
             },
@@ -84,7 +85,10 @@ fn initial(
     match value {
         Err(error) => Err(error),
         Ok(value) => match fits_into(at, ty, value.tree.ty) {
-            Err(error) => Err(error),
+            Err(error) => {
+                drop(value);
+                Err(error)
+            }
             Ok(_) => {
                 state.accessed = value.accessed;
                 declare(alloc, state, ty, decl, Some(value.tree))
@@ -103,9 +107,15 @@ fn declare(
     ensures { TellsDecl result state.new (Ok (declared decl.now.span decl.now.name ty (typed_option value) state.old)) }
 {
     match make_visible(alloc, state, ty, decl.name.as_str()) {
-        Err(error) => Err(error),
+        Err(error) => {
+            drop(value);
+            Err(error)
+        }
         Ok(()) => match Name::from_text(alloc, decl.name.as_str()) {
-            Err(_) => Err(CheckErr::Memory),
+            Err(_) => {
+                drop(value);
+                Err(CheckErr::Memory)
+            }
             Ok(name) => Ok(TypedDecl {
                 span: decl.span,
                 name,

@@ -7,6 +7,7 @@ ghost use Rattle.ix_typing.specs.Expressions as T;
 ghost use Rattle.ix_check_parts.specs.Telling.{seen, seen_pair, Tells, TellsPair, TellsType};
 
 use crate::CheckErr;
+use crate::boxes::{boxed, boxed_pair, boxed_triple};
 use crate::judged::{Judged, Pair};
 use crate::types::{type_near, written_type};
 use ix_bits::{BinOp, Bits, Ty, UnOp};
@@ -33,7 +34,10 @@ pub fn pair(first: Judged, second: Result<Judged, CheckErr>) -> Result<Pair, Che
     ensures { (r : Result T.Judged Refusal) → Tells second r → TellsPair result (paired (seen first) r) }
 {
     match second {
-        Err(error) => Err(error),
+        Err(error) => {
+            drop(first);
+            Err(error)
+        }
         Ok(second) => Ok(Pair { first, second }),
     }
 }
@@ -83,8 +87,11 @@ pub fn unary(
     match x {
         Err(error) => Err(error),
         Ok(x) => match unary_type(span, op, x.tree.ty) {
-            Err(error) => Err(error),
-            Ok(ty) => match Box::new(alloc, x.tree) {
+            Err(error) => {
+                drop(x);
+                Err(error)
+            }
+            Ok(ty) => match boxed(alloc, x.tree) {
                 Err(_) => Err(CheckErr::Memory),
                 Ok(tree) => Ok(Judged {
                     tree: TypedExpr {
@@ -110,7 +117,10 @@ pub fn cast(
 {
     match to {
         CastTo::Written(text) => match written_type(text) {
-            Err(error) => Err(error),
+            Err(error) => {
+                drop(x);
+                Err(error)
+            }
             Ok(ty) => match x {
                 Err(error) => Err(error),
                 Ok(x) => cast_to(alloc, span, to, ty, x),
@@ -136,7 +146,7 @@ pub fn cast(
 fn cast_to(alloc: Global, span: Span, to: CastTo, ty: Ty, x: Judged) -> Result<Judged, CheckErr>
     ensures { Tells result (Ok (casted span to ty (seen x))) }
 {
-    match Box::new(alloc, x.tree) {
+    match boxed(alloc, x.tree) {
         Err(_) => Err(CheckErr::Memory),
         Ok(tree) => Ok(Judged {
             tree: TypedExpr {
@@ -160,9 +170,16 @@ pub fn binary(
     ensures { (r : Result T.Judged Refusal) → Tells y r → Tells result (binary span op (seen x) r) }
 {
     match y {
-        Err(error) => Err(error),
+        Err(error) => {
+            drop(x);
+            Err(error)
+        }
         Ok(y) => match binary_type(span, op, x.tree.ty, y.tree.ty) {
-            Err(error) => Err(error),
+            Err(error) => {
+                drop(x);
+                drop(y);
+                Err(error)
+            }
             Ok(ty) => operated(alloc, span, ty, op, x.tree, y),
         },
     }
@@ -178,19 +195,16 @@ fn operated(
 ) -> Result<Judged, CheckErr>
     ensures { Tells result (Ok (record { tree = t_binary span ty op (typed_view x) (typed_view y.tree); ty = ty; accessed = y.accessed })) }
 {
-    match Box::new(alloc, x) {
+    match boxed_pair(alloc, x, y.tree) {
         Err(_) => Err(CheckErr::Memory),
-        Ok(x) => match Box::new(alloc, y.tree) {
-            Err(_) => Err(CheckErr::Memory),
-            Ok(tree) => Ok(Judged {
-                tree: TypedExpr {
-                    span,
-                    ty,
-                    kind: TypedExprKind::Binary(op, x, tree),
-                },
-                accessed: y.accessed,
-            }),
-        },
+        Ok((x, tree)) => Ok(Judged {
+            tree: TypedExpr {
+                span,
+                ty,
+                kind: TypedExprKind::Binary(op, x, tree),
+            },
+            accessed: y.accessed,
+        }),
     }
 }
 
@@ -204,9 +218,16 @@ pub fn choose(
     ensures { (r : Result T.Judged Refusal) → Tells y r → Tells result (choose span (seen_pair both) r) }
 {
     match y {
-        Err(error) => Err(error),
+        Err(error) => {
+            drop(both);
+            Err(error)
+        }
         Ok(y) => match common_type(span, both.second.tree.ty, y.tree.ty) {
-            Err(error) => Err(error),
+            Err(error) => {
+                drop(both);
+                drop(y);
+                Err(error)
+            }
             Ok(ty) => chosen(alloc, span, ty, both, y),
         },
     }
@@ -215,21 +236,15 @@ pub fn choose(
 fn chosen(alloc: Global, span: Span, ty: Ty, both: Pair, y: Judged) -> Result<Judged, CheckErr>
     ensures { Tells result (Ok (record { tree = t_choose span ty (typed_view both.first.tree) (typed_view both.second.tree) (typed_view y.tree); ty = ty; accessed = y.accessed })) }
 {
-    match Box::new(alloc, both.first.tree) {
+    match boxed_triple(alloc, both.first.tree, both.second.tree, y.tree) {
         Err(_) => Err(CheckErr::Memory),
-        Ok(c) => match Box::new(alloc, both.second.tree) {
-            Err(_) => Err(CheckErr::Memory),
-            Ok(x) => match Box::new(alloc, y.tree) {
-                Err(_) => Err(CheckErr::Memory),
-                Ok(tree) => Ok(Judged {
-                    tree: TypedExpr {
-                        span,
-                        ty,
-                        kind: TypedExprKind::Choose(c, x, tree),
-                    },
-                    accessed: y.accessed,
-                }),
+        Ok((c, x, tree)) => Ok(Judged {
+            tree: TypedExpr {
+                span,
+                ty,
+                kind: TypedExprKind::Choose(c, x, tree),
             },
-        },
+            accessed: y.accessed,
+        }),
     }
 }

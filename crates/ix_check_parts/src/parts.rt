@@ -1,6 +1,6 @@
 ghost use Rattle.std.specs.Prelude.{◌≡◌, List, map, Result, Ok, Err, IfOk, IfErr};
 ghost use Rattle.ix_tree.specs.View.{view, view_decl};
-ghost use Rattle.ix_tree.specs.TypedTrees.{TypedAssignTree, TypedDeclTree, TypedStmtTree};
+ghost use Rattle.ix_tree.specs.TypedTrees.{TypedAssignTree, TypedDeclTree, TypedStmtTree, ts_if, ts_if_else};
 ghost use Rattle.ix_tree.specs.TypedView.{typed_view, typed_whole};
 ghost use Rattle.ix_typing.specs.declared.state.State.{State};
 ghost use Rattle.ix_typing.specs.Refusals.{Refusal, and_then, Step};
@@ -9,6 +9,7 @@ ghost use Rattle.ix_typing.specs.Statements.{below_if, below_spawn, judged_decls
 ghost use Rattle.ix_check_parts.specs.Telling.{TellsAssign, TellsDecls, TellsStmt, TellsCondition, appended};
 
 use crate::CheckErr;
+use crate::boxes::{boxed_branches, boxed_stmt};
 use crate::expression::expression;
 use crate::judged::Branch;
 use crate::locals::declarations;
@@ -119,14 +120,26 @@ pub fn choice(
     ensures { (st : State) (r : Result (Step State TypedStmtTree) Refusal) → TellsStmt x st r → TellsStmt result st (choice span (typed_view c) r) }
 {
     match x {
-        Err(error) => Err(error),
-        Ok(x) => match Box::new(alloc, x) {
-            Err(_) => Err(CheckErr::Memory),
-            Ok(x) => Ok(TypedStmt {
-                span,
-                kind: TypedStmtKind::If(c, x, None),
-            }),
-        },
+        Err(error) => {
+            drop(c);
+            Err(error)
+        }
+        Ok(x) => chosen(alloc, span, c, x),
+    }
+}
+
+fn chosen(alloc: Global, span: Span, c: TypedExpr, x: TypedStmt) -> Result<TypedStmt, CheckErr>
+    ensures { (st : State) → TellsStmt result st (Ok (record { item = ts_if span (typed_view c) (typed_whole x); after = st })) }
+{
+    match boxed_stmt(alloc, x) {
+        Err(_) => {
+            drop(c);
+            Err(CheckErr::Memory)
+        }
+        Ok(x) => Ok(TypedStmt {
+            span,
+            kind: TypedStmtKind::If(c, x, None),
+        }),
     }
 }
 
@@ -136,7 +149,10 @@ pub fn with_branch(c: TypedExpr, x: Result<TypedStmt, CheckErr>) -> Result<Branc
     ensures err { IfErr result (λ e. x ≡ Err e) }
 {
     match x {
-        Err(error) => Err(error),
+        Err(error) => {
+            drop(c);
+            Err(error)
+        }
         Ok(first) => Ok(Branch {
             condition: c,
             first,
@@ -154,17 +170,32 @@ pub fn choice_else(
     ensures { (st : State) (r : Result (Step State TypedStmtTree) Refusal) → TellsStmt y st r → TellsStmt result st (choice_else span (typed_view branch.condition) (typed_whole branch.first) r) }
 {
     match y {
-        Err(error) => Err(error),
-        Ok(y) => match Box::new(alloc, branch.first) {
-            Err(_) => Err(CheckErr::Memory),
-            Ok(x) => match Box::new(alloc, y) {
-                Err(_) => Err(CheckErr::Memory),
-                Ok(y) => Ok(TypedStmt {
-                    span,
-                    kind: TypedStmtKind::If(branch.condition, x, Some(y)),
-                }),
-            },
-        },
+        Err(error) => {
+            drop(branch);
+            Err(error)
+        }
+        Ok(y) => chosen_else(alloc, span, branch.condition, branch.first, y),
+    }
+}
+
+fn chosen_else(
+    alloc: Global,
+    span: Span,
+    c: TypedExpr,
+    x: TypedStmt,
+    y: TypedStmt,
+) -> Result<TypedStmt, CheckErr>
+    ensures { (st : State) → TellsStmt result st (Ok (record { item = ts_if_else span (typed_view c) (typed_whole x) (typed_whole y); after = st })) }
+{
+    match boxed_branches(alloc, x, y) {
+        Err(_) => {
+            drop(c);
+            Err(CheckErr::Memory)
+        }
+        Ok((x, y)) => Ok(TypedStmt {
+            span,
+            kind: TypedStmtKind::If(c, x, Some(y)),
+        }),
     }
 }
 
@@ -179,7 +210,10 @@ pub fn joined(
     match y {
         Err(error) => Err(error),
         Ok(y) => match state.written.append(first) {
-            Err(_) => Err(CheckErr::Memory),
+            Err(_) => {
+                drop(y);
+                Err(CheckErr::Memory)
+            }
             Ok(()) => Ok(y),
         },
     }
@@ -195,7 +229,7 @@ pub fn spawned(
 {
     match x {
         Err(error) => Err(error),
-        Ok(x) => match Box::new(alloc, x) {
+        Ok(x) => match boxed_stmt(alloc, x) {
             Err(_) => Err(CheckErr::Memory),
             Ok(x) => Ok(TypedStmt {
                 span,

@@ -6,6 +6,7 @@ ghost use Rattle.ix_check_parts.specs.Telling.{TellsStmt, TellsRow, other_branch
 
 use crate::CheckErr;
 use crate::assign::assignment;
+use crate::boxes::put;
 use crate::parts::{
     assign_of, below_if, below_spawn, choice, choice_else, condition, joined, locals, spawned,
     with_branch,
@@ -153,7 +154,7 @@ fn inside(
     for stmt in all {
         match statement(alloc, setting, state, stmt) {
             Err(error) => return Err(error),
-            Ok(stmt) => match out.push(stmt) {
+            Ok(stmt) => match put(&mut out, stmt) {
                 Err(_) => return Err(CheckErr::Memory),
                 Ok(()) => {}
             },

@@ -11,6 +11,7 @@ ghost use Rattle.ix_check_parts.specs.StateTelling.{TellsConstant, TellsConstant
 
 use crate::CheckErr;
 use crate::assign::{fits_into, span_of};
+use crate::boxes::put;
 use crate::expression::expression;
 use crate::judged::Judged;
 use crate::types::{nearest_type, written_type};
@@ -121,7 +122,7 @@ pub fn states(
     for text in all.into_vec() {
         match one_state(alloc, state, k, text) {
             Err(error) => return Err(error),
-            Ok(typed) => match out.push(typed) {
+            Ok(typed) => match put(&mut out, typed) {
                 Err(_) => return Err(CheckErr::Memory),
                 Ok(()) => {}
             },
@@ -135,13 +136,18 @@ fn one_state(alloc: Global, state: &State, k: u128, text: StateText) -> Result<T
     ensures { TellsState result (k + 1) (judged_state state.now (view_state text) k) }
 {
     match written_type(text.ty) {
-        Err(error) => Err(error),
+        Err(error) => {
+            drop(text);
+            Err(error)
+        }
         Ok(ty) => {
             if is_numbered(state.names.find(text.name.as_str()), k) {
                 let kind = state_kind(alloc, state, text.span, ty, &text.kind);
                 with_kind(text, kind)
             } else {
-                Err(CheckErr::Twice { span: text.span })
+                let span = text.span;
+                drop(text);
+                Err(CheckErr::Twice { span })
             }
         }
     }
@@ -154,7 +160,10 @@ fn with_kind(
     ensures { (k : ℕ) (r : Result TypedStateKindTree Refusal) → TellsStateKind kind r → TellsState result (k + 1) (and_then r (λ t. Ok (record { item = record { span = text.span; name = text.name; ty = text.ty; kind = t }; after = k + 1 }))) }
 {
     match kind {
-        Err(error) => Err(error),
+        Err(error) => {
+            drop(text);
+            Err(error)
+        }
         Ok(kind) => Ok(TypedState {
             span: text.span,
             name: text.name,
@@ -228,7 +237,7 @@ fn entries(alloc: Global, state: &State, ty: Ty, all: &[Expr]) -> Result<Vec<Typ
     for entry in all {
         match constant(alloc, state, ty, entry) {
             Err(error) => return Err(error),
-            Ok(entry) => match out.push(entry) {
+            Ok(entry) => match put(&mut out, entry) {
                 Err(_) => return Err(CheckErr::Memory),
                 Ok(()) => {}
             },
@@ -256,7 +265,10 @@ fn embedded(at: Span, ty: Ty, value: Result<Judged, CheckErr>) -> Result<TypedEx
     match value {
         Err(error) => Err(error),
         Ok(value) => match fits_into(at, ty, value.tree.ty) {
-            Err(error) => Err(error),
+            Err(error) => {
+                drop(value);
+                Err(error)
+            }
             Ok(_) => Ok(value.tree),
         },
     }

@@ -178,9 +178,11 @@ fn x_place_at(
 {
     let is_field = lies_in_destination(field_of(state, i));
     if !is_instruction(setting.body) || updates || !is_field {
+        drop(index);
         return Err(CheckErr::Index { span });
     }
     if state.written.contains(Target::Rd) {
+        drop(index);
         return Err(CheckErr::DoubleWrite { span });
     }
     Ok(Place {
@@ -258,7 +260,10 @@ fn byte_place(
             Some(8),
             at.tree.ty,
         ) {
-            Err(error) => Err(error),
+            Err(error) => {
+                drop(at);
+                Err(error)
+            }
             Ok(ty) => Ok(Place {
                 tree: TypedLvalue {
                     span,
@@ -285,7 +290,10 @@ fn word_place(
     ensures { (r : Result T.Judged Refusal) → Tells low r → TellsPlace result (word_place setting state.now updates span (view h.now) (view l.now) (seen high) r) }
 {
     match low {
-        Err(error) => Err(error),
+        Err(error) => {
+            drop(high);
+            Err(error)
+        }
         Ok(low) => match stored_type(
             setting,
             state,
@@ -295,7 +303,11 @@ fn word_place(
             width_loaded(h, l),
             low.tree.ty,
         ) {
-            Err(error) => Err(error),
+            Err(error) => {
+                drop(high);
+                drop(low);
+                Err(error)
+            }
             Ok(ty) => Ok(Place {
                 tree: TypedLvalue {
                     span,

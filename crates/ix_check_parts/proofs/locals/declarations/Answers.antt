@@ -30,7 +30,7 @@ loop-decl-preserved c =
     let k = c.loop-decl.decl-index in
     let x = c.decl-item.result in
     each_step (judged_decl c.args.setting c.args.ty) _ _ (map view_decl (drop (k + 1) xs)) (map typed_decl c.loop-decl.out.items) _ (typed_decl c.in-Ok.decl) c.loop-decl.state c.declaration.new.state (view_decl x)
-    c.loop-decl.invariant (mapped_rest view_decl xs k x c.loop-decl-test.true c.decl-item.is) c.in-Ok.ensures (mapped_push typed_decl c.loop-decl.out.items c.push.new.self.items c.in-Ok.decl c.in-Ok-push.ensures.items)
+    c.loop-decl.invariant (mapped_rest view_decl xs k x c.loop-decl-test.true c.decl-item.is) c.in-Ok.ensures (mapped_push typed_decl c.loop-decl.out.items c.put.new.out.items c.in-Ok.decl c.in-Ok-put.ensures)
 
 pub returns : goal.returns
 returns c =

@@ -30,7 +30,7 @@ inside-loop-stmt-preserved t c =
     let out = c.loop-stmt.out.items in
     row_steps c.args.setting _ _ (view_items (drop (k + 1) xs)) (typed_items out) _ (typed_whole c.in-Ok.stmt) c.loop-stmt.state c.statement.new.state (view_whole x)
     c.loop-stmt.invariant (items_rest xs k x c.loop-stmt-test.true c.stmt-item.is) c.in-Ok.ensures
-    (ap typed_items c.in-Ok-push.ensures.items ∙ typed_items_join out (c.in-Ok.stmt ∷ []))
+    (ap typed_items c.in-Ok-put.ensures ∙ typed_items_join out (c.in-Ok.stmt ∷ []))
 
 pub inside-returns : goal.inside-returns
 inside-returns t c =

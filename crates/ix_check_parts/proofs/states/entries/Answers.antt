@@ -29,7 +29,7 @@ loop-entry-preserved c =
     let k = c.loop-entry.entry-index in
     let x = c.entry-item.result in
     each_step (constant c.args.ty) _ _ (map view (drop (k + 1) xs)) (map typed_view c.loop-entry.out.items) _ (typed_view c.in-Ok.entry) c.args.state.now c.args.state.now (view x)
-    c.loop-entry.invariant (mapped_rest view xs k x c.loop-entry-test.true c.entry-item.is) c.in-Ok.ensures (mapped_push typed_view c.loop-entry.out.items c.push.new.self.items c.in-Ok.entry c.in-Ok-push.ensures.items)
+    c.loop-entry.invariant (mapped_rest view xs k x c.loop-entry-test.true c.entry-item.is) c.in-Ok.ensures (mapped_push typed_view c.loop-entry.out.items c.put.new.out.items c.in-Ok.entry c.in-Ok-put.ensures)
 
 pub returns : goal.returns
 returns c =

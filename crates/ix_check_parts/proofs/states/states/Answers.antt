@@ -40,7 +40,7 @@ loop-text-preserved c =
       number = ap (λ (n : ℕ). n + 1) c.loop-text.invariant.number;
       judged =
           each_step (judged_state c.args.state.now) _ _ (map view_state (drop (k + 1) xs)) (map typed_state c.loop-text.out.items) _ (typed_state c.in-Ok.typed) c.loop-text.k (c.loop-text.k + 1) (view_state x)
-          c.loop-text.invariant.judged (mapped_rest view_state xs k x turn.0 turn.1) c.in-Ok.ensures (mapped_push typed_state c.loop-text.out.items c.push.new.self.items c.in-Ok.typed c.in-Ok-push.ensures.items);
+          c.loop-text.invariant.judged (mapped_rest view_state xs k x turn.0 turn.1) c.in-Ok.ensures (mapped_push typed_state c.loop-text.out.items c.put.new.out.items c.in-Ok.typed c.in-Ok-put.ensures);
     })
 
 at_most : {n m : ℕ} → n ≡ m → m ≤ n
