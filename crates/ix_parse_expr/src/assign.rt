@@ -121,7 +121,10 @@ fn end_head(
         }
         Err(stop) => {
             drop(head);
+            drop(start);
+            drop(test);
             drop(last);
+            drop(stack);
             Err(stop)
         }
     }
@@ -143,6 +146,7 @@ fn begin_index(
         }
         Err(stop) => {
             drop(frame);
+            drop(stack);
             Err(stop)
         }
     }

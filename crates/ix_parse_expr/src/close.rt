@@ -1,4 +1,4 @@
-ghost use Rattle.std.specs.Prelude.{◌≡◌, ℕ, [], ◌∷◌, ◌++◌, map, IfOk};
+ghost use Rattle.std.specs.Prelude.{◌≡◌, ◌+◌, ℕ, [], ◌∷◌, ◌++◌, map, IfOk};
 ghost use Rattle.ix_tree.specs.View.{view, view_place, view_assign};
 ghost use Rattle.ix_tree.specs.Productions.{place_x, place_mem, place_mem_range, assign_set};
 ghost use Rattle.ix_tree.specs.Machine.{go, want, close, f_round, f_index, f_range, f_then, f_x, f_mem, f_mem_range, f_if, f_start, f_test, f_entries};
@@ -29,13 +29,18 @@ pub fn close(alloc: Global, part: Part, stack: Vec<Frame>, token: &Token) -> Res
     ensures { (e : ℕ) → Moves result (close e (part_of part) (stack_of stack.items) token.now) }
 {
     let (frame, stack) = match pop(stack) {
-        None => return Err(Stop::Refused),
+        None => {
+            drop(part);
+            return Err(Stop::Refused);
+        }
         Some(top) => top,
     };
     match frame {
         Frame::Closing(frame) => close_frame(alloc, part, frame, stack, token),
         other => {
             drop(other);
+            drop(part);
+            drop(stack);
             Err(Stop::Refused)
         }
     }
@@ -92,8 +97,14 @@ fn close_round(
 ) -> Result<Reader, Stop>
     ensures { Moves result (close 0 (part_of part) (f_round depth first.now ∷ stack_of stack.items) token.now) }
 {
-    expect(token, CLOSE_ROUND, depth, 1)?;
-    Ok(in_expr(ExprGoal::Have(depth, round(first, part, token)), stack))
+    match expect(token, CLOSE_ROUND, depth, 1) {
+        Ok(_) => Ok(in_expr(ExprGoal::Have(depth, round(first, part, token)), stack)),
+        Err(stop) => {
+            drop(part);
+            drop(stack);
+            Err(stop)
+        }
+    }
 }
 
 /// The end of an index, or the `:` between its two parts.
@@ -107,14 +118,40 @@ fn close_index(
     ensures { Moves result (close 0 (part_of part) (f_index x.depth (part_of x.left) ∷ stack_of stack.items) token.now) }
 {
     if is_symbol(token, COLON) {
-        let inner = nest(x.depth, x.count)?;
-        let stack = push(stack, Frame::Closing(ClosingFrame::Range(x, part)))?;
-        return Ok(in_expr(ExprGoal::Want(inner), stack));
+        return between_parts(x, part, stack);
     }
     let depth = x.depth;
-    expect(token, CLOSE_SQUARE, depth, x.count)?;
-    let part = index(alloc, x, part, token)?;
-    Ok(in_expr(ExprGoal::Have(depth, part), stack))
+    if let Err(stop) = expect(token, CLOSE_SQUARE, depth, x.count) {
+        drop(x);
+        drop(part);
+        drop(stack);
+        return Err(stop);
+    }
+    match index(alloc, x, part, token) {
+        Ok(part) => Ok(in_expr(ExprGoal::Have(depth, part), stack)),
+        Err(Memory) => {
+            drop(stack);
+            Err(Stop::Memory)
+        }
+    }
+}
+
+/// The `:` between the two parts of an index.
+fn between_parts(x: Indexed, high: Part, stack: Vec<Frame>) -> Result<Reader, Stop>
+    ensures { Moves result (go (x.depth + x.count) (want (x.depth + x.count) (f_range x.depth (part_of x.left) (part_of high) ∷ stack_of stack.items))) }
+{
+    match nest(x.depth, x.count) {
+        Ok(inner) => {
+            let stack = push(stack, Frame::Closing(ClosingFrame::Range(x, high)))?;
+            Ok(in_expr(ExprGoal::Want(inner), stack))
+        }
+        Err(stop) => {
+            drop(x);
+            drop(high);
+            drop(stack);
+            Err(stop)
+        }
+    }
 }
 
 /// The end of an index of two parts.
@@ -129,9 +166,20 @@ fn close_range(
     ensures { Moves result (close 0 (part_of part) (f_range x.depth (part_of x.left) (part_of high) ∷ stack_of stack.items) token.now) }
 {
     let depth = x.depth;
-    expect(token, CLOSE_SQUARE, depth, x.count)?;
-    let part = range(alloc, x, high, part, token)?;
-    Ok(in_expr(ExprGoal::Have(depth, part), stack))
+    if let Err(stop) = expect(token, CLOSE_SQUARE, depth, x.count) {
+        drop(x);
+        drop(high);
+        drop(part);
+        drop(stack);
+        return Err(stop);
+    }
+    match range(alloc, x, high, part, token) {
+        Ok(part) => Ok(in_expr(ExprGoal::Have(depth, part), stack)),
+        Err(Memory) => {
+            drop(stack);
+            Err(Stop::Memory)
+        }
+    }
 }
 
 /// The `:` of a choice.
@@ -145,14 +193,26 @@ fn close_then(
     ensures { Moves result (close 0 (part_of part) (f_then depth (part_of condition) ∷ stack_of stack.items) token.now) }
 {
     if !is_symbol(token, COLON) {
+        drop(condition);
+        drop(part);
+        drop(stack);
         return Err(Stop::Refused);
     }
-    let inner = level(depth)? + 1;
-    let stack = push(
-        stack,
-        Frame::Operator(OperatorFrame::Else(depth, condition, part)),
-    )?;
-    Ok(in_expr(ExprGoal::Want(inner), stack))
+    match level(depth) {
+        Ok(nesting) => {
+            let stack = push(
+                stack,
+                Frame::Operator(OperatorFrame::Else(depth, condition, part)),
+            )?;
+            Ok(in_expr(ExprGoal::Want(nesting + 1), stack))
+        }
+        Err(stop) => {
+            drop(condition);
+            drop(part);
+            drop(stack);
+            Err(stop)
+        }
+    }
 }
 
 /// The end of the index of a written register.
@@ -165,8 +225,14 @@ fn close_x(
 ) -> Result<Reader, Stop>
     ensures { Moves result (close 0 (part_of part) (f_x depth word.now ∷ stack_of stack.items) token.now) }
 {
-    expect(token, CLOSE_SQUARE, depth, 1)?;
-    Ok(in_assign(AssignGoal::Placed(x_place(word, part, token)), stack))
+    match expect(token, CLOSE_SQUARE, depth, 1) {
+        Ok(_) => Ok(in_assign(AssignGoal::Placed(x_place(word, part, token)), stack)),
+        Err(stop) => {
+            drop(part);
+            drop(stack);
+            Err(stop)
+        }
+    }
 }
 
 /// The end of the index of written memory, or the `:` between its two parts.
@@ -180,30 +246,38 @@ fn close_mem(
     ensures { Moves result (close 0 (part_of part) (f_mem depth word ∷ stack_of stack.items) token.now) }
 {
     if is_symbol(token, COLON) {
-        let inner = match nest(depth, 1) {
-            Ok(inner) => inner,
-            Err(stop) => {
-                drop(word);
-                return Err(stop);
-            }
-        };
-        let stack = push(
-            stack,
-            Frame::Closing(ClosingFrame::MemRange(depth, word, part)),
-        )?;
-        return Ok(in_expr(ExprGoal::Want(inner), stack));
+        return between_addresses(depth, word, part, stack);
     }
-    if !is_symbol(token, CLOSE_SQUARE) {
+    if let Err(stop) = expect(token, CLOSE_SQUARE, depth, 1) {
         drop(word);
-        return Err(Stop::Refused);
-    }
-    if let Err(stop) = nest(depth, 1) {
-        drop(word);
+        drop(part);
+        drop(stack);
         return Err(stop);
     }
     let place = mem_place(&word, part, token);
     drop(word);
     Ok(in_assign(AssignGoal::Placed(place), stack))
+}
+
+/// The `:` between the two addresses of written memory.
+fn between_addresses(depth: u32, word: Token, high: Part, stack: Vec<Frame>) -> Result<Reader, Stop>
+    ensures { Moves result (go (depth + 1) (want (depth + 1) (f_mem_range depth word (part_of high) ∷ stack_of stack.items))) }
+{
+    match nest(depth, 1) {
+        Ok(inner) => {
+            let stack = push(
+                stack,
+                Frame::Closing(ClosingFrame::MemRange(depth, word, high)),
+            )?;
+            Ok(in_expr(ExprGoal::Want(inner), stack))
+        }
+        Err(stop) => {
+            drop(word);
+            drop(high);
+            drop(stack);
+            Err(stop)
+        }
+    }
 }
 
 /// The end of the index of two parts of written memory.
@@ -217,9 +291,18 @@ fn close_mem_range(
 ) -> Result<Reader, Stop>
     ensures { Moves result (close 0 (part_of part) (f_mem_range depth word.now (part_of high) ∷ stack_of stack.items) token.now) }
 {
-    expect(token, CLOSE_SQUARE, depth, 1)?;
-    let place = mem_range_place(word, high, part, token);
-    Ok(in_assign(AssignGoal::Placed(place), stack))
+    match expect(token, CLOSE_SQUARE, depth, 1) {
+        Ok(_) => {
+            let place = mem_range_place(word, high, part, token);
+            Ok(in_assign(AssignGoal::Placed(place), stack))
+        }
+        Err(stop) => {
+            drop(high);
+            drop(part);
+            drop(stack);
+            Err(stop)
+        }
+    }
 }
 
 /// The end of the condition of an `if`.
@@ -236,6 +319,8 @@ fn close_if(
         Ok(inner) => inner,
         Err(stop) => {
             drop(first);
+            drop(part);
+            drop(stack);
             return Err(stop);
         }
     };
@@ -251,6 +336,8 @@ fn close_start(head: OpenLoop, part: Part, stack: Vec<Frame>, token: &Token) -> 
         Ok(inner) => inner,
         Err(stop) => {
             drop(head);
+            drop(part);
+            drop(stack);
             return Err(stop);
         }
     };
@@ -272,6 +359,9 @@ fn close_test(
         Ok(inner) => inner,
         Err(stop) => {
             drop(head);
+            drop(start);
+            drop(part);
+            drop(stack);
             return Err(stop);
         }
     };
@@ -293,8 +383,11 @@ fn close_entry(
     if is_symbol(token, COMMA) {
         return next_entry(table, length, entries, part, stack);
     }
+    drop(stack);
     if !is_symbol(token, CLOSE_BRACE) {
         drop(table);
+        drop(entries);
+        drop(part);
         return Err(Stop::Refused);
     }
     match more(entries, part) {
@@ -324,6 +417,7 @@ fn next_entry(
         }
         Err(Memory) => {
             drop(table);
+            drop(stack);
             Err(Stop::Memory)
         }
     }

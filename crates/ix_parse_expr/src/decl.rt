@@ -1,10 +1,11 @@
-ghost use Rattle.std.specs.Prelude.{◌≡◌, [], ◌∷◌, ◌++◌, Some, None, option_map, map, IfOk};
+ghost use Rattle.std.specs.Prelude.{◌≡◌, ◌≤◌, [], ◌∷◌, ◌++◌, Some, None, option_map, map, IfOk, IfErr};
 ghost use Rattle.ix_parse_state.specs.Parts.{part_of};
 ghost use Rattle.ix_tree.specs.Productions.{decl, register_tree};
 ghost use Rattle.ix_tree.specs.View.{view_decl, view_state};
 ghost use Rattle.ix_tree.specs.Machine.{after_value, after_decl, go, states};
+ghost use Rattle.ix_tree.specs.Machine as M;
 ghost use Rattle.ix_parse_state.specs.Views.{stack_of, decl_frame, open_of};
-ghost use Rattle.ix_parse_state.specs.Moves.{Moves};
+ghost use Rattle.ix_parse_state.specs.Moves.{Moves, StopsBy};
 
 use ix_bits::{List, Memory, Name};
 use ix_parse_state::block::locals;
@@ -57,13 +58,20 @@ fn after_named(
     ensures { Moves result (after_value first.now name (option_map part_of value) (stack_of stack.items) token.now) }
 {
     let (frame, stack) = match pop(stack) {
-        None => return Err(Stop::Refused),
+        None => {
+            drop(name);
+            drop(value);
+            return Err(Stop::Refused);
+        }
         Some(top) => top,
     };
     match frame {
         Frame::Decl(frame) => after_named_of(first, name, value, frame, stack, token),
         other => {
             drop(other);
+            drop(name);
+            drop(value);
+            drop(stack);
             Err(Stop::Refused)
         }
     }
@@ -86,10 +94,14 @@ fn after_named_of(
             after_decl(depth, decl, ty, decls, stack, token)
         }
         DeclFrame::Register(named) => {
+            drop(stack);
             if !is_symbol(token, SEMICOLON) {
+                drop(name);
+                drop(value);
                 drop(named);
                 return Err(Stop::Refused);
             }
+            drop(name);
             end_register(named, value, token)
         }
     }
@@ -128,16 +140,46 @@ fn after_decl(
     ensures { Moves result (after_decl depth (view_decl decl) ty (map view_decl decls) (stack_of stack.items) token.now) }
 {
     if is_symbol(token, COMMA) {
-        level(depth)?;
-        let decls = with_decl(decls, decl)?;
-        return Ok(in_stmt(StmtGoal::Naming(depth, ty, decls), stack));
+        return match leveled(depth, decls, decl) {
+            Ok(decls) => Ok(in_stmt(StmtGoal::Naming(depth, ty, decls), stack)),
+            Err(stop) => {
+                drop(stack);
+                Err(stop)
+            }
+        };
     }
     if is_symbol(token, SEMICOLON) {
-        level(depth)?;
-        let decls = with_decl(decls, decl)?;
-        return Ok(in_stmt(StmtGoal::Done(locals(ty, decls, token)), stack));
+        return match leveled(depth, decls, decl) {
+            Ok(decls) => Ok(in_stmt(StmtGoal::Done(locals(ty, decls, token)), stack)),
+            Err(stop) => {
+                drop(stack);
+                Err(stop)
+            }
+        };
     }
+    drop(decl);
+    drop(decls);
+    drop(stack);
     Err(Stop::Refused)
+}
+
+/// The declarations and one more, behind a token that stands as deep as their statement.
+fn leveled(depth: u32, decls: List<Decl>, decl: Decl) -> Result<List<Decl>, Stop>
+    ensures level { IfOk result (λ _. depth ≤ 64) }
+    ensures ok { IfOk result (λ ds. map view_decl ds ≡ map view_decl decls ++ view_decl decl ∷ []) }
+    ensures err { IfErr result (λ e. (z : M.State) → StopsBy e (go depth z)) }
+{
+    match level(depth) {
+        Ok(_) => match with_decl(decls, decl) {
+            Ok(decls) => Ok(decls),
+            Err(Memory) => Err(Stop::Memory),
+        },
+        Err(stop) => {
+            drop(decls);
+            drop(decl);
+            Err(stop)
+        }
+    }
 }
 
 /// A local's declaration.
