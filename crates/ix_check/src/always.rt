@@ -7,7 +7,7 @@ ghost use Rattle.ix_check.specs.Telling.{TellsBlock, TellsBlockBody, TellsBlocks
 
 use crate::behaviour::{behaviour, name_behaviour};
 use ix_bits::List;
-use ix_check_parts::CheckErr;
+use ix_check_parts::{CheckErr, put};
 use ix_tree::{BlockText, TypedBlockText, TypedStmt};
 use ix_typing::{Body, State, TakenNames};
 use std::alloc::Global;
@@ -26,7 +26,7 @@ pub fn always_blocks(
     for text in all.into_vec() {
         match always_block(alloc, state, seen, text) {
             Err(error) => return Err(error),
-            Ok(typed) => match out.push(typed) {
+            Ok(typed) => match put(&mut out, typed) {
                 Err(_) => return Err(CheckErr::Memory),
                 Ok(()) => {}
             },
@@ -53,12 +53,19 @@ fn with_body(text: BlockText, body: Result<TypedStmt, CheckErr>) -> Result<Typed
     ensures kept { OnOk result (IsOk body) }
 {
     match body {
-        Err(error) => Err(error),
-        Ok(body) => Ok(TypedBlockText {
-            span: text.span,
-            name: text.name,
-            body,
-        }),
+        Err(error) => {
+            drop(text);
+            Err(error)
+        }
+        Ok(typed) => {
+            let BlockText { span, name, body } = text;
+            drop(body);
+            Ok(TypedBlockText {
+                span,
+                name,
+                body: typed,
+            })
+        }
     }
 }
 

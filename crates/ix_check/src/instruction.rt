@@ -9,7 +9,7 @@ ghost use Rattle.ix_check.specs.Telling.{TellsBody, TellsInstr, TellsInstrBody, 
 
 use crate::behaviour::{behaviour, name_behaviour};
 use ix_bits::List;
-use ix_check_parts::{CheckErr, check_pieces, declare_fields};
+use ix_check_parts::{CheckErr, check_pieces, declare_fields, put};
 use ix_tree::{Instr, PieceText, Stmt, TypedInstr, TypedStmt};
 use ix_typing::{Body, State, TakenNames};
 use std::alloc::Global;
@@ -28,7 +28,7 @@ pub fn instructions(
     for text in all.into_vec() {
         match instruction(alloc, state, seen, text) {
             Err(error) => return Err(error),
-            Ok(typed) => match out.push(typed) {
+            Ok(typed) => match put(&mut out, typed) {
                 Err(_) => return Err(CheckErr::Memory),
                 Ok(()) => {}
             },
@@ -55,13 +55,25 @@ fn with_body(text: Instr, body: Result<TypedStmt, CheckErr>) -> Result<TypedInst
     ensures kept { OnOk result (IsOk body) }
 {
     match body {
-        Err(error) => Err(error),
-        Ok(body) => Ok(TypedInstr {
-            span: text.span,
-            name: text.name,
-            pieces: text.pieces,
-            body,
-        }),
+        Err(error) => {
+            drop(text);
+            Err(error)
+        }
+        Ok(typed) => {
+            let Instr {
+                span,
+                name,
+                pieces,
+                body,
+            } = text;
+            drop(body);
+            Ok(TypedInstr {
+                span,
+                name,
+                pieces,
+                body: typed,
+            })
+        }
     }
 }
 

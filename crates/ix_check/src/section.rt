@@ -67,6 +67,7 @@ fn states(
     ensures kept { OnOk result (state.new.names ≡ state.old.names) }
 {
     if front.states {
+        drop(all);
         return Err(CheckErr::Twice { span });
     }
     restart(alloc, state);
@@ -90,6 +91,7 @@ fn of_instructions(
     ensures kept { OnOk result (state.new.names ≡ state.old.names) }
 {
     if front.instructions {
+        drop(all);
         return Err(CheckErr::Twice { span });
     }
     match instructions(alloc, state, &mut front.behaviours, all) {
@@ -112,6 +114,7 @@ fn of_blocks(
     ensures kept { OnOk result (state.new.names ≡ state.old.names) }
 {
     if front.always {
+        drop(all);
         return Err(CheckErr::Twice { span });
     }
     match always_blocks(alloc, state, &mut front.behaviours, all) {

@@ -8,7 +8,7 @@ ghost use Rattle.ix_check.specs.Telling.{TellsSections, TellsText, ComesWhere};
 
 use crate::section::section;
 use ix_bits::List;
-use ix_check_parts::{CheckErr, globals};
+use ix_check_parts::{CheckErr, globals, put};
 use ix_tree::{Section, Span, Tree, Typed, TypedSection};
 use ix_typing::{Front, Names, State, TakenNames, Targets};
 use std::alloc::Global;
@@ -46,7 +46,10 @@ fn checked(alloc: Global, tree: Tree) -> Result<Typed, CheckErr>
         sections,
     } = tree;
     match with_globals(alloc, sections) {
-        Err(error) => Err(error),
+        Err(error) => {
+            drop(name);
+            Err(error)
+        }
         Ok(sections) => Ok(Typed {
             span,
             name,
@@ -87,9 +90,19 @@ fn sections(alloc: Global, names: Names, all: List<Section>) -> Result<List<Type
     let mut out = Vec::new(alloc);
     for text in all.into_vec() {
         match section(alloc, &mut state, &mut front, text) {
-            Err(error) => return Err(error),
-            Ok(typed) => match out.push(typed) {
-                Err(_) => return Err(CheckErr::Memory),
+            Err(error) => {
+                drop(state);
+                drop(front);
+                drop(out);
+                return Err(error);
+            }
+            Ok(typed) => match put(&mut out, typed) {
+                Err(_) => {
+                    drop(state);
+                    drop(front);
+                    drop(out);
+                    return Err(CheckErr::Memory);
+                }
                 Ok(()) => {}
             },
         }

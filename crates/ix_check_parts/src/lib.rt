@@ -18,6 +18,7 @@ mod target;
 mod types;
 mod words;
 
+pub use boxes::put;
 pub use error::CheckErr;
 pub use pieces::{declare_fields, pieces as check_pieces};
 pub use statement::statement as check_statement;

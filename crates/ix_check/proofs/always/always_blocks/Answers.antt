@@ -47,7 +47,7 @@ loop-text-preserved c =
       told =
           each_step f _ _ (map view_block (drop (k + 1) xs)) (map typed_block c.loop-text.out.items) _ (typed_block c.in-Ok.typed) c.loop-text.seen c.always_block.new.seen (view_block x)
           c.loop-text.invariant.told (mapped_rest view_block xs k x turn.0 turn.1) (subst Q c.in-Ok.is (subst P c.loop-text.invariant.kept c.always_block.ensures.told))
-          (mapped_push typed_block c.loop-text.out.items c.push.new.self.items c.in-Ok.typed c.in-Ok-push.ensures.items);
+          (mapped_push typed_block c.loop-text.out.items c.put.new.out.items c.in-Ok.typed c.in-Ok-put.ensures);
       kept = c.in-Ok.ensures.kept ∙ c.loop-text.invariant.kept;
     })
 

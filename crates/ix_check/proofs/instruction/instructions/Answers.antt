@@ -47,7 +47,7 @@ loop-text-preserved c =
       told =
           each_step f _ _ (map view_instr (drop (k + 1) xs)) (map typed_instr c.loop-text.out.items) _ (typed_instr c.in-Ok.typed) c.loop-text.seen c.instruction.new.seen (view_instr x)
           c.loop-text.invariant.told (mapped_rest view_instr xs k x turn.0 turn.1) (subst Q c.in-Ok.is (subst P c.loop-text.invariant.kept c.instruction.ensures.told))
-          (mapped_push typed_instr c.loop-text.out.items c.push.new.self.items c.in-Ok.typed c.in-Ok-push.ensures.items);
+          (mapped_push typed_instr c.loop-text.out.items c.put.new.out.items c.in-Ok.typed c.in-Ok-put.ensures);
       kept = c.in-Ok.ensures.kept ∙ c.loop-text.invariant.kept;
     })
 

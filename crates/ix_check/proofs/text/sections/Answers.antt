@@ -38,6 +38,6 @@ loop-text-preserved c =
       told =
           each_step f _ _ (map view_section (drop (k + 1) xs)) (map typed_section c.loop-text.out.items) _ (typed_section c.in-Ok.typed) c.loop-text.front c.section.new.front (view_section x)
           c.loop-text.invariant.told (mapped_rest view_section xs k x turn.0 turn.1) (subst Q c.in-Ok.is (subst P c.loop-text.invariant.kept c.section.ensures.told))
-          (mapped_push typed_section c.loop-text.out.items c.push.new.self.items c.in-Ok.typed c.in-Ok-push.ensures.items);
+          (mapped_push typed_section c.loop-text.out.items c.put.new.out.items c.in-Ok.typed c.in-Ok-put.ensures);
       kept = c.in-Ok.ensures.kept ∙ c.loop-text.invariant.kept;
     })
