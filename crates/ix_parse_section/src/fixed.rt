@@ -1,7 +1,7 @@
-ghost use Rattle.std.specs.Prelude.{◌≡◌};
+ghost use Rattle.std.specs.Prelude.{IfOk, IfErr};
 ghost use Rattle.ix_tree.specs.Machine.{State, step};
 ghost use Rattle.ix_parse_state.specs.Views.{of_fixed, of_place};
-ghost use Rattle.ix_parse_state.specs.Moves.{Moves};
+ghost use Rattle.ix_parse_state.specs.Moves.{Moves, GoesTo, StopsBy};
 
 use ix_parse_state::look::{is_symbol, is_word};
 use ix_parse_state::reader::behind;
@@ -17,115 +17,125 @@ use ix_tree::Token;
 pub fn fixed_step(fixed: Fixed, place: Place, token: &Token) -> Result<Reader, Stop>
     ensures { Moves result (step (of_fixed fixed (of_place place)) token.now) }
 {
-    fixed_at(fixed, place, token)
-}
-
-/// The same, for a state that is the place's.
-fn fixed_at(fixed: Fixed, place: Place, token: &Token) -> Result<Reader, Stop>
-    ensures { (z : State) → of_place place ≡ z → Moves result (step (of_fixed fixed z) token.now) }
-{
-    match fixed {
-        Fixed::Extends | Fixed::Rv32i | Fixed::Encoding | Fixed::Behavior => {
-            word_step(fixed, place, token)
+    match wanted_next(fixed, token) {
+        Ok(next) => Ok(behind(next, place)),
+        Err(stop) => {
+            drop(place);
+            Err(stop)
         }
-        Fixed::Brace | Fixed::BraceEncoding | Fixed::Square | Fixed::SquareEnd => {
-            bracket_step(fixed, place, token)
-        }
-        _ => sign_step(fixed, place, token),
     }
 }
 
-/// What the token leads to where a fixed word is wanted. Without one there is no answer.
+/// What is wanted behind a fixed token, where this is the one. Without one there is no answer.
+fn wanted_next(fixed: Fixed, token: &Token) -> Result<Fixed, Stop>
+    ensures ok { (z : State) → IfOk result (λ f. GoesTo (of_fixed f z) (step (of_fixed fixed z) token.now)) }
+    ensures err { (z : State) → IfErr result (λ e. StopsBy e (step (of_fixed fixed z) token.now)) }
+{
+    match fixed {
+        Fixed::Extends | Fixed::Rv32i | Fixed::Encoding | Fixed::Behavior => {
+            behind_word(fixed, token)
+        }
+        Fixed::Brace | Fixed::BraceEncoding | Fixed::Square | Fixed::SquareEnd => {
+            behind_bracket(fixed, token)
+        }
+        _ => behind_sign(fixed, token),
+    }
+}
+
+/// The same where a fixed word is wanted.
 #[tactic(auto, unfolding(ix_tree::specs::Machine::step))]
-fn word_step(fixed: Fixed, place: Place, token: &Token) -> Result<Reader, Stop>
-    ensures { (z : State) → of_place place ≡ z → Moves result (step (of_fixed fixed z) token.now) }
+fn behind_word(fixed: Fixed, token: &Token) -> Result<Fixed, Stop>
+    ensures ok { (z : State) → IfOk result (λ f. GoesTo (of_fixed f z) (step (of_fixed fixed z) token.now)) }
+    ensures err { (z : State) → IfErr result (λ e. StopsBy e (step (of_fixed fixed z) token.now)) }
 {
     match fixed {
         Fixed::Extends => {
             if !is_word(token, EXTENDS) {
                 return Err(Stop::Refused);
             }
-            Ok(behind(Fixed::Rv32i, place))
+            Ok(Fixed::Rv32i)
         }
         Fixed::Rv32i => {
             if !is_word(token, RV32I) {
                 return Err(Stop::Refused);
             }
-            Ok(behind(Fixed::Brace, place))
+            Ok(Fixed::Brace)
         }
         Fixed::Encoding => {
             if !is_word(token, ENCODING) {
                 return Err(Stop::Refused);
             }
-            Ok(behind(Fixed::Colon, place))
+            Ok(Fixed::Colon)
         }
         Fixed::Behavior => {
             if !is_word(token, BEHAVIOR) {
                 return Err(Stop::Refused);
             }
-            Ok(behind(Fixed::Colon, place))
+            Ok(Fixed::Colon)
         }
         _ => Err(Stop::Memory),
     }
 }
 
-/// What the token leads to where a fixed bracket is wanted. Without one there is no answer.
+/// The same where a fixed bracket is wanted.
 #[tactic(auto, unfolding(ix_tree::specs::Machine::step))]
-fn bracket_step(fixed: Fixed, place: Place, token: &Token) -> Result<Reader, Stop>
-    ensures { (z : State) → of_place place ≡ z → Moves result (step (of_fixed fixed z) token.now) }
+fn behind_bracket(fixed: Fixed, token: &Token) -> Result<Fixed, Stop>
+    ensures ok { (z : State) → IfOk result (λ f. GoesTo (of_fixed f z) (step (of_fixed fixed z) token.now)) }
+    ensures err { (z : State) → IfErr result (λ e. StopsBy e (step (of_fixed fixed z) token.now)) }
 {
     match fixed {
         Fixed::Brace => {
             if !is_symbol(token, OPEN_BRACE) {
                 return Err(Stop::Refused);
             }
-            Ok(behind(Fixed::None, place))
+            Ok(Fixed::None)
         }
         Fixed::BraceEncoding => {
             if !is_symbol(token, OPEN_BRACE) {
                 return Err(Stop::Refused);
             }
-            Ok(behind(Fixed::Encoding, place))
+            Ok(Fixed::Encoding)
         }
         Fixed::Square => {
             if !is_symbol(token, OPEN_SQUARE) {
                 return Err(Stop::Refused);
             }
-            Ok(behind(Fixed::None, place))
+            Ok(Fixed::None)
         }
         Fixed::SquareEnd => {
             if !is_symbol(token, CLOSE_SQUARE) {
                 return Err(Stop::Refused);
             }
-            Ok(behind(Fixed::Equals, place))
+            Ok(Fixed::Equals)
         }
         _ => Err(Stop::Memory),
     }
 }
 
-/// What the token leads to where another fixed symbol is wanted. Without one there is no answer.
+/// The same where another fixed symbol is wanted.
 #[tactic(auto, unfolding(ix_tree::specs::Machine::step))]
-fn sign_step(fixed: Fixed, place: Place, token: &Token) -> Result<Reader, Stop>
-    ensures { (z : State) → of_place place ≡ z → Moves result (step (of_fixed fixed z) token.now) }
+fn behind_sign(fixed: Fixed, token: &Token) -> Result<Fixed, Stop>
+    ensures ok { (z : State) → IfOk result (λ f. GoesTo (of_fixed f z) (step (of_fixed fixed z) token.now)) }
+    ensures err { (z : State) → IfErr result (λ e. StopsBy e (step (of_fixed fixed z) token.now)) }
 {
     match fixed {
         Fixed::Colon => {
             if !is_symbol(token, COLON) {
                 return Err(Stop::Refused);
             }
-            Ok(behind(Fixed::None, place))
+            Ok(Fixed::None)
         }
         Fixed::SemicolonBehavior => {
             if !is_symbol(token, SEMICOLON) {
                 return Err(Stop::Refused);
             }
-            Ok(behind(Fixed::Behavior, place))
+            Ok(Fixed::Behavior)
         }
         Fixed::Equals => {
             if !is_symbol(token, EQUALS) {
                 return Err(Stop::Refused);
             }
-            Ok(behind(Fixed::Brace, place))
+            Ok(Fixed::Brace)
         }
         _ => Err(Stop::Memory),
     }
