@@ -1,3 +1,5 @@
 mod Stages
 mod HoldingRows
 mod TurningRows
+mod DetourRows
+mod AddingRows

@@ -12,7 +12,7 @@ use Rattle.rv_trace.specs.Trace.{has_serial, is_flushed, retires, is_retired, pl
 use Rattle.rv_trace.specs.RowParts.{name_of, leaves, ComesFirst}
 use Rattle.rv_waits.specs.Waits.{wait_at}
 use Rattle.rv_lawful.specs.Settings.{Stands, accesses_before, tailed}
-use Rattle.rv_lawful.specs.LawfulTrace.{WaitsForOperand, WaitsForCustom, WaitsForJump, WaitsToDrain, WaitsForMemory, WaitsForModule, OwnHold, StopsRun, WaitsBehind, TrueHold, ShowsHold, IsSettlingStage, Settles, successor, IsMismatch, Successors, IsEmptyAfter, StopsRightly, Retires, reads_of}
+use Rattle.rv_lawful.specs.LawfulTrace.{IsWordOf, WaitsForOperand, WaitsForCustom, WaitsForJump, WaitsToDrain, WaitsForMemory, WaitsForModule, OwnHold, StopsRun, WaitsBehind, TrueHold, ShowsHold, IsSettlingStage, Settles, successor, IsMismatch, Successors, IsEmptyAfter, StopsRightly, Retires, reads_of}
 use Rattle.lawful_rows.specs.Hands.{Hand, by_hand, no_customs, none_flushed}
 
 pub true_not_false : true ≡ false → ⊥
@@ -40,6 +40,40 @@ inside x d e = cc
 -- what holds of the cell that is written out holds of the cell of its stage
 pub same_cell : (P : Cell → Type 0) (x d : Cell) → ◌≡◌ {A = Option (Option Cell)} (Some (Some x)) (Some (Some d)) → P x → P d
 same_cell P x d e p = subst P (inside x d e) p
+
+-- The words of earlier cells
+
+-- each cell of the row has the word of the image at its serial
+abbrev pub Named : Hand → Row → Type 0
+Named h row = (stage : ℕ) (c : Cell) → Stands (by_hand h) row stage c → c.word ≡ get_or h.image c.serial 0
+
+abbrev pub AllNamed : Hand → List Row → Type 0
+AllNamed h [] = Unit {0}
+AllNamed h (row ∷ rows) = Named h row × AllNamed h rows
+
+abbrev pub HasWord : Hand → Option Cell → Type 0
+HasWord h None = Unit {0}
+HasWord h (Some c) = c.word ≡ get_or h.image c.serial 0
+
+pub named : (h : Hand) (row : Row) (a b c : Option Cell) (rest : List (Option Cell)) → row.cells ≡ a ∷ b ∷ c ∷ rest → HasWord h a → HasWord h b → HasWord h c → Named h row
+named h row a b c rest e x y z stage d s = of_stage stage (subst (λ l. slice_get (take 3 l) stage ≡ Some (Some d)) e s) where
+  has : (o : Option Cell) → HasWord h o → ◌≡◌ {A = Option (Option Cell)} (Some o) (Some (Some d)) → d.word ≡ get_or h.image d.serial 0
+  has None w q = cc
+  has (Some o) w q = same_cell (λ e. e.word ≡ get_or h.image e.serial 0) o d q w
+
+  of_stage : (stage : ℕ) → slice_get (take 3 (a ∷ b ∷ c ∷ rest)) stage ≡ Some (Some d) → d.word ≡ get_or h.image d.serial 0
+  of_stage zero q = has a x q
+  of_stage (suc zero) q = has b y q
+  of_stage (suc (suc zero)) q = has c z q
+  of_stage (suc (suc (suc n))) q = cc
+
+-- then the word of an earlier cell is that of its serial
+pub word_is : (h : Hand) (rows : List Row) → AllNamed h rows → (s word : ℕ) → IsWordOf (by_hand h) rows s word → word ≡ get_or h.image s 0
+word_is h [] all s word w = absurd w
+word_is h (row ∷ rows) all s word w = elim w [
+  | inl here ↦ sym here.4 ∙ all.0 here.0 here.1 here.2 ∙ ap (λ n. get_or h.image n 0) here.3
+  | inr before ↦ word_is h rows all.1 s word before
+]
 
 -- Holds that are not true
 
