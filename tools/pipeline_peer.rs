@@ -515,9 +515,6 @@ fn waits_of(bytes: &[u8]) -> Vec<u8> {
 fn shape_of(sheet: &str) -> Shape {
     if sheet.contains("\"three\"") {
         Shape { stages: 3, rd: 1, ex: 1, mem: 2 }
-    } else if sheet.contains("\"short\"") {
-        // The own core of `pipe_cases`.
-        Shape { stages: 4, rd: 1, ex: 1, mem: 2 }
     } else if sheet.contains("\"four\"") {
         Shape { stages: 4, rd: 1, ex: 2, mem: 3 }
     } else {

@@ -7,8 +7,8 @@
 //! - `faults READ MOST WRITE MOST`, and behind this line the words of a command in which this read and this write fail, counted from 0 (`-`: none does), and so many bytes at most go in one of
 //!   them.
 //!
-//! Of each command its output and its exit status are written, ended by a byte 30. The commands are those of docs/TUTORIAL.md, programs on pipelines with extensions, and commands
-//! on files that lack, are refused or are too long; `tools/command_cases.py` says where the answers due come from.
+//! Of each command its output and its exit status are written, ended by a byte 30. The commands are those of docs/TUTORIAL.md, programs on pipelines with extensions and of the base set
+//! alone, and commands on files that lack, are refused or are too long; `tools/command_cases.py` says where the answers due come from.
 #![tactic(auto)]
 
 mod files;

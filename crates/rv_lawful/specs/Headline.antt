@@ -8,7 +8,7 @@ use Rattle.rv_seq.specs.declared.answer.StepAnswer.TheVariants.{Done, Stopped}
 use Rattle.rv_seq.specs.Runs.{run, answer_at}
 use Rattle.rv_trace.specs.declared.row.Row.{Row}
 use Rattle.rv_trace.specs.Trace.{place, retirements}
-use Rattle.rv_trace.specs.Headline.{progress_bound, Progressing}
+use Rattle.rv_trace.specs.Progress.{progress_bound, Progressing}
 use Rattle.rv_waits.specs.Waits.{greatest}
 use Rattle.rv_lawful.specs.Settings.{setting, architecture}
 use Rattle.rv_lawful.specs.LawfulTrace.{Lawful}

@@ -12,7 +12,7 @@ use Rattle.rv_seq.specs.Steps.{word_at}
 use Rattle.rv_asks.specs.declared.asks.Asks.{Asks}
 use Rattle.rv_waits.specs.Waits.{wait_at}
 use Rattle.rv_trace.specs.Trace.{has_serial, is_retired, place, newest}
-use Rattle.rv_trace.specs.LawfulTrace.{Name, name_of, names_of, stays, leaves, address_after, front, unless, serial_after, fetched, comes, MovesInto, IsOlder, ComesFirst, AreEmpty, AscendFrom}
+use Rattle.rv_trace.specs.RowParts.{Name, name_of, names_of, stays, leaves, address_after, front, unless, serial_after, fetched, comes, MovesInto, IsOlder, ComesFirst, AreEmpty, AscendFrom}
 use Rattle.rv_lawful.specs.Settings.{Setting, accesses_before, stages_of, Stands, stood, tailed}
 
 -- Moves and fetch

@@ -6,7 +6,7 @@ use Rattle.rv_core.specs.declared.Shape.{Shape}
 use Rattle.rv_trace.specs.declared.row.Cell.{Cell}
 use Rattle.rv_trace.specs.declared.row.Row.{Row}
 use Rattle.rv_trace.specs.Trace.{has_serial}
-use Rattle.rv_trace.specs.LawfulTrace.{AscendFrom, name_of, names_of, front, serial_after}
+use Rattle.rv_trace.specs.RowParts.{AscendFrom, name_of, names_of, front, serial_after}
 use Rattle.rv_holds.specs.declared.token.Token.{Token}
 use Rattle.rv_holds.specs.Tokens.{Slots, cell_of, cells_of}
 use Rattle.rv_holds.specs.Holds.{stops_now}

@@ -5,7 +5,7 @@ use Rattle.std.proofs.lemmas.Bool.Decides.{nat_tests}
 use Rattle.rv_trace.specs.declared.row.Cell.{Cell}
 use Rattle.rv_trace.specs.declared.row.Row.{Row}
 use Rattle.rv_trace.specs.Trace.{has_cell, retirements}
-use Rattle.rv_trace.specs.LawfulTrace.{front, unless, leaves, address_after, serial_after}
+use Rattle.rv_trace.specs.RowParts.{front, unless, leaves, address_after, serial_after}
 use Rattle.rv_holds.specs.declared.token.Token.{Token}
 use Rattle.rv_holds.specs.declared.flushing.Turn.{Turn}
 use Rattle.rv_holds.specs.Tokens.{Slots, makes_access, cell_of, cells_of}

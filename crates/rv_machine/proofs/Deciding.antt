@@ -6,7 +6,7 @@ use Rattle.rv_core.specs.declared.Shape.{Shape}
 use Rattle.rv_seq.specs.Steps.{word_at}
 use Rattle.rv_trace.specs.declared.row.Hold.{Hold}
 use Rattle.rv_trace.specs.declared.row.Row.{Row}
-use Rattle.rv_trace.specs.LawfulTrace.{name_of, names_of}
+use Rattle.rv_trace.specs.RowParts.{name_of, names_of}
 use Rattle.rv_tried.specs.declared.trial.Trial.{Trial}
 use Rattle.rv_holds.specs.declared.token.Token.{Token}
 use Rattle.rv_holds.specs.Tokens.{Slots, or_else, stop_of, cells_of}

@@ -6,7 +6,7 @@ use Rattle.ix_bits.specs.declared.number.Bits.{Bits}
 use Rattle.rv_effect.specs.WordEffects.{AreWide}
 use Rattle.rv_seq.specs.Steps.{word_at}
 use Rattle.rv_trace.specs.declared.row.Row.{Row}
-use Rattle.rv_trace.specs.LawfulTrace.{name_of, leaves, front, address_after}
+use Rattle.rv_trace.specs.RowParts.{name_of, leaves, front, address_after}
 use Rattle.rv_holds.specs.declared.token.Token.{Token}
 use Rattle.rv_holds.specs.Tokens.{Slots, cell_of, cells_of}
 use Rattle.rv_holds.specs.Holds.{is_late}

@@ -8,7 +8,7 @@ use Rattle.rv_seq.specs.Runs.{run as seq_run}
 use Rattle.rv_waits.specs.Waits.{greatest}
 use Rattle.rv_trace.specs.declared.row.Row.{Row}
 use Rattle.rv_trace.specs.Trace.{blank, place, is_flushed, is_retired, retirements, rows_without}
-use Rattle.rv_trace.specs.LawfulTrace.{MovesInto, names_of, serial_after}
+use Rattle.rv_trace.specs.RowParts.{MovesInto, names_of, serial_after}
 use Rattle.rv_holds.specs.declared.token.Token.{Token}
 use Rattle.rv_holds.specs.Tokens.{Slots, cell_of, cells_of}
 use Rattle.rv_holds.specs.Holds.{oldest, writes_late}

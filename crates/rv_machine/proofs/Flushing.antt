@@ -9,7 +9,7 @@ use Rattle.rv_seq.specs.Steps.{word_at}
 use Rattle.rv_trace.specs.declared.row.Cell.{Cell}
 use Rattle.rv_trace.specs.declared.row.Row.{Row}
 use Rattle.rv_trace.specs.Trace.{place, has_serial, is_flushed, is_retired, retirements}
-use Rattle.rv_trace.specs.LawfulTrace.{AscendFrom}
+use Rattle.rv_trace.specs.RowParts.{AscendFrom}
 use Rattle.rv_holds.specs.declared.token.Token.{Token}
 use Rattle.rv_holds.specs.declared.flushing.Turn.{Turn}
 use Rattle.rv_holds.specs.Tokens.{Slots, cells_of}

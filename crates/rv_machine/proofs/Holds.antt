@@ -7,7 +7,7 @@ use Rattle.rv_trace.specs.declared.row.Hold.{Hold}
 use Rattle.rv_trace.specs.declared.row.Hold.TheVariants.{Behind}
 use Rattle.rv_trace.specs.declared.row.Row.{Row}
 use Rattle.rv_trace.specs.Trace.{has_serial, is_flushed, retirements}
-use Rattle.rv_trace.specs.LawfulTrace.{ComesFirst}
+use Rattle.rv_trace.specs.RowParts.{ComesFirst}
 use Rattle.rv_seq.specs.declared.commit.Stop.{Stop}
 use Rattle.rv_holds.specs.declared.token.Token.{Token}
 use Rattle.rv_holds.specs.Tokens.{Slots, or_else, cells_of}

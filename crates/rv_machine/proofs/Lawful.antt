@@ -12,7 +12,7 @@ use Rattle.rv_trace.specs.declared.row.Cell.{Cell}
 use Rattle.rv_trace.specs.declared.row.Row.{Row}
 use Rattle.rv_trace.specs.declared.row.Hold.TheVariants.{Late}
 use Rattle.rv_trace.specs.Trace.{has_serial, place, retirements, newest}
-use Rattle.rv_trace.specs.LawfulTrace.{name_of, names_of, stays, leaves, comes, fetched, front, MovesInto, AreEmpty}
+use Rattle.rv_trace.specs.RowParts.{name_of, names_of, stays, leaves, comes, fetched, front, MovesInto, AreEmpty}
 use Rattle.rv_holds.specs.declared.token.Token.{Token}
 use Rattle.rv_asks.specs.declared.asks.Asks.{Asks}
 use Rattle.rv_holds.specs.declared.flushing.Turn.{Turn}

@@ -2,7 +2,7 @@
 use Rattle.std.proofs.Common.{◌≡◌, ℕ, List, [], ◌∷◌, Option, Some, None, refl, sym, ap, ◌∙◌, arith, inl, inr}
 use Rattle.rv_seq.specs.declared.commit.Commit.{Commit}
 use Rattle.rv_trace.specs.declared.row.Row.{Row}
-use Rattle.rv_trace.specs.LawfulTrace.{Name, name_of, names_of}
+use Rattle.rv_trace.specs.RowParts.{Name, name_of, names_of}
 use Rattle.rv_holds.specs.declared.token.Token.{Token}
 use Rattle.rv_holds.specs.Tokens.{Slots, cells_of, commit_of}
 use Rattle.rv_engine.specs.Settings.{Setting, Machine}

@@ -10,7 +10,7 @@ use Rattle.rv_trace.specs.declared.row.Hold.{Hold}
 use Rattle.rv_trace.specs.declared.row.Hold.TheVariants.{Operand, Board, Custom, Late, Drain, Wait, StoreAhead, Tail, UnitFull, Port, Behind}
 use Rattle.rv_trace.specs.declared.row.Row.{Row}
 use Rattle.rv_trace.specs.Trace.{has_cell, place, retirements}
-use Rattle.rv_trace.specs.LawfulTrace.{ComesFirst}
+use Rattle.rv_trace.specs.RowParts.{ComesFirst}
 use Rattle.rv_holds.specs.declared.token.Token.{Token}
 use Rattle.rv_holds.specs.Tokens.{Slots, makes_access}
 use Rattle.rv_engine.specs.Settings.{Setting, Machine, shape_of}

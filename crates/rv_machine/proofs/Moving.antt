@@ -9,7 +9,7 @@ use Rattle.rv_trace.specs.declared.row.Hold.{Hold}
 use Rattle.rv_trace.specs.declared.row.Hold.TheVariants.{Behind}
 use Rattle.rv_trace.specs.declared.row.Row.{Row}
 use Rattle.rv_trace.specs.Trace.{has_serial}
-use Rattle.rv_trace.specs.LawfulTrace.{Name, name_of, names_of, stays, leaves, comes, front, fetched as named, InStage, MovesInto}
+use Rattle.rv_trace.specs.RowParts.{Name, name_of, names_of, stays, leaves, comes, front, fetched as named, InStage, MovesInto}
 use Rattle.rv_holds.specs.declared.token.Token.{Token}
 use Rattle.rv_holds.specs.Tokens.{Slots, or_else, cell_of, cells_of}
 use Rattle.rv_holds.specs.Holds.{own_hold, stops_now, is_blocked, shown, decided}

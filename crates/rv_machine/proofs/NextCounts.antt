@@ -12,7 +12,7 @@ use Rattle.rv_trace.specs.declared.row.Hold.{Hold}
 use Rattle.rv_trace.specs.declared.row.Hold.TheVariants.{Operand, Board, Custom, Late, Drain, Wait, StoreAhead, Tail, UnitFull, Port, Behind}
 use Rattle.rv_trace.specs.declared.row.Row.{Row}
 use Rattle.rv_trace.specs.Trace.{retirements, rows_without}
-use Rattle.rv_trace.specs.LawfulTrace.{names_of, serial_after, front, MovesInto}
+use Rattle.rv_trace.specs.RowParts.{names_of, serial_after, front, MovesInto}
 use Rattle.rv_holds.specs.declared.token.Token.{Token}
 use Rattle.rv_holds.specs.declared.flushing.Turn.{Turn}
 use Rattle.rv_holds.specs.Tokens.{Slots, or_else, makes_access, cell_of, cells_of}

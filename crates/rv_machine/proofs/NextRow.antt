@@ -4,7 +4,7 @@ use Rattle.std.specs.Prelude.{if◌then◌else◌, is_some}
 use Rattle.rv_trace.specs.declared.row.Cell.{Cell}
 use Rattle.rv_trace.specs.declared.row.Row.{Row}
 use Rattle.rv_trace.specs.Trace.{retirements}
-use Rattle.rv_trace.specs.LawfulTrace.{names_of, serial_after, MovesInto}
+use Rattle.rv_trace.specs.RowParts.{names_of, serial_after, MovesInto}
 use Rattle.rv_holds.specs.declared.token.Token.{Token}
 use Rattle.rv_holds.specs.Tokens.{Slots, makes_access, cell_of, cells_of}
 use Rattle.rv_holds.specs.Flushing.{struck, slot_stop}

@@ -4,7 +4,7 @@ use Rattle.std.specs.Prelude.{if◌then◌else◌, is_some}
 use Rattle.rv_waits.specs.Waits.{greatest}
 use Rattle.rv_trace.specs.declared.row.Row.{Row}
 use Rattle.rv_trace.specs.Trace.{newest, rows_without}
-use Rattle.rv_trace.specs.Headline.{progress_bound}
+use Rattle.rv_trace.specs.Progress.{progress_bound}
 use Rattle.rv_engine.specs.Settings.{Setting, Machine, shape_of, tree_of}
 use Rattle.rv_engine.specs.Rows.{IsRowOf}
 use Rattle.rv_lawful.specs.Headline.{Headline}

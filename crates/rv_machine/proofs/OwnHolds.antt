@@ -8,7 +8,7 @@ use Rattle.rv_trace.specs.declared.row.Hold.{Hold}
 use Rattle.rv_trace.specs.declared.row.Hold.TheVariants.{Operand, Custom, Late, Drain, Wait, StoreAhead, Tail}
 use Rattle.rv_trace.specs.declared.row.Row.{Row}
 use Rattle.rv_trace.specs.Trace.{is_flushed, is_retired, place, retirements}
-use Rattle.rv_trace.specs.LawfulTrace.{IsOlder, ComesFirst}
+use Rattle.rv_trace.specs.RowParts.{IsOlder, ComesFirst}
 use Rattle.rv_seq.specs.declared.commit.Stop.{Stop}
 use Rattle.rv_seq.specs.declared.answer.StepAnswer.{StepAnswer}
 use Rattle.rv_seq.specs.declared.answer.StepAnswer.TheVariants.{Done, Stopped}

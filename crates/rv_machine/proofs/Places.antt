@@ -5,7 +5,7 @@ use Rattle.std.proofs.lemmas.Bool.{cases_lt}
 use Rattle.rv_trace.specs.declared.row.Row.{Row}
 use Rattle.rv_core.specs.declared.Shape.{Shape}
 use Rattle.rv_trace.specs.Trace.{has_serial, is_flushed, place}
-use Rattle.rv_trace.specs.LawfulTrace.{Name, name_of, names_of, serial_after}
+use Rattle.rv_trace.specs.RowParts.{Name, name_of, names_of, serial_after}
 use Rattle.rv_holds.specs.declared.token.Token.{Token}
 use Rattle.rv_holds.specs.Tokens.{Slots, cell_of, cells_of}
 use Rattle.rv_holds.specs.Holds.{decided}

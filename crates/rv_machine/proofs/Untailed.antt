@@ -6,7 +6,7 @@ use Rattle.rv_trace.specs.declared.row.Cell.{Cell}
 use Rattle.rv_trace.specs.declared.row.Hold.{Hold}
 use Rattle.rv_trace.specs.declared.row.Row.{Row}
 use Rattle.rv_trace.specs.Trace.{has_serial, is_flushed, retirements, newest}
-use Rattle.rv_trace.specs.LawfulTrace.{Name, name_of, names_of, stays, leaves, InStage, MovesInto}
+use Rattle.rv_trace.specs.RowParts.{Name, name_of, names_of, stays, leaves, InStage, MovesInto}
 use Rattle.rv_holds.specs.declared.token.Token.{Token}
 use Rattle.rv_holds.specs.Tokens.{Slots, cell_of, cells_of}
 use Rattle.rv_engine.specs.Settings.{Setting, Machine, shape_of}

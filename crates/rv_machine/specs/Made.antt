@@ -3,7 +3,7 @@ use Rattle.std.specs.Prelude.{◌≡◌, ℕ, suc, ◌+◌, ◌<◌, List, ◌�
 use Rattle.rv_seq.specs.declared.commit.Commit.{Commit}
 use Rattle.rv_trace.specs.declared.row.Row.{Row}
 use Rattle.rv_trace.specs.Trace.{has_serial, retirements}
-use Rattle.rv_trace.specs.LawfulTrace.{AscendFrom, names_of}
+use Rattle.rv_trace.specs.RowParts.{AscendFrom, names_of}
 use Rattle.rv_holds.specs.declared.token.Token.{Token}
 use Rattle.rv_holds.specs.Tokens.{Slots, cells_of, commit_of}
 use Rattle.rv_holds.specs.Flushing.{next_of, settles, struck}

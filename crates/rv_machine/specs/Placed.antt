@@ -10,7 +10,7 @@ use Rattle.rv_seq.specs.Steps.{word_at}
 use Rattle.rv_seq.specs.Runs as Runs
 use Rattle.rv_trace.specs.declared.row.Row.{Row}
 use Rattle.rv_trace.specs.Trace.{newest, place, is_flushed, is_retired, retirements, rows_without}
-use Rattle.rv_trace.specs.LawfulTrace.{MovesInto, names_of, serial_after}
+use Rattle.rv_trace.specs.RowParts.{MovesInto, names_of, serial_after}
 use Rattle.rv_tried.specs.declared.trial.Trial.{Trial}
 use Rattle.rv_waits.specs.Waits.{greatest}
 use Rattle.rv_holds.specs.declared.token.Token.{Token}

@@ -1,16 +1,8 @@
--- The text of rows, one after another, and of a whole run.
-use Rattle.std.proofs.Common.{◌≡◌, ℕ, zero, suc, ◌+◌, ◌≤◌, List, [], ◌∷◌, ◌++◌, drop, length, reverse, None, Some, refl, sym, ap, ◌∙◌, subst, arith, append_assoc}
+-- The text of rows, one after another.
+use Rattle.std.proofs.Common.{◌≡◌, ℕ, zero, suc, ◌+◌, ◌≤◌, List, [], ◌∷◌, ◌++◌, drop, length, Some, refl, sym, ap, ◌∙◌, subst, arith, append_assoc}
 use Rattle.std.specs.Prelude.{slice_get}
-use Rattle.rv_core.specs.declared.Shape.{Shape}
-use Rattle.rv_core.specs.Kinds.{HasNumbers}
-use Rattle.rv_seq.specs.Bare.{bare}
-use Rattle.rv_seq.specs.declared.arch.Arch.{Arch}
 use Rattle.rv_trace.specs.declared.row.Row.{Row}
-use Rattle.rv_trace.specs.Trace.{newest, architecture}
-use Rattle.rv_trace.specs.Headline.{Headline}
 use Rattle.rv_trace.specs.TraceText.{row_text, trace_text}
-use Rattle.rv_record.specs.RunText.{state_text}
-use Rattle.rv_show.specs.PipelineText.{IsPipelineText}
 
 row_behind : (rows : List Row) (k : ℕ) (row : Row) → slice_get rows k ≡ Some row → drop k rows ≡ row ∷ drop (suc k) rows
 row_behind [] k row h = cc
@@ -41,18 +33,3 @@ put_row stages k rows row rest out out' h e =
     ∙ sym (append_assoc out (row_text stages k row) (trace_text stages (suc k) (drop (suc k) rows) ++ rest))
     ∙ ap (λ l. l ++ (trace_text stages (suc k) (drop (suc k) rows) ++ rest)) (sym e)
     ∙ ap (λ n. out' ++ (trace_text stages n (drop n rows) ++ rest)) f
-
-pub pipeline_text : (stages rd ex mem : ℕ) (image waits : List ℕ) (cycles : ℕ) (words kept_waits : List ℕ) (first last printed : Shape) (rows kept : List Row) (arch : Arch)
-    → words ≡ image → kept_waits ≡ waits → HasNumbers first stages rd ex mem → last ≡ first → printed.stages ≡ stages → Headline words kept_waits last rows → length rows ≤ cycles
-    → ((newest rows).stop ≡ None → length rows ≡ cycles) → kept ≡ reverse rows → arch ≡ architecture rows
-    → IsPipelineText stages rd ex mem image waits cycles (trace_text printed.stages 0 kept ++ state_text bare arch)
-pipeline_text stages rd ex mem image waits cycles words kept_waits first last printed rows kept arch p w core q n h few whole k a =
-    record {
-      shape = first;
-      core = core;
-      rows = rows;
-      headline = subst (λ l. Headline l waits first rows) p (subst (λ l. Headline words l first rows) w (subst (λ s. Headline words kept_waits s rows) q h));
-      few = few;
-      whole = whole;
-      text_is = ap (λ m. trace_text m 0 kept ++ state_text bare arch) n ∙ ap (λ r. trace_text stages 0 r ++ state_text bare arch) k ∙ ap (λ s. trace_text stages 0 (reverse rows) ++ state_text bare s) a;
-    }

@@ -1,9 +1,6 @@
-//! The runs of a pipeline, told to a sink: the rows, one after another, and the state behind them.
+//! The rows of a pipeline, one after another, and the state behind them, told to a sink.
 #![tactic(auto)]
 
-mod running;
 mod writing;
 
-pub use running::write_pipeline;
-pub use rv_tell::RunErr;
 pub use writing::write_run;

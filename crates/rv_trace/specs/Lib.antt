@@ -1,7 +1,5 @@
-pub mod BaseRun
-pub mod Asked
 pub mod Trace
-pub mod LawfulTrace
-pub mod Headline
+pub mod RowParts
+pub mod Progress
 pub mod TraceText
 pub mod History

@@ -1,5 +1,5 @@
-//! Rows: what each stage of a pipeline holds in a clock cycle, the rows of a run, and their text. Which rows are lawful,
-//! and what they show of the sequential run, stands in `specs`.
+//! Rows: what each stage of a pipeline holds in a clock cycle, the rows of a run, and their text. What the laws of rows are
+//! made of stands in `specs`.
 #![tactic(auto)]
 
 mod row;
@@ -8,5 +8,4 @@ mod trace;
 
 pub use row::{Cell, Hold, Row, Target};
 pub use row_text::{put_registers, put_retired, put_row, put_small, put_stop, put_word};
-pub use rv_waits::Waits;
 pub use trace::Trace;

@@ -1,0 +1,5 @@
+mod Stages
+mod HoldingRows
+mod TurningRows
+mod DetourRows
+mod AddingRows

@@ -1,0 +1,81 @@
+-- Runs and rows that are made by hand, on the core of three stages (this project's choice).
+use Rattle.std.specs.Prelude.{ℕ, List, [], ◌∷◌, replicate, Option, None, Bool, false}
+use Rattle.rv_asks.specs.declared.asks.Asks.{Asks}
+use Rattle.rv_core.specs.declared.Shape.{Shape}
+use Rattle.rv_core.specs.Stages.{three_lawful}
+use Rattle.rv_lawful.specs.Settings.{Setting, Course}
+use Rattle.rv_seq.specs.declared.commit.Commit.{Commit}
+use Rattle.rv_seq.specs.declared.commit.Slot.TheVariants.{Absent}
+use Rattle.rv_seq.specs.declared.commit.Stop.{Stop}
+use Rattle.rv_trace.specs.declared.row.Cell.{Cell}
+use Rattle.rv_trace.specs.declared.row.Hold.{Hold}
+use Rattle.rv_trace.specs.declared.row.Row.{Row}
+
+-- what is made by hand: the words of an image, a run, and what is asked of each word's instruction
+pub record Hand : Type 0 where
+  pub image : List ℕ
+  pub course : Course
+  pub asks : ℕ → Asks
+
+-- its numbers
+abbrev pub three : Shape
+three = record { stages = 3; rd = 1; ex = 1; mem = 2; lawful = three_lawful }
+
+-- what its rows are judged against, over a memory that never waits
+abbrev pub by_hand : Hand → Setting
+by_hand h =
+    record {
+      image = h.image;
+      waits = [];
+      shape = three;
+      course = h.course;
+      asks = h.asks;
+    }
+
+-- no custom register
+abbrev pub no_customs : List Bool
+no_customs = replicate 16 false
+
+-- an instruction of which nothing is asked
+abbrev pub quiet : Asks
+quiet =
+    record {
+      first = 0;
+      second = 0;
+      destination = 0;
+      loads = false;
+      stores = false;
+      late = false;
+      tail = 0;
+      customs = no_customs;
+      late_customs = no_customs;
+    }
+
+-- the writes of an instruction at an address that writes nothing but the pc
+abbrev pub going : ℕ → ℕ → ℕ → Commit
+going at word next =
+    record { at = at; word = word; rd_index = 0; rd = Absent; custom = replicate 16 Absent; store = None; next = next }
+
+-- the cell of this serial, fetched at this address
+abbrev pub cell : ℕ → ℕ → ℕ → Option Hold → Cell
+cell serial at word hold = record { serial = serial; at = at; word = word; hold = hold }
+
+-- no serial
+abbrev pub none_flushed : List (Option ℕ)
+none_flushed = replicate 5 None
+
+-- a row with the cells of three stages, what it retires, its flushed serials, its redirect and its stop
+abbrev pub row_with : Option Cell → Option Cell → Option Cell → Option (ℕ × Commit) → List (Option ℕ) → Option ℕ → Option Stop → Row
+row_with a b c retired flushed redirect stop =
+    record {
+      cells = a ∷ b ∷ c ∷ None ∷ None ∷ [];
+      retired = retired;
+      written = None;
+      flushed = flushed;
+      redirect = redirect;
+      stop = stop;
+    }
+
+-- a row that flushes nothing and goes on
+abbrev pub row_of : Option Cell → Option Cell → Option Cell → Option (ℕ × Commit) → Row
+row_of a b c retired = row_with a b c retired none_flushed None None

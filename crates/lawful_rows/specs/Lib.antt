@@ -1,0 +1,5 @@
+pub mod Hands
+pub mod Holding
+pub mod Turning
+pub mod Detour
+pub mod Adding
