@@ -24,9 +24,11 @@ adding_image = 5243027 ∷ 7340307 ∷ 2130355 ∷ 1048691 ∷ []
 abbrev pub adding_asks : ℕ → Asks
 adding_asks word = asks_with [] (blank_outline three []) word (decoded_in bare word)
 
+-- the run of the image, with its words
 abbrev pub adding_hand : Hand
 adding_hand = record { image = adding_image; course = course_of bare adding_image; asks = adding_asks }
 
+-- what its rows are judged against
 abbrev pub adding : Setting
 adding = by_hand adding_hand
 
@@ -34,21 +36,27 @@ adding = by_hand adding_hand
 abbrev pub writes : ℕ → ℕ → ℕ → ℕ → Commit
 writes at word rd value = record { at = at; word = word; rd_index = rd; rd = Now value; custom = replicate 16 Absent; store = None; next = at + 4 }
 
+-- the instruction that writes five
 abbrev pub five : Cell
 five = cell 0 0 5243027 None
 
+-- the one that writes seven
 abbrev pub seven : Cell
 seven = cell 1 4 7340307 None
 
+-- the one that adds them
 abbrev pub sum : Option Hold → Cell
 sum hold = cell 2 8 2130355 hold
 
+-- the one that stops the run
 abbrev pub break : Option Hold → Cell
 break hold = cell 3 12 1048691 hold
 
+-- the first one is fetched
 abbrev pub row_0 : Row
 row_0 = row_of (Some five) None None None
 
+-- it leaves EX
 abbrev pub row_1 : Row
 row_1 = row_of (Some seven) (Some five) None None
 
@@ -56,18 +64,23 @@ row_1 = row_of (Some seven) (Some five) None None
 abbrev pub third_row : ℕ → Row
 third_row value = row_of (Some (sum None)) (Some seven) (Some five) (Some (0, writes 0 5243027 1 value))
 
+-- it retires
 abbrev pub row_2 : Row
 row_2 = third_row 5
 
+-- the second one retires, and the third waits for it
 abbrev pub row_3 : Row
 row_3 = row_of (Some (break (Some Behind))) (Some (sum (Some (Operand 2 1)))) (Some seven) (Some (1, writes 4 7340307 2 7))
 
+-- the third one leaves EX
 abbrev pub row_4 : Row
 row_4 = row_of (Some (break None)) (Some (sum None)) None None
 
+-- the third one retires, with this stop
 abbrev pub last_row : Option Stop → Row
 last_row stop = row_with None (Some (break None)) (Some (sum None)) (Some (2, writes 8 2130355 3 12)) none_flushed None stop
 
+-- the run stops
 abbrev pub row_5 : Row
 row_5 = last_row (Some Ebreak)
 
@@ -75,6 +88,7 @@ row_5 = last_row (Some Ebreak)
 abbrev pub two_rows : List Row
 two_rows = row_1 ∷ row_0 ∷ []
 
+-- all but the last one
 abbrev pub five_rows : List Row
 five_rows = row_4 ∷ row_3 ∷ row_2 ∷ two_rows
 

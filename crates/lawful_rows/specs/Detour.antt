@@ -15,6 +15,7 @@ abbrev pub detour_answer : ℕ → StepAnswer
 detour_answer zero = Done (going 0 19 8)
 detour_answer (suc p) = Stopped Ebreak
 
+-- the pc at each place
 abbrev pub detour_pc : ℕ → ℕ
 detour_pc zero = 0
 detour_pc (suc p) = 8
@@ -23,19 +24,23 @@ detour_pc (suc p) = 8
 abbrev pub detour_hand : Hand
 detour_hand = record { image = 19 ∷ 19 ∷ 1048691 ∷ []; course = record { answer = detour_answer; pc = detour_pc; accesses = λ p. false }; asks = λ word. quiet }
 
+-- what its rows are judged against
 abbrev pub detour : Setting
 detour = by_hand detour_hand
 
--- the first instruction, the one behind it, and the one to which the run goes on
+-- the first instruction
 abbrev pub leaping : Cell
 leaping = cell 0 0 19 None
 
+-- the one behind it
 abbrev pub passed : Cell
 passed = cell 1 4 19 None
 
+-- the one to which the run goes on
 abbrev pub target : Cell
 target = cell 2 8 1048691 None
 
+-- the first instruction is fetched
 abbrev pub row_0 : Row
 row_0 = row_of (Some leaping) None None None
 
@@ -43,15 +48,19 @@ row_0 = row_of (Some leaping) None None None
 abbrev pub turn_row : List (Option ℕ) → Option ℕ → Row
 turn_row flushed redirect = row_with (Some passed) (Some leaping) None None flushed redirect None
 
+-- the younger cell is flushed, and the fetch goes to address 8
 abbrev pub row_1 : Row
 row_1 = turn_row (Some 1 ∷ replicate 4 None) (Some 8)
 
+-- the word there is fetched, and the first instruction retires
 abbrev pub row_2 : Row
 row_2 = row_of (Some target) None (Some leaping) (Some (0, going 0 19 8))
 
+-- with this stop
 abbrev pub last_row : Option Stop → Row
 last_row stop = row_with None (Some target) None None none_flushed None stop
 
+-- the run stops
 abbrev pub row_3 : Row
 row_3 = last_row (Some Ebreak)
 
@@ -59,6 +68,7 @@ row_3 = last_row (Some Ebreak)
 abbrev pub two_rows : List Row
 two_rows = row_1 ∷ row_0 ∷ []
 
+-- and the next one
 abbrev pub three_rows : List Row
 three_rows = row_2 ∷ two_rows
 

@@ -17,7 +17,7 @@ pub record Hand : Type 0 where
   pub course : Course
   pub asks : ℕ → Asks
 
--- its numbers
+-- the numbers of that core
 abbrev pub three : Shape
 three = record { stages = 3; rd = 1; ex = 1; mem = 2; lawful = three_lawful }
 

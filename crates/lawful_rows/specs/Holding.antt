@@ -1,6 +1,8 @@
 -- A run whose first instruction is Tight and writes a custom register behind EX: its rows have the holds Tail, Custom, Operand and Behind. And rows that no pipeline
 -- may show (this project's choice).
 use Rattle.std.specs.Prelude.{ℕ, zero, suc, ◌*◌, List, [], ◌∷◌, replicate, Option, Some, None, Bool, true, false, if◌then◌else◌, ◌==◌}
+use Rattle.std.proofs.Common.{lit<, lit≤}
+use Rattle.ix_bits.specs.declared.number.Bits.{Bits}
 use Rattle.rv_asks.specs.declared.asks.Asks.{Asks}
 use Rattle.rv_lawful.specs.LawfulTrace.{Lawful}
 use Rattle.rv_lawful.specs.Settings.{Setting}
@@ -32,38 +34,54 @@ holding_asks word =
     record { first = 2; second = 0; destination = 0; loads = false; stores = false; late = false; tail = 0; customs = no_customs; late_customs = no_customs }
     else quiet
 
--- x2 is written
+-- a value of custom register 0
+abbrev pub given : Bits
+given = record { raw = 5; width = 8; some_width = lit≤ tt; most_width = lit≤ tt; in_width = lit< tt }
+
+-- the writer writes it
+abbrev pub writing : Commit
+writing = record { at = 0; word = 11; rd_index = 0; rd = Absent; custom = Now given ∷ replicate 15 Absent; store = None; next = 4 }
+
+-- the reader writes what it read to x2
 abbrev pub reading : Commit
-reading = record { at = 4; word = 299; rd_index = 2; rd = Now 0; custom = replicate 16 Absent; store = None; next = 8 }
+reading = record { at = 4; word = 299; rd_index = 2; rd = Now 5; custom = replicate 16 Absent; store = None; next = 8 }
 
 -- each goes on to the next one, and the fourth stops
 abbrev pub holding_answer : ℕ → StepAnswer
-holding_answer zero = Done (going 0 11 4)
+holding_answer zero = Done writing
 holding_answer (suc zero) = Done reading
 holding_answer (suc (suc zero)) = Done (going 8 65579 12)
 holding_answer (suc (suc (suc p))) = Stopped Ebreak
 
+-- the run, with its words
 abbrev pub holding_hand : Hand
 holding_hand = record { image = 11 ∷ 299 ∷ 65579 ∷ 1048691 ∷ []; course = record { answer = holding_answer; pc = λ p. 4 * p; accesses = λ p. false }; asks = holding_asks }
 
+-- what its rows are judged against
 abbrev pub holding : Setting
 holding = by_hand holding_hand
 
+-- the instruction that writes custom register 0
 abbrev pub writer : Option Hold → Cell
 writer hold = cell 0 0 11 hold
 
+-- the one that reads it
 abbrev pub reader : Option Hold → Cell
 reader hold = cell 1 4 299 hold
 
+-- the one that reads x2
 abbrev pub sum : Option Hold → Cell
 sum hold = cell 2 8 65579 hold
 
+-- the one that stops the run
 abbrev pub break : Option Hold → Cell
 break hold = cell 3 12 1048691 hold
 
+-- the writer is fetched
 abbrev pub row_0 : Row
 row_0 = row_of (Some (writer None)) None None None
 
+-- it leaves EX
 abbrev pub row_1 : Row
 row_1 = row_of (Some (reader None)) (Some (writer None)) None None
 
@@ -71,28 +89,35 @@ row_1 = row_of (Some (reader None)) (Some (writer None)) None None
 abbrev pub held_row : Hold → Row
 held_row tail = row_of (Some (sum (Some Behind))) (Some (reader (Some (Custom 0 0)))) (Some (writer (Some tail))) None
 
+-- it goes on in the last stage
 abbrev pub row_2 : Row
 row_2 = held_row (Tail 2)
 
+-- and once more
 abbrev pub row_3 : Row
 row_3 = held_row (Tail 1)
 
 -- the writer retires, and the reader waits for it still
 abbrev pub row_4 : Row
-row_4 = row_of (Some (sum (Some Behind))) (Some (reader (Some (Custom 0 0)))) (Some (writer None)) (Some (0, going 0 11 4))
+row_4 = row_of (Some (sum (Some Behind))) (Some (reader (Some (Custom 0 0)))) (Some (writer None)) (Some (0, writing))
 
+-- the reader leaves EX
 abbrev pub row_5 : Row
 row_5 = row_of (Some (sum None)) (Some (reader None)) None None
 
+-- it retires, and the third instruction waits for it
 abbrev pub row_6 : Row
 row_6 = row_of (Some (break (Some Behind))) (Some (sum (Some (Operand 2 1)))) (Some (reader None)) (Some (1, reading))
 
+-- the third instruction leaves EX
 abbrev pub row_7 : Row
 row_7 = row_of (Some (break None)) (Some (sum None)) None None
 
+-- it retires, with this stop
 abbrev pub last_row : Option Stop → Row
 last_row stop = row_with None (Some (break None)) (Some (sum None)) (Some (2, going 8 65579 12)) none_flushed None stop
 
+-- the run stops
 abbrev pub row_8 : Row
 row_8 = last_row (Some Ebreak)
 
@@ -100,9 +125,11 @@ row_8 = last_row (Some Ebreak)
 abbrev pub two_rows : List Row
 two_rows = row_1 ∷ row_0 ∷ []
 
+-- the rows up to the retirement of the writer
 abbrev pub five_rows : List Row
 five_rows = row_4 ∷ row_3 ∷ row_2 ∷ two_rows
 
+-- all but the last one
 abbrev pub eight_rows : List Row
 eight_rows = row_7 ∷ row_6 ∷ row_5 ∷ five_rows
 
@@ -122,10 +149,11 @@ untrue_hold = row_of (Some (sum (Some Behind))) (Some (reader (Some (Custom 0 0)
 abbrev pub later_hold : List Row
 later_hold = row_of (Some (sum (Some Behind))) (Some (reader (Some Behind))) (Some (writer (Some (Tail 2)))) None ∷ two_rows
 
--- Tail is counted one off
+-- Tail is counted one more
 abbrev pub tail_one_more : List Row
 tail_one_more = held_row (Tail 3) ∷ two_rows
 
+-- Tail is counted one less
 abbrev pub tail_one_less : List Row
 tail_one_less = held_row (Tail 1) ∷ two_rows
 

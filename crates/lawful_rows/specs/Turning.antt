@@ -25,6 +25,7 @@ abbrev pub turning_answer : ℕ → StepAnswer
 turning_answer zero = Done (going 0 91 12)
 turning_answer (suc p) = Stopped Ebreak
 
+-- the pc at each place
 abbrev pub turning_pc : ℕ → ℕ
 turning_pc zero = 0
 turning_pc (suc p) = 12
@@ -33,16 +34,19 @@ turning_pc (suc p) = 12
 abbrev pub turning_hand : Hand
 turning_hand = record { image = 91 ∷ 19 ∷ 19 ∷ 1048691 ∷ []; course = record { answer = turning_answer; pc = turning_pc; accesses = λ p. false }; asks = turning_asks }
 
+-- what its rows are judged against
 abbrev pub turning : Setting
 turning = by_hand turning_hand
 
+-- the instruction that writes the pc
 abbrev pub jump : Option Hold → Cell
 jump hold = cell 0 0 91 hold
 
--- the two instructions behind it
+-- the one behind it
 abbrev pub passed : Option Hold → Cell
 passed hold = cell 1 4 19 hold
 
+-- and the one behind that
 abbrev pub passed_too : Option Hold → Cell
 passed_too hold = cell 2 8 19 hold
 
@@ -50,6 +54,7 @@ passed_too hold = cell 2 8 19 hold
 abbrev pub target : Cell
 target = cell 3 12 1048691 None
 
+-- the jump is fetched
 abbrev pub row_0 : Row
 row_0 = row_of (Some (jump None)) None None None
 
@@ -57,6 +62,7 @@ row_0 = row_of (Some (jump None)) None None None
 abbrev pub at_ex : List (Option ℕ) → Option ℕ → Row
 at_ex flushed redirect = row_with (Some (passed None)) (Some (jump None)) None None flushed redirect None
 
+-- it leaves EX, and turns nothing
 abbrev pub row_1 : Row
 row_1 = at_ex none_flushed None
 
@@ -72,18 +78,23 @@ turn_row flushed redirect = row_with (Some (passed_too None)) (Some (passed None
 abbrev pub both : List (Option ℕ)
 both = Some 1 ∷ Some 2 ∷ replicate 3 None
 
+-- both younger cells are flushed, and the fetch goes to address 12
 abbrev pub row_3 : Row
 row_3 = turn_row both (Some 12)
 
+-- the word there is fetched
 abbrev pub row_4 : Row
 row_4 = row_of (Some target) None None None
 
+-- the run stops
 abbrev pub row_5 : Row
 row_5 = row_with None (Some target) None None none_flushed None (Some Ebreak)
 
+-- the first rows, the newest first
 abbrev pub two_rows : List Row
 two_rows = row_1 ∷ row_0 ∷ []
 
+-- and the next one
 abbrev pub three_rows : List Row
 three_rows = row_2 ∷ two_rows
 
