@@ -46,17 +46,25 @@ fn extension(alloc: Global, text: &[u8]) -> Option<Extension>
     }
 }
 
-// The state before, with these registers.
-fn state(rs1: u32, custom: [Bits; 16]) -> Inputs
+// A state with these registers.
+fn state(custom: [Bits; 16]) -> Inputs
     ensures { result.custom ≡ custom }
 {
     Inputs {
         word: 0x0020_818b,
-        rs1,
-        rs2: rs1.rotate_left(7),
+        rs1: 0,
+        rs2: 0,
         pc: 0,
         custom,
     }
+}
+
+// Gives a state other operands.
+fn set_operands(inputs: &mut Inputs, rs1: u32)
+    ensures { inputs.new.custom ≡ inputs.old.custom }
+{
+    inputs.rs1 = rs1;
+    inputs.rs2 = rs1.rotate_left(7);
 }
 
 // The sum of what the first instruction writes to rd.
@@ -68,12 +76,12 @@ fn evaluated(ext: &Extension, scratch: &mut Scratch, count: u32) -> u32
     if !has_behaviour(ext, which) {
         return 0;
     }
-    let custom = values(ext.registers.as_slice(), &[0; 16]);
+    let mut inputs = state(values(ext.registers.as_slice(), &[0; 16]));
     let mut sum = 0u32;
     let mut rs1 = 1u32;
     for _ in 0..count {
         rs1 = next(rs1);
-        let inputs = state(rs1, custom);
+        set_operands(&mut inputs, rs1);
         let effect = eval(ext, which, &inputs, |_at, _bytes| 0, scratch);
         sum = sum.wrapping_add(effect.rd.unwrap_or(0));
     }
@@ -84,10 +92,11 @@ fn evaluated(ext: &Extension, scratch: &mut Scratch, count: u32) -> u32
 fn square_roots(count: u32) -> u32 {
     let mut sum = 0u32;
     let mut rs1 = 1u32;
-    let custom = values(&[], &[0; 16]);
+    let mut inputs = state(values(&[], &[0; 16]));
     for _ in 0..count {
         rs1 = next(rs1);
-        let effect = square_root(&state(rs1, custom));
+        set_operands(&mut inputs, rs1);
+        let effect = square_root(&inputs);
         sum = sum.wrapping_add(effect.rd.unwrap_or(0));
     }
     sum
@@ -97,10 +106,11 @@ fn square_roots(count: u32) -> u32 {
 fn dot_products(count: u32) -> u32 {
     let mut sum = 0u32;
     let mut rs1 = 1u32;
-    let custom = values(&[], &[0; 16]);
+    let mut inputs = state(values(&[], &[0; 16]));
     for _ in 0..count {
         rs1 = next(rs1);
-        let effect = dot_product(&state(rs1, custom));
+        set_operands(&mut inputs, rs1);
+        let effect = dot_product(&inputs);
         sum = sum.wrapping_add(effect.rd.unwrap_or(0));
     }
     sum

@@ -1,9 +1,9 @@
 -- The first reads of lists that stand one behind the other.
-use Rattle.std.proofs.Common.{◌≡◌, ◌∙◌, sym, ap, subst, refl, ℕ, ◌+◌, ◌<◌, ◌≤◌, List, [], ◌∷◌, ◌++◌, Option, Some, None, drop, length, get_or, Bool}
+use Rattle.std.proofs.Common.{◌≡◌, ◌∙◌, sym, ap, refl, ℕ, ◌+◌, ◌<◌, ◌≤◌, List, [], ◌∷◌, ◌++◌, Option, Some, None, drop, length, get_or}
 use Rattle.std.proofs.lemmas.List.{drop_all}
 use Rattle.ix_bits.specs.declared.number.Bits.{Bits}
 use Rattle.ix_mean.specs.declared.resolved.ResolvedStmt.{ResolvedStmt}
-use Rattle.ix_mean.specs.Core.{Statement, st_then}
+use Rattle.ix_mean.specs.Core.{Statement}
 use Rattle.ix_mean.specs.Meaning.{Inputs, Access, Numbers, run, reads}
 use Rattle.ix_mean.specs.View.{view_statement, view_statements}
 use Rattle.ix_mean.proofs.Executing.{all_rest}

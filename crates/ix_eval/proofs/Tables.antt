@@ -1,5 +1,5 @@
 -- Lists of what a function gives at the first numbers.
-use Rattle.std.proofs.Common.{◌≡◌, ◌∙◌, refl, sym, ap, ℕ, zero, suc, ◌+◌, ◌<◌, List, [], ◌∷◌, length, get_or, arith}
+use Rattle.std.proofs.Common.{◌≡◌, ◌∙◌, refl, sym, ap, ℕ, zero, suc, ◌<◌, List, length, get_or, arith, Option, None}
 use Rattle.std.proofs.lemmas.List.{ext_get_or}
 use Rattle.ix_eval.specs.Tables.{table}
 
@@ -16,3 +16,9 @@ table_at f (suc n) (suc r) d lt = table_at (λ k. f (suc k)) n r d (omega (arith
 pub table_is : {A : Type 0} (xs : List A) (f : ℕ → A) (n : ℕ) (d : A) → length xs ≡ n → ((r : ℕ) → r < n → get_or xs r d ≡ f r) → xs ≡ table f n
 table_is xs f n d e each =
     ext_get_or d xs (table f n) (e ∙ sym (table_length f n)) (λ r lt. let b : r < n = omega (arith, e, lt) in each r b ∙ sym (table_at f n r d b))
+
+-- a table of nothing has nothing at any place
+pub none_at : {A : Type 0} (n r : ℕ) → (let f : ℕ → Option A = λ k. None in get_or (table f n) r None ≡ None)
+none_at zero r = refl
+none_at (suc n) zero = refl
+none_at (suc n) (suc r) = none_at n r

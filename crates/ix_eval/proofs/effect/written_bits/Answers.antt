@@ -1,4 +1,4 @@
-use Rattle.std.proofs.Common.{◌≡◌, ◌∙◌, sym, ap, Option, Some, option_map}
+use Rattle.std.proofs.Common.{◌∙◌, sym, ap, Option, Some, option_map}
 use Rattle.ix_bits.specs.declared.number.Bits.{Bits}
 use Rattle.ix_bits.proofs.Same.{bits_are}
 use Rattle.ix_mean.specs.declared.evaluate.Written.{Written}

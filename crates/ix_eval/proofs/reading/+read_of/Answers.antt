@@ -1,6 +1,6 @@
-use Rattle.std.proofs.Common.{◌≡◌, ◌∙◌, ap, sym, ◌++◌, List, map, option_map}
+use Rattle.std.proofs.Common.{◌≡◌, ◌∙◌, ap, sym, ◌++◌, map, option_map}
 use Rattle.ix_mean.specs.declared.resolved.ResolvedExpr.{ResolvedExpr}
-use Rattle.ix_mean.specs.Meaning.{Access, accesses}
+use Rattle.ix_mean.specs.Meaning.{accesses}
 use Rattle.ix_mean.specs.View.{seen, view_expression}
 use Rattle.ix_mean.specs.Given.{inputs_of}
 use Rattle.ix_eval.specs.Readings.{reading_seen, first_of}
