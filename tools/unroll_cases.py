@@ -319,6 +319,8 @@ class Parser:
 
     def always(self):
         name = self.take()
+        if self.peek() != "{":
+            raise Refused
         return [name, self.stmt()]
 
 
