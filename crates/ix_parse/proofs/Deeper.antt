@@ -1,5 +1,5 @@
 -- What a token leads to where a statement begins, one nesting deeper.
-use Rattle.std.proofs.Common.{◌≡◌, ℕ, ◌<◌, min, Bool, true, false, Option, Some, None, Result, arith, nat_eq}
+use Rattle.std.proofs.Common.{◌≡◌, ℕ, ◌<◌, min, Option, Some, None, Result, arith, nat_eq}
 use Rattle.ix_bits.specs.declared.operator.BinOp.{BinOp}
 use Rattle.ix_tree.specs.declared.token.Token.{Token}
 use Rattle.ix_tree.specs.declared.token.TokenKind.{TokenKind}

@@ -1,5 +1,5 @@
 -- The places of the reader as states of the grammar's machine.
-use Rattle.std.proofs.Common.{◌≡◌, ◌∙◌, [], Vec, Global, refl, ap}
+use Rattle.std.proofs.Common.{◌≡◌, ◌≤◌, ◌∙◌, [], Vec, Global, refl, ap, arith}
 use Rattle.ix_tree.specs.declared.section.Tree.{Tree}
 use Rattle.ix_tree.specs.Machine as M
 use Rattle.ix_tree.specs.Machine.{Stack, State, stuck, finish}
@@ -25,6 +25,7 @@ use Rattle.ix_parse_state.specs.declared.state.Reader.{Reader}
 use Rattle.ix_parse_state.specs.declared.frame.Frame.{Frame}
 use Rattle.ix_parse_state.specs.declared.frame.OpenInstr.{OpenInstr}
 use Rattle.ix_parse_state.specs.Views.{stack_of, instr_of, reader_of, of_expr, of_type, of_assign, of_stmt, of_goal, of_text, of_instr, of_place, of_fixed}
+use Rattle.ix_parse_section.specs.Wanting.{nesting_of}
 
 -- ---- only the end of a text is one
 finish_expr : (g : ExprGoal) (k : Stack) → finish (of_expr g k) ≡ stuck []
@@ -74,6 +75,12 @@ behind_is r = refl
 
 pub at_place : (r : Reader) → r.fixed ≡ K.None → reader_of r ≡ of_place r.place
 at_place r e = behind_is r ∙ ap (λ (f : Fixed). of_fixed f (of_place r.place)) e
+
+-- fixed tokens stand at most one deep
+pub shallow : (f : Fixed) → nesting_of f ≤ 64
+shallow K.Square = omega arith
+shallow K.SquareEnd = omega arith
+shallow _ = omega arith
 
 pub finish_behind : (r : Reader) → (r.fixed ≡ K.None → ⊥) → finish (reader_of r) ≡ stuck []
 finish_behind r n = ap finish (behind_is r) ∙ finish_fixed r.fixed (of_place r.place) n

@@ -5,11 +5,11 @@ ghost use Rattle.ix_parse_state.specs.Moves.{Moves};
 use crate::stmt::stmt_step;
 use ix_parse_expr::assign::assign_step;
 use ix_parse_expr::expr::expr_step;
-use ix_parse_section::fixed::fixed_step;
+use ix_parse_section::fixed::{first_wanted, fixed_step};
 use ix_parse_section::instr::instr_step;
 use ix_parse_section::section::text_step;
 use ix_parse_state::frame::Frame;
-use ix_parse_state::state::{Fixed, Goal, Place, Reader};
+use ix_parse_state::state::{Goal, Place, Reader};
 use ix_parse_state::stop::Stop;
 use ix_parse_state::types::type_step;
 use ix_tree::Token;
@@ -43,8 +43,8 @@ pub fn step(alloc: Global, reader: Reader, token: &Token) -> Result<Reader, Stop
     ensures { Moves result (step (reader_of reader) token.now) }
 {
     let Reader { fixed, place } = reader;
-    match fixed {
-        Fixed::None => place_step(alloc, place, token),
-        _ => fixed_step(fixed, place, token),
+    match first_wanted(fixed) {
+        None => place_step(alloc, place, token),
+        Some(wanted) => fixed_step(wanted, place, token),
     }
 }

@@ -1,7 +1,9 @@
-ghost use Rattle.std.specs.Prelude.{IfOk, IfErr};
-ghost use Rattle.ix_tree.specs.Machine.{State, step};
+ghost use Rattle.std.specs.Prelude.{◌≡◌, ◌≤◌, ℕ, true, IfSome, IfNone};
+ghost use Rattle.ix_tree.specs.declared.token.Token.{Token};
+ghost use Rattle.ix_tree.specs.Machine.{State, step, is, only};
 ghost use Rattle.ix_parse_state.specs.Views.{of_fixed, of_place};
-ghost use Rattle.ix_parse_state.specs.Moves.{Moves, GoesTo, StopsBy};
+ghost use Rattle.ix_parse_state.specs.Moves.{Moves};
+ghost use Rattle.ix_parse_section.specs.Wanting.{kind_of, nesting_of};
 
 use ix_parse_state::look::{is_symbol, is_word};
 use ix_parse_state::reader::behind;
@@ -13,130 +15,60 @@ use ix_parse_state::state::{Fixed, Place, Reader};
 use ix_parse_state::stop::Stop;
 use ix_tree::Token;
 
-/// What the token leads to where a fixed token is wanted. Without one there is no answer.
-pub fn fixed_step(fixed: Fixed, place: Place, token: &Token) -> Result<Reader, Stop>
-    ensures { Moves result (step (of_fixed fixed (of_place place)) token.now) }
-{
-    match wanted_next(fixed, token) {
-        Ok(next) => Ok(behind(next, place)),
-        Err(stop) => {
-            drop(place);
-            Err(stop)
-        }
-    }
+/// A reserved word or a symbol, by its number.
+#[derive(Clone, Copy)]
+pub enum Sign {
+    Word(u8),
+    Symbol(u8),
 }
 
-/// What is wanted behind a fixed token, where this is the one. Without one there is no answer.
-fn wanted_next(fixed: Fixed, token: &Token) -> Result<Fixed, Stop>
-    ensures ok { (z : State) → IfOk result (λ f. GoesTo (of_fixed f z) (step (of_fixed fixed z) token.now)) }
-    ensures err { (z : State) → IfErr result (λ e. StopsBy e (step (of_fixed fixed z) token.now)) }
-{
-    match fixed {
-        Fixed::Extends | Fixed::Rv32i | Fixed::Encoding | Fixed::Behavior => {
-            behind_word(fixed, token)
-        }
-        Fixed::Brace | Fixed::BraceEncoding | Fixed::Square | Fixed::SquareEnd => {
-            behind_bracket(fixed, token)
-        }
-        _ => behind_sign(fixed, token),
-    }
+/// The first of the fixed tokens that are wanted, and what is wanted behind it.
+#[derive(Clone, Copy)]
+pub struct Wanted {
+    pub sign: Sign,
+    pub next: Fixed,
 }
 
-/// The same where a fixed word is wanted.
+/// The fixed token that is wanted first, if one is.
 #[tactic(auto, unfolding(ix_tree::specs::Machine::step))]
-fn behind_word(fixed: Fixed, token: &Token) -> Result<Fixed, Stop>
-    ensures ok { (z : State) → IfOk result (λ f. GoesTo (of_fixed f z) (step (of_fixed fixed z) token.now)) }
-    ensures err { (z : State) → IfErr result (λ e. StopsBy e (step (of_fixed fixed z) token.now)) }
+pub fn first_wanted(fixed: Fixed) -> Option<Wanted>
+    ensures some { IfSome result (λ w. (z : State) (t : Token) → step (of_fixed fixed z) t ≡ only (is t.kind (kind_of w.sign)) (nesting_of fixed) (of_fixed w.next z)) }
+    ensures none { IfNone result ((z : State) → of_fixed fixed z ≡ z) }
 {
-    match fixed {
-        Fixed::Extends => {
-            if !is_word(token, EXTENDS) {
-                return Err(Stop::Refused);
-            }
-            Ok(Fixed::Rv32i)
-        }
-        Fixed::Rv32i => {
-            if !is_word(token, RV32I) {
-                return Err(Stop::Refused);
-            }
-            Ok(Fixed::Brace)
-        }
-        Fixed::Encoding => {
-            if !is_word(token, ENCODING) {
-                return Err(Stop::Refused);
-            }
-            Ok(Fixed::Colon)
-        }
-        Fixed::Behavior => {
-            if !is_word(token, BEHAVIOR) {
-                return Err(Stop::Refused);
-            }
-            Ok(Fixed::Colon)
-        }
-        _ => Err(Stop::Memory),
+    let (sign, next) = match fixed {
+        Fixed::None => return None,
+        Fixed::Extends => (Sign::Word(EXTENDS), Fixed::Rv32i),
+        Fixed::Rv32i => (Sign::Word(RV32I), Fixed::Brace),
+        Fixed::Brace => (Sign::Symbol(OPEN_BRACE), Fixed::None),
+        Fixed::BraceEncoding => (Sign::Symbol(OPEN_BRACE), Fixed::Encoding),
+        Fixed::Encoding => (Sign::Word(ENCODING), Fixed::Colon),
+        Fixed::Colon => (Sign::Symbol(COLON), Fixed::None),
+        Fixed::SemicolonBehavior => (Sign::Symbol(SEMICOLON), Fixed::Behavior),
+        Fixed::Behavior => (Sign::Word(BEHAVIOR), Fixed::Colon),
+        Fixed::Square => (Sign::Symbol(OPEN_SQUARE), Fixed::None),
+        Fixed::SquareEnd => (Sign::Symbol(CLOSE_SQUARE), Fixed::Equals),
+        Fixed::Equals => (Sign::Symbol(EQUALS), Fixed::Brace),
+    };
+    Some(Wanted { sign, next })
+}
+
+/// Whether the token has that sign.
+fn has_sign(token: &Token, sign: Sign) -> bool
+    ensures { result ≡ is token.now.kind (kind_of sign) }
+{
+    match sign {
+        Sign::Word(number) => is_word(token, number),
+        Sign::Symbol(number) => is_symbol(token, number),
     }
 }
 
-/// The same where a fixed bracket is wanted.
-#[tactic(auto, unfolding(ix_tree::specs::Machine::step))]
-fn behind_bracket(fixed: Fixed, token: &Token) -> Result<Fixed, Stop>
-    ensures ok { (z : State) → IfOk result (λ f. GoesTo (of_fixed f z) (step (of_fixed fixed z) token.now)) }
-    ensures err { (z : State) → IfErr result (λ e. StopsBy e (step (of_fixed fixed z) token.now)) }
+/// What the token leads to where a fixed token is wanted, whatever the nesting at which it stands.
+pub fn fixed_step(wanted: Wanted, place: Place, token: &Token) -> Result<Reader, Stop>
+    ensures { (m : ℕ) → m ≤ 64 → Moves result (only (is token.now.kind (kind_of wanted.sign)) m (of_fixed wanted.next (of_place place))) }
 {
-    match fixed {
-        Fixed::Brace => {
-            if !is_symbol(token, OPEN_BRACE) {
-                return Err(Stop::Refused);
-            }
-            Ok(Fixed::None)
-        }
-        Fixed::BraceEncoding => {
-            if !is_symbol(token, OPEN_BRACE) {
-                return Err(Stop::Refused);
-            }
-            Ok(Fixed::Encoding)
-        }
-        Fixed::Square => {
-            if !is_symbol(token, OPEN_SQUARE) {
-                return Err(Stop::Refused);
-            }
-            Ok(Fixed::None)
-        }
-        Fixed::SquareEnd => {
-            if !is_symbol(token, CLOSE_SQUARE) {
-                return Err(Stop::Refused);
-            }
-            Ok(Fixed::Equals)
-        }
-        _ => Err(Stop::Memory),
+    if has_sign(token, wanted.sign) {
+        return Ok(behind(wanted.next, place));
     }
-}
-
-/// The same where another fixed symbol is wanted.
-#[tactic(auto, unfolding(ix_tree::specs::Machine::step))]
-fn behind_sign(fixed: Fixed, token: &Token) -> Result<Fixed, Stop>
-    ensures ok { (z : State) → IfOk result (λ f. GoesTo (of_fixed f z) (step (of_fixed fixed z) token.now)) }
-    ensures err { (z : State) → IfErr result (λ e. StopsBy e (step (of_fixed fixed z) token.now)) }
-{
-    match fixed {
-        Fixed::Colon => {
-            if !is_symbol(token, COLON) {
-                return Err(Stop::Refused);
-            }
-            Ok(Fixed::None)
-        }
-        Fixed::SemicolonBehavior => {
-            if !is_symbol(token, SEMICOLON) {
-                return Err(Stop::Refused);
-            }
-            Ok(Fixed::Behavior)
-        }
-        Fixed::Equals => {
-            if !is_symbol(token, EQUALS) {
-                return Err(Stop::Refused);
-            }
-            Ok(Fixed::Brace)
-        }
-        _ => Err(Stop::Memory),
-    }
+    drop(place);
+    Err(Stop::Refused)
 }

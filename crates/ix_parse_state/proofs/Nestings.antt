@@ -1,5 +1,5 @@
 -- What a token leads to at one nesting and at another, where both are too deep.
-use Rattle.std.proofs.Common.{◌≡◌, ℕ, ◌+◌, ◌<◌, ◌≤◌, ⊎_elim, Bool, true, false, if◌then◌else◌, Result, Ok, Err, refl, subst, arith}
+use Rattle.std.proofs.Common.{◌≡◌, ℕ, ◌<◌, ◌≤◌, ⊎_elim, Bool, true, false, if◌then◌else◌, Result, Ok, Err, refl, subst, arith}
 use Rattle.std.proofs.lemmas.Bool.Decides.{leb_tells}
 use Rattle.ix_tree.specs.declared.token.Token.{Token}
 use Rattle.ix_tree.specs.Tokens.{signed_word, unsigned_word, int_word, bool_word}

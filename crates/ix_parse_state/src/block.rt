@@ -5,18 +5,12 @@ ghost use Rattle.ix_tree.specs.Rows.{view_whole};
 ghost use Rattle.ix_parse_state.specs.Parts.{part_of};
 ghost use Rattle.ix_parse_state.specs.Views.{done_of};
 
+use crate::boxes::{boxed, boxed_pair};
 use crate::frame::OpenLoop;
 use crate::part::Part;
 use ix_bits::{List, Memory};
 use ix_tree::{Assign, Decl, Loop, Span, Stmt, StmtKind, Token, TypeText};
 use std::alloc::Global;
-
-/// A statement in memory of its own.
-fn boxed(alloc: Global, stmt: Stmt) -> Result<Box<Stmt>, Memory>
-    ensures { IfOk result (λ b. b.value ≡ stmt) }
-{
-    Ok(Box::new(alloc, stmt)?)
-}
 
 /// An `if` without `else`.
 pub fn choice(alloc: Global, first: &Token, condition: Part, branch: Stmt) -> Result<Stmt, Memory>
@@ -26,7 +20,10 @@ pub fn choice(alloc: Global, first: &Token, condition: Part, branch: Stmt) -> Re
         from: first.span.from,
         to: branch.span.to,
     };
-    let branch = boxed(alloc, branch)?;
+    let Ok(branch) = boxed(alloc, branch) else {
+        drop(condition);
+        return Err(Memory);
+    };
     Ok(Stmt {
         span,
         kind: StmtKind::If(condition.tree, branch, None),
@@ -47,11 +44,10 @@ pub fn choice_else(
         from: first.span.from,
         to: other.span.to,
     };
-    let Ok(other) = boxed(alloc, other) else {
-        drop(branch);
+    let Ok((branch, other)) = boxed_pair(alloc, branch, other) else {
+        drop(condition);
         return Err(Memory);
     };
-    let branch = boxed(alloc, branch)?;
     Ok(Stmt {
         span,
         kind: StmtKind::If(condition.tree, branch, Some(other)),
@@ -69,13 +65,20 @@ pub fn looped(
 ) -> Result<Stmt, Memory>
     ensures { IfOk result (λ s. done_of s ≡ d_for head.first head.ty head.name (part_of start) (part_of test) (view_assign last) (done_of body)) }
 {
+    let OpenLoop {
+        first,
+        ty,
+        name,
+        ..
+    } = head;
     let span = Span {
-        from: head.first.span.from,
+        from: first.span.from,
         to: body.span.to,
     };
+    drop(first);
     let whole = Loop {
-        ty: head.ty,
-        name: head.name,
+        ty,
+        name,
         start: start.tree,
         test: test.tree,
         last,
@@ -83,7 +86,7 @@ pub fn looped(
     };
     Ok(Stmt {
         span,
-        kind: StmtKind::For(Box::new(alloc, whole)?),
+        kind: StmtKind::For(boxed(alloc, whole)?),
     })
 }
 

@@ -2,6 +2,7 @@
 #![tactic(auto)]
 
 pub mod block;
+pub mod boxes;
 pub mod chain;
 pub mod frame;
 pub mod look;

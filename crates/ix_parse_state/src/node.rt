@@ -3,6 +3,7 @@ ghost use Rattle.ix_tree.specs.Trees.{between, p_primary, p_unary, p_cast, p_bin
 ghost use Rattle.ix_tree.specs.View.{view};
 ghost use Rattle.ix_parse_state.specs.Parts.{part_of};
 
+use crate::boxes::{boxed, boxed_pair, boxed_triple};
 use crate::chain::{Indexed, Operand};
 use crate::operator::{binary_operator, power};
 use crate::part::Part;
@@ -42,13 +43,13 @@ pub fn unary(alloc: Global, token: &Token, op: UnOp, v: Part) -> Result<Part, Me
 {
     let from = token.span.from;
     let to = v.to;
-    let kind = ExprKind::Unary(op, Box::new(alloc, v.tree)?);
+    let operand = boxed(alloc, v.tree)?;
     Ok(Part {
         from,
         to,
         tree: Expr {
             span: Span { from, to },
-            kind,
+            kind: ExprKind::Unary(op, operand),
         },
         chain: 0,
         count: 0,
@@ -61,13 +62,13 @@ pub fn cast(alloc: Global, token: &Token, to: CastTo, v: Part) -> Result<Part, M
 {
     let from = token.span.from;
     let end = v.to;
-    let kind = ExprKind::Cast(to, Box::new(alloc, v.tree)?);
+    let operand = boxed(alloc, v.tree)?;
     Ok(Part {
         from,
         to: end,
         tree: Expr {
             span: Span { from, to: end },
-            kind,
+            kind: ExprKind::Cast(to, operand),
         },
         chain: 0,
         count: 0,
@@ -78,14 +79,18 @@ pub fn cast(alloc: Global, token: &Token, to: CastTo, v: Part) -> Result<Part, M
 pub fn binary(alloc: Global, x: Operand, y: Part) -> Result<Part, Memory>
     ensures { IfOk result (λ r. part_of r ≡ p_binary (part_of x.left) x.token (part_of y)) }
 {
-    let op = binary_operator(&x.token);
-    let chain = power(&x.token);
-    let count = x.count;
-    let left = x.left;
+    let Operand {
+        left,
+        token,
+        count,
+        ..
+    } = x;
+    let op = binary_operator(&token);
+    let chain = power(&token);
+    drop(token);
     let from = left.from;
     let to = y.to;
-    let first = Box::new(alloc, left.tree)?;
-    let second = Box::new(alloc, y.tree)?;
+    let (first, second) = boxed_pair(alloc, left.tree, y.tree)?;
     Ok(Part {
         from,
         to,
@@ -116,11 +121,9 @@ pub fn index(alloc: Global, x: Indexed, y: Part, last: &Token) -> Result<Part, M
     ensures { IfOk result (λ r. part_of r ≡ p_index (part_of x.left) (part_of y) last.now) }
 {
     let count = x.count;
-    let left = x.left;
-    let from = left.from;
+    let from = x.left.from;
     let to = last.span.to;
-    let first = Box::new(alloc, left.tree)?;
-    let second = Box::new(alloc, y.tree)?;
+    let (first, second) = boxed_pair(alloc, x.left.tree, y.tree)?;
     Ok(Part {
         from,
         to,
@@ -138,12 +141,9 @@ pub fn range(alloc: Global, x: Indexed, y: Part, z: Part, last: &Token) -> Resul
     ensures { IfOk result (λ r. part_of r ≡ p_range (part_of x.left) (part_of y) (part_of z) last.now) }
 {
     let count = x.count;
-    let left = x.left;
-    let from = left.from;
+    let from = x.left.from;
     let to = last.span.to;
-    let first = Box::new(alloc, left.tree)?;
-    let second = Box::new(alloc, y.tree)?;
-    let third = Box::new(alloc, z.tree)?;
+    let (first, second, third) = boxed_triple(alloc, x.left.tree, y.tree, z.tree)?;
     Ok(Part {
         from,
         to,
@@ -162,9 +162,7 @@ pub fn choose(alloc: Global, c: Part, x: Part, y: Part) -> Result<Part, Memory>
 {
     let from = c.from;
     let to = y.to;
-    let first = Box::new(alloc, c.tree)?;
-    let second = Box::new(alloc, x.tree)?;
-    let third = Box::new(alloc, y.tree)?;
+    let (first, second, third) = boxed_triple(alloc, c.tree, x.tree, y.tree)?;
     Ok(Part {
         from,
         to,

@@ -8,7 +8,7 @@ use crate::frame::{Frame, OperatorFrame, StmtFrame};
 use crate::node::{binary, cast, choose, unary};
 use crate::operator::power;
 use crate::part::Part;
-use crate::stack::{pop, push};
+use crate::stack::{bottom, pop, push};
 use ix_bits::Memory;
 use ix_tree::Stmt;
 use std::alloc::Global;
@@ -43,16 +43,40 @@ fn hold(frame: &OperatorFrame) -> u8
     }
 }
 
-/// The whole expression that an open operator makes with its last operand, and the nesting at which it stands.
-fn ended(alloc: Global, frame: OperatorFrame, part: Part) -> Result<(u32, Part), Memory>
-    ensures depth { IfOk result (λ r. (d : ℕ) → r.0 ≡ level d (operator_frame frame)) }
-    ensures part { IfOk result (λ r. part_of r.1 ≡ made (part_of part) (operator_frame frame)) }
+/// The nesting at which an open operator stands.
+fn level_of(frame: &OperatorFrame) -> u32
+    ensures { (d : ℕ) → result ≡ level d (operator_frame frame.now) }
 {
     match frame {
-        OperatorFrame::Unary(depth, first, op) => Ok((depth, unary(alloc, &first, op, part)?)),
-        OperatorFrame::Cast(depth, first, to) => Ok((depth, cast(alloc, &first, to, part)?)),
-        OperatorFrame::Binary(operand) => Ok((operand.depth, binary(alloc, operand, part)?)),
-        OperatorFrame::Else(depth, c, x) => Ok((depth, choose(alloc, c, x, part)?)),
+        OperatorFrame::Unary(depth, _, _) => *depth,
+        OperatorFrame::Cast(depth, _, _) => *depth,
+        OperatorFrame::Binary(operand) => operand.depth,
+        OperatorFrame::Else(depth, _, _) => *depth,
+    }
+}
+
+/// The whole expression that an open operator makes with its last operand.
+fn ended(alloc: Global, frame: OperatorFrame, part: Part) -> Result<Part, Memory>
+    ensures { IfOk result (λ r. part_of r ≡ made (part_of part) (operator_frame frame)) }
+{
+    match frame {
+        OperatorFrame::Unary(_, first, op) => unary(alloc, &first, op, part),
+        OperatorFrame::Cast(_, first, to) => cast(alloc, &first, to, part),
+        OperatorFrame::Binary(operand) => binary(alloc, operand, part),
+        OperatorFrame::Else(_, c, x) => choose(alloc, c, x, part),
+    }
+}
+
+/// The expression that is had, where the innermost open production stays open.
+fn keep(depth: u32, part: Part, frame: Frame, stack: Vec<Frame>) -> Result<Had, Memory>
+    ensures { IfOk result (λ h. have h.depth (part_of h.part) (stack_of h.stack.items) ≡ have depth (part_of part) (frame_of frame ∷ stack_of stack.items)) }
+{
+    match push(stack, frame) {
+        Ok(stack) => Ok(Had { depth, part, stack }),
+        Err(Memory) => {
+            drop(part);
+            Err(Memory)
+        }
     }
 }
 
@@ -71,24 +95,23 @@ pub fn settle(
         None => return Ok(Had {
             depth,
             part,
-            stack: Vec::new(alloc),
+            stack: bottom(alloc),
         }),
         Some(top) => top,
     };
     match frame {
         Frame::Operator(frame) => {
             if power > hold(&frame) {
-                let stack = push(stack, Frame::Operator(frame))?;
-                return Ok(Had { depth, part, stack });
+                return keep(depth, part, Frame::Operator(frame), stack);
             }
-            let (depth, part) = ended(alloc, frame, part)?;
+            let depth = level_of(&frame);
+            let Ok(part) = ended(alloc, frame, part) else {
+                drop(stack);
+                return Err(Memory);
+            };
             settle(alloc, power, depth, part, stack)
         }
-        other => Ok(Had {
-            depth,
-            part,
-            stack: push(stack, other)?,
-        }),
+        other => keep(depth, part, other, stack),
     }
 }
 
@@ -144,7 +167,7 @@ pub fn settle_stmt(
     let (frame, stack) = match pop(stack) {
         None => return Ok(HadStmt {
             stmt,
-            stack: Vec::new(alloc),
+            stack: bottom(alloc),
         }),
         Some(top) => top,
     };
@@ -153,7 +176,10 @@ pub fn settle_stmt(
             if power > hold_stmt(&frame) {
                 return keep_stmt(stmt, Frame::Stmt(frame), stack);
             }
-            let stmt = ended_stmt(alloc, frame, stmt)?;
+            let Ok(stmt) = ended_stmt(alloc, frame, stmt) else {
+                drop(stack);
+                return Err(Memory);
+            };
             settle_stmt(alloc, power, stmt, stack)
         }
         other => keep_stmt(stmt, other, stack),

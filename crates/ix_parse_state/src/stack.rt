@@ -1,6 +1,7 @@
 ghost use Rattle.std.specs.Prelude.{◌≡◌, ◌+◌, [], ◌∷◌, length, IfOk, IfSome, IfNone};
 ghost use Rattle.ix_parse_state.specs.Views.{frame_of, stack_of};
 
+use crate::boxes::put;
 use crate::frame::Frame;
 use ix_bits::Memory;
 use std::alloc::Global;
@@ -9,17 +10,28 @@ use std::alloc::Global;
 pub fn push(mut stack: Vec<Frame>, frame: Frame) -> Result<Vec<Frame>, Memory>
     ensures { IfOk result (λ k. stack_of k.items ≡ frame_of frame ∷ stack_of stack.items) }
 {
-    match stack.push(frame) {
+    match put(&mut stack, frame) {
         Ok(()) => Ok(stack),
-        Err(_) => Err(Memory),
+        Err(Memory) => {
+            drop(stack);
+            Err(Memory)
+        }
     }
+}
+
+/// The stack of no open production.
+#[tactic(auto, using(crate::proofs::Stacks::none_open))]
+pub fn bottom(alloc: Global) -> Vec<Frame>
+    ensures { stack_of result.items ≡ [] }
+{
+    Vec::new(alloc)
 }
 
 /// The stack of one open production.
 pub fn single(alloc: Global, frame: Frame) -> Result<Vec<Frame>, Memory>
     ensures { IfOk result (λ k. stack_of k.items ≡ frame_of frame ∷ []) }
 {
-    push(Vec::new(alloc), frame)
+    push(bottom(alloc), frame)
 }
 
 /// The innermost open production, and the stack without it.
@@ -30,6 +42,9 @@ pub fn pop(mut stack: Vec<Frame>) -> Option<(Frame, Vec<Frame>)>
 {
     match stack.pop() {
         Some(frame) => Some((frame, stack)),
-        None => None,
+        None => {
+            drop(stack);
+            None
+        }
     }
 }
