@@ -50,6 +50,19 @@ fn fresh_source(alloc: Global, name: Name) -> Source
     }
 }
 
+/// Lets go of a module and of what is kept beside it.
+fn let_go(
+    source: Source,
+    roles: BTreeMap<String, Role>,
+    assigned: BTreeSet<String>,
+    updated: BTreeSet<String>,
+) {
+    drop(source);
+    drop(roles);
+    drop(assigned);
+    drop(updated);
+}
+
 impl Opened {
     /// A module of which no line but the first stands.
     pub fn new(alloc: Global, name: Name) -> Opened
@@ -102,7 +115,10 @@ impl Opened {
         ensures { IfOk result (λ o. o ≡ with_line self (port name)) }
     {
         let mut opened = self;
-        opened.source.ports.push(name)?;
+        let Ok(()) = opened.source.ports.push(name) else {
+            drop(opened);
+            return Err(Memory);
+        };
         Ok(opened)
     }
 
@@ -118,74 +134,164 @@ impl Opened {
     pub fn with_input(self, declared: Port) -> Result<Opened, Memory>
         ensures { IfOk result (λ o. o ≡ with_line self (input declared)) }
     {
-        let mut opened = self;
-        declare(
-            opened.alloc,
-            &mut opened.roles,
-            declared.name.as_str(),
-            Role::Input,
-        )?;
-        opened.source.inputs.push(declared)?;
-        Ok(opened)
+        let Opened {
+            alloc,
+            source,
+            roles,
+            assigned,
+            updated,
+        } = self;
+        let mut source = source;
+        let mut roles = roles;
+        let told = declare(alloc, &mut roles, declared.name.as_str(), Role::Input);
+        let put = source.inputs.push(declared);
+        let (Ok(()), Ok(())) = (told, put) else {
+            let_go(source, roles, assigned, updated);
+            return Err(Memory);
+        };
+        Ok(Opened {
+            alloc,
+            source,
+            roles,
+            assigned,
+            updated,
+        })
     }
 
     pub fn with_output(self, declared: Port) -> Result<Opened, Memory>
         ensures { IfOk result (λ o. o ≡ with_line self (output declared)) }
     {
-        let mut opened = self;
-        declare(
-            opened.alloc,
-            &mut opened.roles,
-            declared.name.as_str(),
-            Role::Assigned,
-        )?;
-        opened.source.outputs.push(declared)?;
-        Ok(opened)
+        let Opened {
+            alloc,
+            source,
+            roles,
+            assigned,
+            updated,
+        } = self;
+        let mut source = source;
+        let mut roles = roles;
+        let told = declare(alloc, &mut roles, declared.name.as_str(), Role::Assigned);
+        let put = source.outputs.push(declared);
+        let (Ok(()), Ok(())) = (told, put) else {
+            let_go(source, roles, assigned, updated);
+            return Err(Memory);
+        };
+        Ok(Opened {
+            alloc,
+            source,
+            roles,
+            assigned,
+            updated,
+        })
     }
 
     pub fn with_wire(self, declared: Port) -> Result<Opened, Memory>
         ensures { IfOk result (λ o. o ≡ with_line self (wire declared)) }
     {
-        let mut opened = self;
-        declare(
-            opened.alloc,
-            &mut opened.roles,
-            declared.name.as_str(),
-            Role::Assigned,
-        )?;
-        opened.source.wires.push(declared)?;
-        Ok(opened)
+        let Opened {
+            alloc,
+            source,
+            roles,
+            assigned,
+            updated,
+        } = self;
+        let mut source = source;
+        let mut roles = roles;
+        let told = declare(alloc, &mut roles, declared.name.as_str(), Role::Assigned);
+        let put = source.wires.push(declared);
+        let (Ok(()), Ok(())) = (told, put) else {
+            let_go(source, roles, assigned, updated);
+            return Err(Memory);
+        };
+        Ok(Opened {
+            alloc,
+            source,
+            roles,
+            assigned,
+            updated,
+        })
     }
 
     pub fn with_register(self, declared: Port) -> Result<Opened, Memory>
         ensures { IfOk result (λ o. o ≡ with_line self (register declared)) }
     {
-        let mut opened = self;
-        declare(
-            opened.alloc,
-            &mut opened.roles,
-            declared.name.as_str(),
-            Role::Register,
-        )?;
-        opened.source.registers.push(declared)?;
-        Ok(opened)
+        let Opened {
+            alloc,
+            source,
+            roles,
+            assigned,
+            updated,
+        } = self;
+        let mut source = source;
+        let mut roles = roles;
+        let told = declare(alloc, &mut roles, declared.name.as_str(), Role::Register);
+        let put = source.registers.push(declared);
+        let (Ok(()), Ok(())) = (told, put) else {
+            let_go(source, roles, assigned, updated);
+            return Err(Memory);
+        };
+        Ok(Opened {
+            alloc,
+            source,
+            roles,
+            assigned,
+            updated,
+        })
     }
 
     pub fn with_assign(self, assigned: Assign) -> Result<Opened, Memory>
         ensures { IfOk result (λ o. o ≡ with_line self (assign assigned)) }
     {
-        let mut opened = self;
-        mark(opened.alloc, &mut opened.assigned, assigned.target.as_str())?;
-        opened.source.assigns.push(assigned)?;
-        Ok(opened)
+        let added = assigned;
+        let Opened {
+            alloc,
+            source,
+            roles,
+            assigned,
+            updated,
+        } = self;
+        let mut source = source;
+        let mut assigned = assigned;
+        let told = mark(alloc, &mut assigned, added.target.as_str());
+        let put = source.assigns.push(added);
+        let (Ok(()), Ok(())) = (told, put) else {
+            let_go(source, roles, assigned, updated);
+            return Err(Memory);
+        };
+        Ok(Opened {
+            alloc,
+            source,
+            roles,
+            assigned,
+            updated,
+        })
     }
 
     pub fn with_update(self, updated: Update) -> Result<Opened, Memory>
         ensures { IfOk result (λ o. o ≡ with_line self (update updated)) }
     {
-        let mut opened = self;
-        mark(opened.alloc, &mut opened.updated, updated.target.as_str())?;
-        opened.source.updates.push(updated)?;
-        Ok(opened)
+        let added = updated;
+        let Opened {
+            alloc,
+            source,
+            roles,
+            assigned,
+            updated,
+        } = self;
+        let mut source = source;
+        let mut updated = updated;
+        let told = mark(alloc, &mut updated, added.target.as_str());
+        let put = source.updates.push(added);
+        let (Ok(()), Ok(())) = (told, put) else {
+            let_go(source, roles, assigned, updated);
+            return Err(Memory);
+        };
+        Ok(Opened {
+            alloc,
+            source,
+            roles,
+            assigned,
+            updated,
+        })
     }
 }
