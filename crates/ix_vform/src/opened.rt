@@ -33,23 +33,6 @@ impl Model for Opened {
     ghost invariant = { λ o. IsKept o.source o.roles o.assigned o.updated };
 }
 
-/// A module of which no line but the first stands.
-fn fresh_source(alloc: Global, name: Name) -> Source
-    ensures { result ≡ fresh name }
-{
-    Source {
-        name,
-        ports: List::new(alloc),
-        inputs: List::new(alloc),
-        outputs: List::new(alloc),
-        wires: List::new(alloc),
-        registers: List::new(alloc),
-        assigns: List::new(alloc),
-        updates: List::new(alloc),
-        stage: Stage::Ports,
-    }
-}
-
 /// Lets go of a module and of what is kept beside it.
 fn let_go(
     source: Source,
@@ -70,7 +53,17 @@ impl Opened {
     {
         Opened {
             alloc,
-            source: fresh_source(alloc, name),
+            source: Source {
+                name,
+                ports: List::new(alloc),
+                inputs: List::new(alloc),
+                outputs: List::new(alloc),
+                wires: List::new(alloc),
+                registers: List::new(alloc),
+                assigns: List::new(alloc),
+                updates: List::new(alloc),
+                stage: Stage::Ports,
+            },
             roles: BTreeMap::new(alloc),
             assigned: BTreeSet::new(alloc),
             updated: BTreeSet::new(alloc),
