@@ -181,10 +181,16 @@ pub fn bound(alloc: Global, words: &[&[u8]]) -> Result<Option<Bound>, Memory>
         return Ok(None);
     };
     if is_label(label, b"early") {
-        return Ok(early(rest));
+        return match one(rest) {
+            Some(op) => Ok(Some(Bound::Early(op))),
+            None => Ok(None),
+        };
     }
     if is_label(label, b"late") {
-        return Ok(late(rest));
+        return match one(rest) {
+            Some(op) => Ok(Some(Bound::Late(op))),
+            None => Ok(None),
+        };
     }
     if is_label(label, b"dep") {
         return Ok(dep(rest));
@@ -193,24 +199,6 @@ pub fn bound(alloc: Global, words: &[&[u8]]) -> Result<Option<Bound>, Memory>
         return chain(alloc, rest);
     }
     Ok(None)
-}
-
-fn early(words: &[&[u8]]) -> Option<Bound>
-    ensures { IsReading IsBound bound_words (codes "early" ∷ texts words.now) result }
-{
-    match one(words) {
-        Some(op) => Some(Bound::Early(op)),
-        None => None,
-    }
-}
-
-fn late(words: &[&[u8]]) -> Option<Bound>
-    ensures { IsReading IsBound bound_words (codes "late" ∷ texts words.now) result }
-{
-    match one(words) {
-        Some(op) => Some(Bound::Late(op)),
-        None => None,
-    }
 }
 
 fn dep(words: &[&[u8]]) -> Option<Bound>

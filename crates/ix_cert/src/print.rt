@@ -303,6 +303,9 @@ pub fn print_report(alloc: Global, report: &Report) -> Result<List<u8>, Memory>
     ensures text { IfOk result (λ text. IsReportText text report.now) }
 {
     let mut out = Vec::new(alloc);
-    put_report(&mut out, report)?;
+    let Ok(()) = put_report(&mut out, report) else {
+        drop(out);
+        return Err(Memory);
+    };
     Ok(List::from_vec(out))
 }

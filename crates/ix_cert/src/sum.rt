@@ -81,7 +81,10 @@ fn amounts_at(alloc: Global, count: usize, parts: &[(u32, u64)]) -> Result<Vec<u
     ensures are { IfOk result (λ amounts. AreAmounts count parts.now amounts.items) }
     ensures small { IfOk result (λ amounts. (k : ℕ) → slice_index amounts.items k < 340282366920938463463374607431768211455) }
 {
-    let mut amounts = vec![in alloc; 0u128; count]?;
+    let Ok(amounts) = vec![in alloc; 0u128; count] else {
+        return Err(Memory);
+    };
+    let mut amounts = amounts;
     let sums = amounts.as_mut_slice();
     'parts: for part in parts {
         let (place, amount) = *part;

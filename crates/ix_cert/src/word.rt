@@ -49,7 +49,12 @@ fn is_name_byte(byte: u8) -> bool
 fn are_name_bytes(word: &[u8]) -> bool
     ensures { result ≡ list_all specified_is_name_byte word.now }
 {
-    word.iter().all(|byte| is_name_byte(*byte))
+    for byte in word {
+        if !is_name_byte(*byte) {
+            return false;
+        }
+    }
+    true
 }
 
 /// Whether a word is a name: a letter or `_`, then at most 63 letters, digits and `_`.
