@@ -184,6 +184,9 @@ record Behind (xs ys : List Item) (line : Line) : Type 0 where
   rest : List Item
   parts : ys ≡ xs ++ item ∷ rest
 
+behind_more : (x y : Item) (xs ys : List Item) (line : Line) → y ≡ x → Behind xs ys line → Behind (x ∷ xs) (y ∷ ys) line
+behind_more x y xs ys line e h = record { item = h.item; good = h.good; is = h.is; rest = h.rest; parts = ap (λ l. l ∷ ys) e ∙ ap (λ l. x ∷ l) h.parts }
+
 behind_read : (xs ys : List Item) (line : Line) (rest : List Line) → EachItem xs → EachItem ys → map item_line ys ≡ map item_line xs ++ line ∷ rest → Behind xs ys line
 behind_read [] [] line rest v w e = absurd cc
 behind_read [] (y ∷ ys) line rest v w e = let a : item_line y ≡ line = cc in record { item = y; good = w.0; is = a; rest = ys; parts = refl }
@@ -191,8 +194,7 @@ behind_read (x ∷ xs) [] line rest v w e = absurd cc
 behind_read (x ∷ xs) (y ∷ ys) line rest v w e =
     let a : item_line y ≡ item_line x = cc in
     let b : map item_line ys ≡ map item_line xs ++ line ∷ rest = cc in
-    let h = behind_read xs ys line rest v.1 w.1 b in
-    record { item = h.item; good = h.good; is = h.is; rest = h.rest; parts = ap (λ l. l ∷ ys) (one_item y x w.0 v.0 a) ∙ ap (λ l. x ∷ l) h.parts }
+    behind_more x y xs ys line (one_item y x w.0 v.0 a) (behind_read xs ys line rest v.1 w.1 b)
 
 may_behind : (from : Reading) (xs ys : List Item) (y : Item) → AllFollow from (xs ++ y ∷ ys) → MayFollow (run from xs).place y
 may_behind from [] ys y m = m.0

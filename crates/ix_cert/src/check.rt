@@ -68,7 +68,10 @@ fn check_times(alloc: Global, b: &ReportBlock, first: u32) -> Result<(), CertErr
         let line = op_line(b, first, at);
         return Err(CertErr::Window { line });
     }
-    if let Some(at) = first_passed(alloc, b)? {
+    let Ok(passed) = first_passed(alloc, b) else {
+        return Err(CertErr::Memory);
+    };
+    if let Some(at) = passed {
         let line = op_line(b, first, at);
         return Err(CertErr::Chain { line });
     }
@@ -91,7 +94,10 @@ fn check_flow(alloc: Global, b: &ReportBlock, first: u32) -> Result<(), CertErr>
         let line = certificate_line(b, first) + 1 + at as u32;
         return Err(unnamed_part(b, line, at));
     }
-    if let Some(at) = first_unbalanced(alloc, b)? {
+    let Ok(unbalanced) = first_unbalanced(alloc, b) else {
+        return Err(CertErr::Memory);
+    };
+    if let Some(at) = unbalanced {
         let line = op_line(b, first, at);
         return Err(CertErr::Balance { line });
     }
@@ -135,7 +141,9 @@ fn check_block(alloc: Global, b: &ReportBlock, first: u32) -> Result<(), CertErr
     match b.mode {
         None => check_cycle(b, first),
         Some(_) => {
-            check_times(alloc, b, first)?;
+            if let Err(error) = check_times(alloc, b, first) {
+                return Err(error);
+            }
             check_flow(alloc, b, first)
         }
     }

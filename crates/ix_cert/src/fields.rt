@@ -2,7 +2,7 @@ ghost use Rattle.std.specs.Prelude.{◌≡◌, ℕ, ◌≤◌, [], ◌∷◌, ma
 ghost use Rattle.ix_cert.specs.Items.{IsReading, IsParted, IsCounted, IsLabelled, IsNodeRead, IsTime, IsWide, AreWide, IsBound, IsItem, IsOperation, Tells, texts, time_words, op_words, bound_words, item_words, pair_words};
 
 use crate::item::{Item, Operation};
-use crate::word::{is_kind, is_name, mode, name, number};
+use crate::word::{is_kind, is_label, is_name, mode, name, number};
 use ix_bits::{List, Memory};
 use ix_sheet::{Bound, Node};
 use std::alloc::Global;
@@ -24,12 +24,6 @@ pub fn is_end(words: &[&[u8]]) -> bool
     ensures { Tells result (texts words.now ≡ []) }
 {
     words.is_empty()
-}
-
-pub fn is_label(word: &[u8], label: &[u8]) -> bool
-    ensures { Tells result (word.now ≡ label.now) }
-{
-    word == label
 }
 
 /// The first word as a number of at most `most`, and the words behind it.
@@ -119,12 +113,15 @@ pub fn operation(alloc: Global, words: &[&[u8]]) -> Result<Option<Operation>, Me
     let Some(time) = time(rest) else {
         return Ok(None);
     };
-    Ok(Some(Operation {
-        place: place as u32,
-        kind: name(alloc, kind)?,
-        node,
-        time,
-    }))
+    match name(alloc, kind) {
+        Ok(kind) => Ok(Some(Operation {
+            place: place as u32,
+            kind,
+            node,
+            time,
+        })),
+        Err(error) => Err(error),
+    }
 }
 
 /// The numbers that words are.
@@ -134,8 +131,16 @@ fn path(alloc: Global, words: &[&[u8]]) -> Result<Option<List<u32>>, Memory>
     let mut path = List::new(alloc);
     for word in words {
         match number(*word, MOST) {
-            Some(number) => path.push(number as u32)?,
-            None => return Ok(None),
+            Some(number) => {
+                let Ok(()) = path.push(number as u32) else {
+                    drop(path);
+                    return Err(Memory);
+                };
+            }
+            None => {
+                drop(path);
+                return Ok(None);
+            }
         }
     }
     Ok(Some(path))
@@ -176,10 +181,16 @@ pub fn bound(alloc: Global, words: &[&[u8]]) -> Result<Option<Bound>, Memory>
         return Ok(None);
     };
     if is_label(label, b"early") {
-        return Ok(early(rest));
+        return match one(rest) {
+            Some(op) => Ok(Some(Bound::Early(op))),
+            None => Ok(None),
+        };
     }
     if is_label(label, b"late") {
-        return Ok(late(rest));
+        return match one(rest) {
+            Some(op) => Ok(Some(Bound::Late(op))),
+            None => Ok(None),
+        };
     }
     if is_label(label, b"dep") {
         return Ok(dep(rest));
@@ -188,24 +199,6 @@ pub fn bound(alloc: Global, words: &[&[u8]]) -> Result<Option<Bound>, Memory>
         return chain(alloc, rest);
     }
     Ok(None)
-}
-
-fn early(words: &[&[u8]]) -> Option<Bound>
-    ensures { IsReading IsBound bound_words (codes "early" ∷ texts words.now) result }
-{
-    match one(words) {
-        Some(op) => Some(Bound::Early(op)),
-        None => None,
-    }
-}
-
-fn late(words: &[&[u8]]) -> Option<Bound>
-    ensures { IsReading IsBound bound_words (codes "late" ∷ texts words.now) result }
-{
-    match one(words) {
-        Some(op) => Some(Bound::Late(op)),
-        None => None,
-    }
 }
 
 fn dep(words: &[&[u8]]) -> Option<Bound>
@@ -223,8 +216,9 @@ fn chain(alloc: Global, words: &[&[u8]]) -> Result<Option<Bound>, Memory>
     if is_end(words) {
         return Ok(None);
     }
-    match path(alloc, words)? {
-        Some(path) => Ok(Some(Bound::Chain(path))),
-        None => Ok(None),
+    match path(alloc, words) {
+        Ok(Some(path)) => Ok(Some(Bound::Chain(path))),
+        Ok(None) => Ok(None),
+        Err(error) => Err(error),
     }
 }

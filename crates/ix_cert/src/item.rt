@@ -3,7 +3,7 @@ use ix_graph::Mode;
 use ix_sheet::{Bound, Node};
 
 /// An operation as its line tells it.
-#[derive(Debug, Drop)]
+#[derive(Drop)]
 pub struct Operation {
     pub place: u32,
     /// The printed kind.
@@ -14,7 +14,7 @@ pub struct Operation {
 }
 
 /// What a line of a report says.
-#[derive(Debug, Drop)]
+#[derive(Drop)]
 pub enum Item {
     Title,
     Period(u32),

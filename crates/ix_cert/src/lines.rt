@@ -1,9 +1,9 @@
 ghost use Rattle.std.specs.Prelude.{◌≡◌, [], ◌∷◌, codes, IfOk};
 ghost use Rattle.ix_cert.specs.Items.{IsReading, IsItem, item_words, texts};
 
-use crate::fields::{bound, counted, is_end, is_label, operation, parted, two};
+use crate::fields::{bound, counted, is_end, operation, parted, two};
 use crate::item::Item;
-use crate::word::{is_name, mode, name};
+use crate::word::{is_label, is_name, mode, name};
 use ix_bits::Memory;
 use std::alloc::Global;
 
@@ -58,15 +58,19 @@ fn behaviour(alloc: Global, words: &[&[u8]]) -> Result<Option<Item>, Memory>
     if !is_name(first) || !is_end(rest) {
         return Ok(None);
     }
-    Ok(Some(Item::Behaviour(name(alloc, first)?, mode)))
+    match name(alloc, first) {
+        Ok(name) => Ok(Some(Item::Behaviour(name, mode))),
+        Err(error) => Err(error),
+    }
 }
 
 fn op(alloc: Global, words: &[&[u8]]) -> Result<Option<Item>, Memory>
     ensures { IfOk result (λ found. IsReading IsItem item_words (codes "op" ∷ texts words.now) found) }
 {
-    match operation(alloc, words)? {
-        Some(op) => Ok(Some(Item::Op(op))),
-        None => Ok(None),
+    match operation(alloc, words) {
+        Ok(Some(op)) => Ok(Some(Item::Op(op))),
+        Ok(None) => Ok(None),
+        Err(error) => Err(error),
     }
 }
 
@@ -102,18 +106,20 @@ fn flow(alloc: Global, words: &[&[u8]]) -> Result<Option<Item>, Memory>
     if amount < LEAST_AMOUNT {
         return Ok(None);
     }
-    match bound(alloc, rest)? {
-        Some(bound) => Ok(Some(Item::Flow(amount, bound))),
-        None => Ok(None),
+    match bound(alloc, rest) {
+        Ok(Some(bound)) => Ok(Some(Item::Flow(amount, bound))),
+        Ok(None) => Ok(None),
+        Err(error) => Err(error),
     }
 }
 
 fn cycle(alloc: Global, words: &[&[u8]]) -> Result<Option<Item>, Memory>
     ensures { IfOk result (λ found. IsReading IsItem item_words (codes "cycle" ∷ texts words.now) found) }
 {
-    match bound(alloc, words)? {
-        Some(bound) => Ok(Some(Item::Cycle(bound))),
-        None => Ok(None),
+    match bound(alloc, words) {
+        Ok(Some(bound)) => Ok(Some(Item::Cycle(bound))),
+        Ok(None) => Ok(None),
+        Err(error) => Err(error),
     }
 }
 

@@ -36,9 +36,16 @@ fn item_of_line(alloc: Global, line: &[u8]) -> Result<Option<Item>, Memory>
 fn next(alloc: Global, reading: Reading, line: &[u8]) -> Result<Option<Reading>, Memory>
     ensures { IfOk result (λ found. MatchOption found (NoNext reading line.now) (λ more. IsNext reading line.now more)) }
 {
-    match item_of_line(alloc, line)? {
+    let Ok(found) = item_of_line(alloc, line) else {
+        drop(reading);
+        return Err(Memory);
+    };
+    match found {
         Some(item) => with_item(alloc, reading, item),
-        None => Ok(None),
+        None => {
+            drop(reading);
+            Ok(None)
+        }
     }
 }
 
@@ -46,10 +53,14 @@ fn with_item(alloc: Global, reading: Reading, item: Item) -> Result<Option<Readi
     requires { IsItem item }
     ensures { IfOk result (λ found. MatchOption found (MayFollow reading.place item → ⊥) (λ more. MayFollow reading.place item × (more ≡ specified_after reading item))) }
 {
-    if may_follow(&reading.place, &item) {
-        Ok(Some(after(alloc, reading, item)?))
-    } else {
-        Ok(None)
+    if !may_follow(&reading.place, &item) {
+        drop(reading);
+        drop(item);
+        return Ok(None);
+    }
+    match after(alloc, reading, item) {
+        Ok(more) => Ok(Some(more)),
+        Err(error) => Err(error),
     }
 }
 
@@ -64,7 +75,11 @@ fn ended(reading: Reading) -> Option<Report>
     } = reading;
     match place {
         Place::Between => Some(Report { period, blocks }),
-        _ => None,
+        other => {
+            drop(other);
+            drop(blocks);
+            None
+        }
     }
 }
 

@@ -1,7 +1,8 @@
-ghost use Rattle.std.specs.Prelude.{◌≡◌, ℕ, ◌≤◌, ◌++◌, [], ◌∷◌, length, IfOk};
+ghost use Rattle.std.specs.Prelude.{◌≡◌, ℕ, ◌≤◌, [], length, IfOk, OnOk};
 ghost use Rattle.ix_cert.specs.Layout.{IsBoundInForm};
 ghost use Rattle.ix_cert.specs.Items.{Tells, IsBound, IsItem};
-ghost use Rattle.ix_cert.specs.Steps.{IsTimed, IsBehind, last_edge, MayBeOp, MayBeEdge, MayStand, MayFollow, begun as specified_begun, with_op as specified_with_op, with_edge as specified_with_edge, with_cost as specified_with_cost, with_flow as specified_with_flow, with_cycle as specified_with_cycle, inside as specified_inside, after_at, after as specified_after};
+ghost use Rattle.ix_cert.specs.Steps.{IsTimed, IsBehind, last_edge, MayBeOp, MayBeEdge, MayStand, MayFollow, begun as specified_begun, with_op, inside, after_at, after as specified_after};
+ghost use Rattle.ix_cert.specs.declared.state.Place.TheVariants as at;
 
 use crate::item::{Item, Operation};
 use crate::report::ReportBlock;
@@ -11,7 +12,7 @@ use ix_sheet::{Bound, Problem};
 use std::alloc::Global;
 
 /// Where a report goes on: at its title, at its period, at a behaviour, or inside of one whose cost may have been told.
-#[derive(Debug, Drop)]
+#[derive(Drop)]
 pub enum Place {
     Title,
     Period,
@@ -20,7 +21,7 @@ pub enum Place {
 }
 
 /// The lines of a report that were read.
-#[derive(Debug, Drop)]
+#[derive(Drop)]
 pub struct Reading {
     pub period: u32,
     /// The behaviours that have ended.
@@ -123,69 +124,119 @@ fn begun(alloc: Global, name: Name, mode: Option<Mode>, period: u32) -> ReportBl
     }
 }
 
-fn with_op(block: ReportBlock, op: Operation) -> Result<ReportBlock, Memory>
-    ensures { IfOk result (λ after. after ≡ specified_with_op block op) }
+/// Puts an operation behind those of the block.
+fn put_op(block: &mut ReportBlock, op: Operation) -> Result<(), Memory>
+    ensures { OnOk result (block.new ≡ with_op block.old op) }
 {
-    let mut block = block;
-    block.kinds.push(op.kind)?;
-    block.problem.ops.push(op.node)?;
-    if let Some(time) = op.time {
-        block.times.push(time)?;
+    let Ok(()) = block.kinds.push(op.kind) else {
+        return Err(Memory);
+    };
+    let Ok(()) = block.problem.ops.push(op.node) else {
+        return Err(Memory);
+    };
+    match op.time {
+        Some(time) => block.times.push(time),
+        None => Ok(()),
     }
-    Ok(block)
 }
 
-fn with_edge(block: ReportBlock, from: u32, to: u32) -> Result<ReportBlock, Memory>
-    ensures { IfOk result (λ after. after ≡ specified_with_edge block (from, to)) }
-{
-    let mut block = block;
-    block.problem.edges.push((from, to))?;
-    Ok(block)
-}
-
-fn with_cost(block: ReportBlock, cost: u64) -> ReportBlock
-    ensures { result ≡ specified_with_cost block cost }
-{
-    let mut block = block;
-    block.cost = cost;
-    block
-}
-
-fn with_flow(block: ReportBlock, amount: u64, bound: Bound) -> Result<ReportBlock, Memory>
-    ensures { IfOk result (λ after. after ≡ specified_with_flow block (bound, amount)) }
-{
-    let mut block = block;
-    block.flow.push((bound, amount))?;
-    Ok(block)
-}
-
-fn with_cycle(block: ReportBlock, bound: Bound) -> Result<ReportBlock, Memory>
-    ensures { IfOk result (λ after. after ≡ specified_with_cycle block bound) }
-{
-    let mut block = block;
-    block.cycle.push(bound)?;
-    Ok(block)
-}
-
-fn inside(block: ReportBlock, costed: bool, item: Item) -> Result<Place, Memory>
-    ensures { IfOk result (λ at. at ≡ specified_inside block costed item) }
+/// Puts into the block what a line inside of it says; `costed` is whether its cost is told.
+fn put_item(block: &mut ReportBlock, costed: &mut bool, item: Item) -> Result<(), Memory>
+    ensures { OnOk result (at.Inside block.new costed.new ≡ inside block.old costed.old item) }
 {
     match item {
-        Item::Op(op) => Ok(Place::Inside(with_op(block, op)?, costed)),
-        Item::Edge(from, to) => Ok(Place::Inside(with_edge(block, from, to)?, costed)),
-        Item::Cost(cost) => Ok(Place::Inside(with_cost(block, cost), true)),
-        Item::Flow(amount, bound) => Ok(Place::Inside(with_flow(block, amount, bound)?, costed)),
-        Item::Cycle(bound) => Ok(Place::Inside(with_cycle(block, bound)?, costed)),
-        _ => Ok(Place::Inside(block, costed)),
+        Item::Op(op) => put_op(block, op),
+        Item::Edge(from, to) => block.problem.edges.push((from, to)),
+        Item::Cost(cost) => {
+            block.cost = cost;
+            *costed = true;
+            Ok(())
+        }
+        Item::Flow(amount, bound) => block.flow.push((bound, amount)),
+        Item::Cycle(bound) => block.cycle.push(bound),
+        other => {
+            drop(other);
+            Ok(())
+        }
     }
 }
 
-fn ended(blocks: List<ReportBlock>, block: ReportBlock) -> Result<List<ReportBlock>, Memory>
-    ensures { IfOk result (λ after. after ≡ blocks ++ block ∷ []) }
+/// What was read with one more line, where a behaviour goes on.
+fn after_inside(
+    period: u32,
+    blocks: List<ReportBlock>,
+    block: ReportBlock,
+    costed: bool,
+    item: Item,
+) -> Result<Reading, Memory>
+    ensures { IfOk result (λ more. more ≡ after_at period blocks (at.Inside block costed) item) }
 {
     let mut blocks = blocks;
-    blocks.push(block)?;
-    Ok(blocks)
+    let mut block = block;
+    let mut costed = costed;
+    if let Item::End = item {
+        let Ok(()) = blocks.push(block) else {
+            drop(blocks);
+            return Err(Memory);
+        };
+        return Ok(Reading {
+            period,
+            blocks,
+            place: Place::Between,
+        });
+    }
+    let Ok(()) = put_item(&mut block, &mut costed, item) else {
+        drop(blocks);
+        drop(block);
+        return Err(Memory);
+    };
+    Ok(Reading {
+        period,
+        blocks,
+        place: Place::Inside(block, costed),
+    })
+}
+
+/// What was read with one more line, which is behind the title.
+fn after_title(period: u32, blocks: List<ReportBlock>, item: Item) -> Reading
+    ensures { result ≡ after_at period blocks at.Period item }
+{
+    match item {
+        Item::Period(period) => Reading {
+            period,
+            blocks,
+            place: Place::Between,
+        },
+        other => {
+            drop(other);
+            Reading {
+                period,
+                blocks,
+                place: Place::Period,
+            }
+        }
+    }
+}
+
+/// What was read with one more line, where a behaviour may begin.
+fn after_end(alloc: Global, period: u32, blocks: List<ReportBlock>, item: Item) -> Reading
+    ensures { result ≡ after_at period blocks at.Between item }
+{
+    match item {
+        Item::Behaviour(name, mode) => Reading {
+            period,
+            blocks,
+            place: Place::Inside(begun(alloc, name, mode, period), false),
+        },
+        other => {
+            drop(other);
+            Reading {
+                period,
+                blocks,
+                place: Place::Between,
+            }
+        }
+    }
 }
 
 /// What was read with one more line, which may stand next.
@@ -197,39 +248,17 @@ pub fn after(alloc: Global, reading: Reading, item: Item) -> Result<Reading, Mem
         blocks,
         place,
     } = reading;
-    match (place, item) {
-        (Place::Title, _) => Ok(Reading {
-            period,
-            blocks,
-            place: Place::Period,
-        }),
-        (Place::Period, Item::Period(period)) => Ok(Reading {
-            period,
-            blocks,
-            place: Place::Between,
-        }),
-        (Place::Between, Item::Behaviour(name, mode)) => {
-            let block = begun(alloc, name, mode, period);
+    match place {
+        Place::Title => {
+            drop(item);
             Ok(Reading {
                 period,
                 blocks,
-                place: Place::Inside(block, false),
+                place: Place::Period,
             })
         }
-        (Place::Inside(block, _), Item::End) => Ok(Reading {
-            period,
-            blocks: ended(blocks, block)?,
-            place: Place::Between,
-        }),
-        (Place::Inside(block, costed), item) => Ok(Reading {
-            period,
-            blocks,
-            place: inside(block, costed, item)?,
-        }),
-        (place, _) => Ok(Reading {
-            period,
-            blocks,
-            place,
-        }),
+        Place::Period => Ok(after_title(period, blocks, item)),
+        Place::Between => Ok(after_end(alloc, period, blocks, item)),
+        Place::Inside(block, costed) => after_inside(period, blocks, block, costed, item),
     }
 }

@@ -61,7 +61,10 @@ fn delays(alloc: Global, ops: &[Node]) -> Result<Vec<u64>, Memory>
 {
     let mut delays = Vec::new(alloc);
     'ops: for node in ops {
-        delays.push(u64::from(node.delay))?;
+        let Ok(()) = delays.push(u64::from(node.delay)) else {
+            drop(delays);
+            return Err(Memory);
+        };
     }
     Ok(delays)
 }
@@ -74,7 +77,10 @@ fn delays_within_times(alloc: Global, b: &ReportBlock) -> Result<Vec<u64>, Memor
     ensures { IfOk result (λ reach. AreReached b.now.problem (times_of b.now) (length b.now.problem.edges) reach.items) }
 {
     let ops = b.problem.ops.as_slice();
-    let mut reach = delays(alloc, ops)?;
+    let Ok(reach) = delays(alloc, ops) else {
+        return Err(Memory);
+    };
+    let mut reach = reach;
     follow_edges(b, reach.as_mut_slice());
     Ok(reach)
 }
@@ -141,7 +147,9 @@ pub(crate) fn first_passed(alloc: Global, b: &ReportBlock) -> Result<Option<usiz
     requires ordered { AllPairs IsBefore b.now.problem.edges }
     ensures { IfOk result (Tells (length b.now.problem.ops) (IsPassed b.now.problem (times_of b.now))) }
 {
-    let reach = delays_within_times(alloc, b)?;
+    let Ok(reach) = delays_within_times(alloc, b) else {
+        return Err(Memory);
+    };
     Ok(first_above(b.problem.period, reach.as_slice()))
 }
 

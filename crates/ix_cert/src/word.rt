@@ -49,7 +49,12 @@ fn is_name_byte(byte: u8) -> bool
 fn are_name_bytes(word: &[u8]) -> bool
     ensures { result ≡ list_all specified_is_name_byte word.now }
 {
-    word.iter().all(|byte| is_name_byte(*byte))
+    for byte in word {
+        if !is_name_byte(*byte) {
+            return false;
+        }
+    }
+    true
 }
 
 /// Whether a word is a name: a letter or `_`, then at most 63 letters, digits and `_`.
@@ -107,18 +112,33 @@ pub fn is_kind(word: &[u8]) -> bool
     is_plain_kind(word)
 }
 
+/// Whether a word is this one.
+pub fn is_label(word: &[u8], label: &[u8]) -> bool
+    ensures { Tells result (word.now ≡ label.now) }
+{
+    word == label
+}
+
 /// The mode that a word names; `none` is no mode.
 pub fn mode(word: &[u8]) -> Option<Option<Mode>>
     ensures { IsReading IsAny mode_text word.now result }
 {
-    match word {
-        b"none" => Some(None),
-        b"InPipeline" => Some(Some(Mode::InPipeline)),
-        b"Tight" => Some(Some(Mode::Tight)),
-        b"Decoupled" => Some(Some(Mode::Decoupled)),
-        b"Always" => Some(Some(Mode::Always)),
-        _ => None,
+    if is_label(word, b"none") {
+        return Some(None);
     }
+    if is_label(word, b"InPipeline") {
+        return Some(Some(Mode::InPipeline));
+    }
+    if is_label(word, b"Tight") {
+        return Some(Some(Mode::Tight));
+    }
+    if is_label(word, b"Decoupled") {
+        return Some(Some(Mode::Decoupled));
+    }
+    if is_label(word, b"Always") {
+        return Some(Some(Mode::Always));
+    }
+    None
 }
 
 /// The name with these bytes.

@@ -1,8 +1,8 @@
 -- What is kept of names beside an open module, where one more is declared or driven.
-use Rattle.std.proofs.Common.{◌≡◌, ◌∙◌, sym, ap, refl, List, [], ◌∷◌, ◌++◌, Option, Some, Bool, true, false, inl, inr, cond, ◌||◌, String, BTreeMap, BTreeSet}
+use Rattle.std.proofs.Common.{◌≡◌, ◌∙◌, sym, ap, subst, refl, Result, Ok, List, [], ◌∷◌, ◌++◌, Option, Some, Bool, true, false, inl, inr, cond, ◌||◌, String, BTreeMap, BTreeSet}
 use Rattle.std.specs.BTreeMap.{get_by_text}
 use Rattle.std.specs.BTreeSet.{contains_text}
-use Rattle.std.specs.Prelude.{MatchOption, IsTrue, ◌↔◌}
+use Rattle.std.specs.Prelude.{MatchOption, OnOk, IsTrue, ◌↔◌}
 use Rattle.std.specs.List.{list_any}
 use Rattle.std.specs.Map.{update}
 use Rattle.std.specs.Str.{bytes_eq}
@@ -20,6 +20,10 @@ use Rattle.ix_vform.specs.declared.role.Role.TheVariants.{Input, Assigned, Regis
 use Rattle.ix_vform.specs.Roles.{IsRole}
 use Rattle.ix_vform.specs.Kept.{is_port, role_among, role_in, first_of, is_assigned, is_updated}
 use Rattle.ix_vform.proofs.Named.{any_named, names_cases}
+
+-- ---- what holds of a call that is done
+pub done : {E P : Type 0} (r : Result (Unit {0}) E) (u : Unit {0}) → r ≡ Ok u → OnOk r P → P
+done {E} {P} r u e = subst (λ z. OnOk z P) e
 
 -- ---- a test on one more element
 any_push : {X : Type 0} (f : X → Bool) (xs : List X) (x : X) → list_any f (xs ++ x ∷ []) ≡ (f x || list_any f xs)

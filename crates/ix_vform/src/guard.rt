@@ -11,39 +11,6 @@ use ix_net::Port;
 use ix_verilog::{Source, Stage};
 use ix_vline::Kind;
 
-fn is_in_ports(stage: Stage) -> bool
-    ensures { IsTrue result ↔ (stage ≡ Stage.Ports) }
-{
-    match stage {
-        Stage::Ports => true,
-        Stage::Lines => false,
-        Stage::Clocked => false,
-        Stage::Ended => false,
-    }
-}
-
-fn is_in_lines(stage: Stage) -> bool
-    ensures { IsTrue result ↔ (stage ≡ Stage.Lines) }
-{
-    match stage {
-        Stage::Ports => false,
-        Stage::Lines => true,
-        Stage::Clocked => false,
-        Stage::Ended => false,
-    }
-}
-
-fn is_clocked(stage: Stage) -> bool
-    ensures { IsTrue result ↔ (stage ≡ Stage.Clocked) }
-{
-    match stage {
-        Stage::Ports => false,
-        Stage::Lines => false,
-        Stage::Clocked => true,
-        Stage::Ended => false,
-    }
-}
-
 /// Whether a port is still to be declared.
 fn has_next(source: &Source) -> bool
     ensures { IsTrue result ↔ HasNext source.now }
@@ -202,21 +169,21 @@ pub fn may_start(opened: &Opened, kind: Kind) -> bool
     ensures { IsTrue result ↔ MayStartIn opened.now kind }
 {
     let source = opened.source();
-    if is_in_lines(source.stage) {
+    if matches!(source.stage, Stage::Lines) {
         return may_declare(opened, kind);
     }
     match kind {
         Kind::Head => false,
-        Kind::Port => is_in_ports(source.stage),
-        Kind::Heading => is_in_ports(source.stage),
+        Kind::Port => matches!(source.stage, Stage::Ports),
+        Kind::Heading => matches!(source.stage, Stage::Ports),
         Kind::Input => false,
         Kind::Output => false,
         Kind::Wire => false,
         Kind::Register => false,
         Kind::Assign(_) => false,
         Kind::Always => false,
-        Kind::Update => is_clocked(source.stage) && has_register(opened),
-        Kind::Done => is_clocked(source.stage),
+        Kind::Update => matches!(source.stage, Stage::Clocked) && has_register(opened),
+        Kind::Done => matches!(source.stage, Stage::Clocked),
         Kind::Finish => may_finish(opened),
     }
 }

@@ -33,21 +33,17 @@ impl Model for Opened {
     ghost invariant = { λ o. IsKept o.source o.roles o.assigned o.updated };
 }
 
-/// A module of which no line but the first stands.
-fn fresh_source(alloc: Global, name: Name) -> Source
-    ensures { result ≡ fresh name }
-{
-    Source {
-        name,
-        ports: List::new(alloc),
-        inputs: List::new(alloc),
-        outputs: List::new(alloc),
-        wires: List::new(alloc),
-        registers: List::new(alloc),
-        assigns: List::new(alloc),
-        updates: List::new(alloc),
-        stage: Stage::Ports,
-    }
+/// Lets go of a module and of what is kept beside it.
+fn let_go(
+    source: Source,
+    roles: BTreeMap<String, Role>,
+    assigned: BTreeSet<String>,
+    updated: BTreeSet<String>,
+) {
+    drop(source);
+    drop(roles);
+    drop(assigned);
+    drop(updated);
 }
 
 impl Opened {
@@ -57,7 +53,17 @@ impl Opened {
     {
         Opened {
             alloc,
-            source: fresh_source(alloc, name),
+            source: Source {
+                name,
+                ports: List::new(alloc),
+                inputs: List::new(alloc),
+                outputs: List::new(alloc),
+                wires: List::new(alloc),
+                registers: List::new(alloc),
+                assigns: List::new(alloc),
+                updates: List::new(alloc),
+                stage: Stage::Ports,
+            },
             roles: BTreeMap::new(alloc),
             assigned: BTreeSet::new(alloc),
             updated: BTreeSet::new(alloc),
@@ -102,7 +108,10 @@ impl Opened {
         ensures { IfOk result (λ o. o ≡ with_line self (port name)) }
     {
         let mut opened = self;
-        opened.source.ports.push(name)?;
+        let Ok(()) = opened.source.ports.push(name) else {
+            drop(opened);
+            return Err(Memory);
+        };
         Ok(opened)
     }
 
@@ -118,74 +127,164 @@ impl Opened {
     pub fn with_input(self, declared: Port) -> Result<Opened, Memory>
         ensures { IfOk result (λ o. o ≡ with_line self (input declared)) }
     {
-        let mut opened = self;
-        declare(
-            opened.alloc,
-            &mut opened.roles,
-            declared.name.as_str(),
-            Role::Input,
-        )?;
-        opened.source.inputs.push(declared)?;
-        Ok(opened)
+        let Opened {
+            alloc,
+            source,
+            roles,
+            assigned,
+            updated,
+        } = self;
+        let mut source = source;
+        let mut roles = roles;
+        let told = declare(alloc, &mut roles, declared.name.as_str(), Role::Input);
+        let put = source.inputs.push(declared);
+        let (Ok(()), Ok(())) = (told, put) else {
+            let_go(source, roles, assigned, updated);
+            return Err(Memory);
+        };
+        Ok(Opened {
+            alloc,
+            source,
+            roles,
+            assigned,
+            updated,
+        })
     }
 
     pub fn with_output(self, declared: Port) -> Result<Opened, Memory>
         ensures { IfOk result (λ o. o ≡ with_line self (output declared)) }
     {
-        let mut opened = self;
-        declare(
-            opened.alloc,
-            &mut opened.roles,
-            declared.name.as_str(),
-            Role::Assigned,
-        )?;
-        opened.source.outputs.push(declared)?;
-        Ok(opened)
+        let Opened {
+            alloc,
+            source,
+            roles,
+            assigned,
+            updated,
+        } = self;
+        let mut source = source;
+        let mut roles = roles;
+        let told = declare(alloc, &mut roles, declared.name.as_str(), Role::Assigned);
+        let put = source.outputs.push(declared);
+        let (Ok(()), Ok(())) = (told, put) else {
+            let_go(source, roles, assigned, updated);
+            return Err(Memory);
+        };
+        Ok(Opened {
+            alloc,
+            source,
+            roles,
+            assigned,
+            updated,
+        })
     }
 
     pub fn with_wire(self, declared: Port) -> Result<Opened, Memory>
         ensures { IfOk result (λ o. o ≡ with_line self (wire declared)) }
     {
-        let mut opened = self;
-        declare(
-            opened.alloc,
-            &mut opened.roles,
-            declared.name.as_str(),
-            Role::Assigned,
-        )?;
-        opened.source.wires.push(declared)?;
-        Ok(opened)
+        let Opened {
+            alloc,
+            source,
+            roles,
+            assigned,
+            updated,
+        } = self;
+        let mut source = source;
+        let mut roles = roles;
+        let told = declare(alloc, &mut roles, declared.name.as_str(), Role::Assigned);
+        let put = source.wires.push(declared);
+        let (Ok(()), Ok(())) = (told, put) else {
+            let_go(source, roles, assigned, updated);
+            return Err(Memory);
+        };
+        Ok(Opened {
+            alloc,
+            source,
+            roles,
+            assigned,
+            updated,
+        })
     }
 
     pub fn with_register(self, declared: Port) -> Result<Opened, Memory>
         ensures { IfOk result (λ o. o ≡ with_line self (register declared)) }
     {
-        let mut opened = self;
-        declare(
-            opened.alloc,
-            &mut opened.roles,
-            declared.name.as_str(),
-            Role::Register,
-        )?;
-        opened.source.registers.push(declared)?;
-        Ok(opened)
+        let Opened {
+            alloc,
+            source,
+            roles,
+            assigned,
+            updated,
+        } = self;
+        let mut source = source;
+        let mut roles = roles;
+        let told = declare(alloc, &mut roles, declared.name.as_str(), Role::Register);
+        let put = source.registers.push(declared);
+        let (Ok(()), Ok(())) = (told, put) else {
+            let_go(source, roles, assigned, updated);
+            return Err(Memory);
+        };
+        Ok(Opened {
+            alloc,
+            source,
+            roles,
+            assigned,
+            updated,
+        })
     }
 
     pub fn with_assign(self, assigned: Assign) -> Result<Opened, Memory>
         ensures { IfOk result (λ o. o ≡ with_line self (assign assigned)) }
     {
-        let mut opened = self;
-        mark(opened.alloc, &mut opened.assigned, assigned.target.as_str())?;
-        opened.source.assigns.push(assigned)?;
-        Ok(opened)
+        let added = assigned;
+        let Opened {
+            alloc,
+            source,
+            roles,
+            assigned,
+            updated,
+        } = self;
+        let mut source = source;
+        let mut assigned = assigned;
+        let told = mark(alloc, &mut assigned, added.target.as_str());
+        let put = source.assigns.push(added);
+        let (Ok(()), Ok(())) = (told, put) else {
+            let_go(source, roles, assigned, updated);
+            return Err(Memory);
+        };
+        Ok(Opened {
+            alloc,
+            source,
+            roles,
+            assigned,
+            updated,
+        })
     }
 
     pub fn with_update(self, updated: Update) -> Result<Opened, Memory>
         ensures { IfOk result (λ o. o ≡ with_line self (update updated)) }
     {
-        let mut opened = self;
-        mark(opened.alloc, &mut opened.updated, updated.target.as_str())?;
-        opened.source.updates.push(updated)?;
-        Ok(opened)
+        let added = updated;
+        let Opened {
+            alloc,
+            source,
+            roles,
+            assigned,
+            updated,
+        } = self;
+        let mut source = source;
+        let mut updated = updated;
+        let told = mark(alloc, &mut updated, added.target.as_str());
+        let put = source.updates.push(added);
+        let (Ok(()), Ok(())) = (told, put) else {
+            let_go(source, roles, assigned, updated);
+            return Err(Memory);
+        };
+        Ok(Opened {
+            alloc,
+            source,
+            roles,
+            assigned,
+            updated,
+        })
     }
 }

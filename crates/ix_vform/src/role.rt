@@ -47,16 +47,30 @@ pub fn declare(
         get_by_text roles.new n ≡ update bytes_eq (get_by_text roles.old) name.now (Some (specified_first_of (get_by_text roles.old name.now) role)) n) }
 {
     let old = roles.get(name).copied();
-    let key = String::from_str(alloc, name)?;
-    roles.insert(key, first_of(old, role))?;
-    Ok(())
+    let Ok(key) = String::from_str(alloc, name) else {
+        return Err(Memory);
+    };
+    match roles.insert(key, first_of(old, role)) {
+        Ok(_) => Ok(()),
+        Err(failed) => {
+            drop(failed);
+            Err(Memory)
+        }
+    }
 }
 
 /// Puts a name into a set.
 pub fn mark(alloc: Global, names: &mut BTreeSet<String>, name: &str) -> Result<(), Memory>
     ensures { OnOk result ((n : List ℕ) → contains_text names.new n ≡ (bytes_eq name.now n || contains_text names.old n)) }
 {
-    let key = String::from_str(alloc, name)?;
-    names.insert(key)?;
-    Ok(())
+    let Ok(key) = String::from_str(alloc, name) else {
+        return Err(Memory);
+    };
+    match names.insert(key) {
+        Ok(_) => Ok(()),
+        Err(failed) => {
+            drop(failed);
+            Err(Memory)
+        }
+    }
 }

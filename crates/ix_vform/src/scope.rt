@@ -45,7 +45,14 @@ impl Scope {
     pub fn open(&mut self, alloc: Global, name: Name)
         ensures { self.new ≡ Some (fresh name) }
     {
-        self.module = Some(Opened::new(alloc, name));
+        self.put(Opened::new(alloc, name));
+    }
+
+    /// This module is open from here on.
+    fn put(&mut self, opened: Opened)
+        ensures { self.new ≡ Some opened }
+    {
+        drop(self.module.replace(opened));
     }
 
     /// The module that was open, if one was.
@@ -70,9 +77,14 @@ impl Scope {
     pub fn add_port(&mut self, name: Name) -> Result<(), Memory>
         ensures { OnOk result (self.new ≡ added self.old (port name)) }
     {
-        if let Some(opened) = self.module.take() {
-            self.module = Some(opened.with_port(name)?);
-        }
+        let Some(opened) = self.module.take() else {
+            drop(name);
+            return Ok(());
+        };
+        let Ok(opened) = opened.with_port(name) else {
+            return Err(Memory);
+        };
+        self.put(opened);
         Ok(())
     }
 
@@ -86,45 +98,70 @@ impl Scope {
     pub fn add_input(&mut self, declared: Port) -> Result<(), Memory>
         ensures { OnOk result (self.new ≡ added self.old (input declared)) }
     {
-        if let Some(opened) = self.module.take() {
-            self.module = Some(opened.with_input(declared)?);
-        }
+        let Some(opened) = self.module.take() else {
+            drop(declared);
+            return Ok(());
+        };
+        let Ok(opened) = opened.with_input(declared) else {
+            return Err(Memory);
+        };
+        self.put(opened);
         Ok(())
     }
 
     pub fn add_output(&mut self, declared: Port) -> Result<(), Memory>
         ensures { OnOk result (self.new ≡ added self.old (output declared)) }
     {
-        if let Some(opened) = self.module.take() {
-            self.module = Some(opened.with_output(declared)?);
-        }
+        let Some(opened) = self.module.take() else {
+            drop(declared);
+            return Ok(());
+        };
+        let Ok(opened) = opened.with_output(declared) else {
+            return Err(Memory);
+        };
+        self.put(opened);
         Ok(())
     }
 
     pub fn add_wire(&mut self, declared: Port) -> Result<(), Memory>
         ensures { OnOk result (self.new ≡ added self.old (wire declared)) }
     {
-        if let Some(opened) = self.module.take() {
-            self.module = Some(opened.with_wire(declared)?);
-        }
+        let Some(opened) = self.module.take() else {
+            drop(declared);
+            return Ok(());
+        };
+        let Ok(opened) = opened.with_wire(declared) else {
+            return Err(Memory);
+        };
+        self.put(opened);
         Ok(())
     }
 
     pub fn add_register(&mut self, declared: Port) -> Result<(), Memory>
         ensures { OnOk result (self.new ≡ added self.old (register declared)) }
     {
-        if let Some(opened) = self.module.take() {
-            self.module = Some(opened.with_register(declared)?);
-        }
+        let Some(opened) = self.module.take() else {
+            drop(declared);
+            return Ok(());
+        };
+        let Ok(opened) = opened.with_register(declared) else {
+            return Err(Memory);
+        };
+        self.put(opened);
         Ok(())
     }
 
     pub fn add_assign(&mut self, assigned: Assign) -> Result<(), Memory>
         ensures { OnOk result (self.new ≡ added self.old (assign assigned)) }
     {
-        if let Some(opened) = self.module.take() {
-            self.module = Some(opened.with_assign(assigned)?);
-        }
+        let Some(opened) = self.module.take() else {
+            drop(assigned);
+            return Ok(());
+        };
+        let Ok(opened) = opened.with_assign(assigned) else {
+            return Err(Memory);
+        };
+        self.put(opened);
         Ok(())
     }
 
@@ -138,9 +175,14 @@ impl Scope {
     pub fn add_update(&mut self, updated: Update) -> Result<(), Memory>
         ensures { OnOk result (self.new ≡ added self.old (update updated)) }
     {
-        if let Some(opened) = self.module.take() {
-            self.module = Some(opened.with_update(updated)?);
-        }
+        let Some(opened) = self.module.take() else {
+            drop(updated);
+            return Ok(());
+        };
+        let Ok(opened) = opened.with_update(updated) else {
+            return Err(Memory);
+        };
+        self.put(opened);
         Ok(())
     }
 
@@ -155,7 +197,7 @@ impl Scope {
         ensures { self.new ≡ moved self.old stage }
     {
         if let Some(opened) = self.module.take() {
-            self.module = Some(opened.at_stage(stage));
+            self.put(opened.at_stage(stage));
         }
     }
 }

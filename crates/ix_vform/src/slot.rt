@@ -1,4 +1,4 @@
-ghost use Rattle.std.specs.Prelude.{◌≡◌, ◌≤◌, ◌↔◌, [], ◌∷◌, IsTrue, length, None};
+ghost use Rattle.std.specs.Prelude.{◌≡◌, ◌≤◌, ◌↔◌, [], ◌∷◌, IsTrue, length};
 ghost use Rattle.ix_verilog.specs.Words.{words_of};
 ghost use Rattle.ix_vline.specs.Slots.{Takes, MayStart, IsHighest, first_word as specified_first_word, slots as specified_slots, declaring as specified_declaring};
 ghost use Rattle.ix_vline.specs.Reached.{Reaches};
@@ -9,6 +9,130 @@ use crate::scope::{Scope, is_next, is_operand, is_register, is_target};
 use crate::word::{highest, is_literal, is_number, is_operator, is_short_name};
 use ix_verilog::Token;
 use ix_vline::{Kind, Right, Slot};
+
+/// An assignment of a number.
+const LITERAL: [Slot; 5] = [
+    Slot::First(Kind::Assign(Right::Literal)),
+    Slot::Target,
+    Slot::Byte(b'='),
+    Slot::Literal,
+    Slot::Byte(b';'),
+];
+
+/// An assignment of a name.
+const COPY: [Slot; 5] = [
+    Slot::First(Kind::Assign(Right::Copy)),
+    Slot::Target,
+    Slot::Byte(b'='),
+    Slot::Operand,
+    Slot::Byte(b';'),
+];
+
+/// An assignment of two operands and a sign between.
+const BOTH: [Slot; 7] = [
+    Slot::First(Kind::Assign(Right::Both)),
+    Slot::Target,
+    Slot::Byte(b'='),
+    Slot::Operand,
+    Slot::Operator,
+    Slot::Operand,
+    Slot::Byte(b';'),
+];
+
+/// An assignment of `~` and an operand.
+const TURNED: [Slot; 6] = [
+    Slot::First(Kind::Assign(Right::Turned)),
+    Slot::Target,
+    Slot::Byte(b'='),
+    Slot::Byte(b'~'),
+    Slot::Operand,
+    Slot::Byte(b';'),
+];
+
+/// An assignment of a signed comparison.
+const SIGNED: [Slot; 13] = [
+    Slot::First(Kind::Assign(Right::Signed)),
+    Slot::Target,
+    Slot::Byte(b'='),
+    Slot::Signed,
+    Slot::Byte(b'('),
+    Slot::Operand,
+    Slot::Byte(b')'),
+    Slot::Byte(b'<'),
+    Slot::Signed,
+    Slot::Byte(b'('),
+    Slot::Operand,
+    Slot::Byte(b')'),
+    Slot::Byte(b';'),
+];
+
+/// An assignment of two operands side by side.
+const JOINED: [Slot; 9] = [
+    Slot::First(Kind::Assign(Right::Joined)),
+    Slot::Target,
+    Slot::Byte(b'='),
+    Slot::Byte(b'{'),
+    Slot::Operand,
+    Slot::Byte(b','),
+    Slot::Operand,
+    Slot::Byte(b'}'),
+    Slot::Byte(b';'),
+];
+
+/// An assignment of a range of bits.
+const RANGE: [Slot; 10] = [
+    Slot::First(Kind::Assign(Right::Range)),
+    Slot::Target,
+    Slot::Byte(b'='),
+    Slot::Operand,
+    Slot::Byte(b'['),
+    Slot::Number,
+    Slot::Byte(b':'),
+    Slot::Number,
+    Slot::Byte(b']'),
+    Slot::Byte(b';'),
+];
+
+/// An assignment of a choice of two operands.
+const CHOICE: [Slot; 9] = [
+    Slot::First(Kind::Assign(Right::Choice)),
+    Slot::Target,
+    Slot::Byte(b'='),
+    Slot::Operand,
+    Slot::Byte(b'?'),
+    Slot::Operand,
+    Slot::Byte(b':'),
+    Slot::Operand,
+    Slot::Byte(b';'),
+];
+
+/// The first line of a module.
+const HEAD: [Slot; 4] = [
+    Slot::First(Kind::Head),
+    Slot::Fresh,
+    Slot::Byte(b'('),
+    Slot::Clk,
+];
+
+/// The end of the ports.
+const PORTS_END: [Slot; 5] = [
+    Slot::First(Kind::Heading),
+    Slot::Byte(b';'),
+    Slot::Input,
+    Slot::Clk,
+    Slot::Byte(b';'),
+];
+
+/// The first line of `always`.
+const ALWAYS: [Slot; 7] = [
+    Slot::First(Kind::Always),
+    Slot::Byte(b'@'),
+    Slot::Byte(b'('),
+    Slot::Posedge,
+    Slot::Clk,
+    Slot::Byte(b')'),
+    Slot::Begin,
+];
 
 /// The first word of lines of a kind.
 fn first_word(kind: Kind) -> &'static str
@@ -45,31 +169,12 @@ fn is_byte(word: &[u8], byte: u8) -> bool
     }
 }
 
-fn is_head(kind: Kind) -> bool
-    ensures { IsTrue result ↔ MayStart None kind }
-{
-    match kind {
-        Kind::Head => true,
-        Kind::Port => false,
-        Kind::Heading => false,
-        Kind::Input => false,
-        Kind::Output => false,
-        Kind::Wire => false,
-        Kind::Register => false,
-        Kind::Assign(_) => false,
-        Kind::Always => false,
-        Kind::Update => false,
-        Kind::Done => false,
-        Kind::Finish => false,
-    }
-}
-
 fn starts(scope: &Scope, kind: Kind) -> bool
     ensures { IsTrue result ↔ MayStart scope.now kind }
 {
     match &scope.module {
         Some(opened) => may_start(opened, kind),
-        None => is_head(kind),
+        None => matches!(kind, Kind::Head),
     }
 }
 
@@ -209,232 +314,20 @@ fn declaring(scope: &Scope, kind: Kind, name: Slot, tokens: &[Token]) -> Reach
     )
 }
 
-/// How far an assignment of a number goes.
-fn literal(scope: &Scope, tokens: &[Token]) -> Reach
-    ensures { IsReach scope.now (specified_slots (Kind.Assign Right.Literal)) (words_of tokens.now) result }
-{
-    tried(
-        scope,
-        &[
-            Slot::First(Kind::Assign(Right::Literal)),
-            Slot::Target,
-            Slot::Byte(b'='),
-            Slot::Literal,
-            Slot::Byte(b';'),
-        ],
-        tokens,
-    )
-}
-
-/// How far an assignment of a name goes.
-fn copy(scope: &Scope, tokens: &[Token]) -> Reach
-    ensures { IsReach scope.now (specified_slots (Kind.Assign Right.Copy)) (words_of tokens.now) result }
-{
-    tried(
-        scope,
-        &[
-            Slot::First(Kind::Assign(Right::Copy)),
-            Slot::Target,
-            Slot::Byte(b'='),
-            Slot::Operand,
-            Slot::Byte(b';'),
-        ],
-        tokens,
-    )
-}
-
-/// How far an assignment of two operands and a sign between goes.
-fn both(scope: &Scope, tokens: &[Token]) -> Reach
-    ensures { IsReach scope.now (specified_slots (Kind.Assign Right.Both)) (words_of tokens.now) result }
-{
-    tried(
-        scope,
-        &[
-            Slot::First(Kind::Assign(Right::Both)),
-            Slot::Target,
-            Slot::Byte(b'='),
-            Slot::Operand,
-            Slot::Operator,
-            Slot::Operand,
-            Slot::Byte(b';'),
-        ],
-        tokens,
-    )
-}
-
-/// How far an assignment of `~` and an operand goes.
-fn turned(scope: &Scope, tokens: &[Token]) -> Reach
-    ensures { IsReach scope.now (specified_slots (Kind.Assign Right.Turned)) (words_of tokens.now) result }
-{
-    tried(
-        scope,
-        &[
-            Slot::First(Kind::Assign(Right::Turned)),
-            Slot::Target,
-            Slot::Byte(b'='),
-            Slot::Byte(b'~'),
-            Slot::Operand,
-            Slot::Byte(b';'),
-        ],
-        tokens,
-    )
-}
-
-/// How far an assignment of a signed comparison goes.
-fn signed(scope: &Scope, tokens: &[Token]) -> Reach
-    ensures { IsReach scope.now (specified_slots (Kind.Assign Right.Signed)) (words_of tokens.now) result }
-{
-    tried(
-        scope,
-        &[
-            Slot::First(Kind::Assign(Right::Signed)),
-            Slot::Target,
-            Slot::Byte(b'='),
-            Slot::Signed,
-            Slot::Byte(b'('),
-            Slot::Operand,
-            Slot::Byte(b')'),
-            Slot::Byte(b'<'),
-            Slot::Signed,
-            Slot::Byte(b'('),
-            Slot::Operand,
-            Slot::Byte(b')'),
-            Slot::Byte(b';'),
-        ],
-        tokens,
-    )
-}
-
-/// How far an assignment of two operands side by side goes.
-fn joined(scope: &Scope, tokens: &[Token]) -> Reach
-    ensures { IsReach scope.now (specified_slots (Kind.Assign Right.Joined)) (words_of tokens.now) result }
-{
-    tried(
-        scope,
-        &[
-            Slot::First(Kind::Assign(Right::Joined)),
-            Slot::Target,
-            Slot::Byte(b'='),
-            Slot::Byte(b'{'),
-            Slot::Operand,
-            Slot::Byte(b','),
-            Slot::Operand,
-            Slot::Byte(b'}'),
-            Slot::Byte(b';'),
-        ],
-        tokens,
-    )
-}
-
-/// How far an assignment of a range of bits goes.
-fn range(scope: &Scope, tokens: &[Token]) -> Reach
-    ensures { IsReach scope.now (specified_slots (Kind.Assign Right.Range)) (words_of tokens.now) result }
-{
-    tried(
-        scope,
-        &[
-            Slot::First(Kind::Assign(Right::Range)),
-            Slot::Target,
-            Slot::Byte(b'='),
-            Slot::Operand,
-            Slot::Byte(b'['),
-            Slot::Number,
-            Slot::Byte(b':'),
-            Slot::Number,
-            Slot::Byte(b']'),
-            Slot::Byte(b';'),
-        ],
-        tokens,
-    )
-}
-
-/// How far an assignment of a choice of two operands goes.
-fn choice(scope: &Scope, tokens: &[Token]) -> Reach
-    ensures { IsReach scope.now (specified_slots (Kind.Assign Right.Choice)) (words_of tokens.now) result }
-{
-    tried(
-        scope,
-        &[
-            Slot::First(Kind::Assign(Right::Choice)),
-            Slot::Target,
-            Slot::Byte(b'='),
-            Slot::Operand,
-            Slot::Byte(b'?'),
-            Slot::Operand,
-            Slot::Byte(b':'),
-            Slot::Operand,
-            Slot::Byte(b';'),
-        ],
-        tokens,
-    )
-}
-
 /// How far an assignment with such a right side goes.
 fn assigning(scope: &Scope, right: Right, tokens: &[Token]) -> Reach
     ensures { IsReach scope.now (specified_slots (Kind.Assign right)) (words_of tokens.now) result }
 {
     match right {
-        Right::Literal => literal(scope, tokens),
-        Right::Copy => copy(scope, tokens),
-        Right::Both => both(scope, tokens),
-        Right::Turned => turned(scope, tokens),
-        Right::Signed => signed(scope, tokens),
-        Right::Joined => joined(scope, tokens),
-        Right::Range => range(scope, tokens),
-        Right::Choice => choice(scope, tokens),
+        Right::Literal => tried(scope, &LITERAL, tokens),
+        Right::Copy => tried(scope, &COPY, tokens),
+        Right::Both => tried(scope, &BOTH, tokens),
+        Right::Turned => tried(scope, &TURNED, tokens),
+        Right::Signed => tried(scope, &SIGNED, tokens),
+        Right::Joined => tried(scope, &JOINED, tokens),
+        Right::Range => tried(scope, &RANGE, tokens),
+        Right::Choice => tried(scope, &CHOICE, tokens),
     }
-}
-
-/// How far the first line of a module goes.
-fn head(scope: &Scope, tokens: &[Token]) -> Reach
-    ensures { IsReach scope.now (specified_slots Kind.Head) (words_of tokens.now) result }
-{
-    tried(
-        scope,
-        &[
-            Slot::First(Kind::Head),
-            Slot::Fresh,
-            Slot::Byte(b'('),
-            Slot::Clk,
-        ],
-        tokens,
-    )
-}
-
-/// How far the end of the ports goes.
-fn ports_end(scope: &Scope, tokens: &[Token]) -> Reach
-    ensures { IsReach scope.now (specified_slots Kind.Heading) (words_of tokens.now) result }
-{
-    tried(
-        scope,
-        &[
-            Slot::First(Kind::Heading),
-            Slot::Byte(b';'),
-            Slot::Input,
-            Slot::Clk,
-            Slot::Byte(b';'),
-        ],
-        tokens,
-    )
-}
-
-/// How far the first line of `always` goes.
-fn always(scope: &Scope, tokens: &[Token]) -> Reach
-    ensures { IsReach scope.now (specified_slots Kind.Always) (words_of tokens.now) result }
-{
-    tried(
-        scope,
-        &[
-            Slot::First(Kind::Always),
-            Slot::Byte(b'@'),
-            Slot::Byte(b'('),
-            Slot::Posedge,
-            Slot::Clk,
-            Slot::Byte(b')'),
-            Slot::Begin,
-        ],
-        tokens,
-    )
 }
 
 /// How far a line that changes a register goes.
@@ -462,15 +355,15 @@ pub fn reach_of(scope: &Scope, kind: Kind, tokens: &[Token]) -> Reach
     ensures { IsReach scope.now (specified_slots kind) (words_of tokens.now) result }
 {
     match kind {
-        Kind::Head => head(scope, tokens),
+        Kind::Head => tried(scope, &HEAD, tokens),
         Kind::Port => tried(scope, &[Slot::First(kind), Slot::Fresh], tokens),
-        Kind::Heading => ports_end(scope, tokens),
+        Kind::Heading => tried(scope, &PORTS_END, tokens),
         Kind::Input => declaring(scope, kind, Slot::Next, tokens),
         Kind::Output => declaring(scope, kind, Slot::Next, tokens),
         Kind::Wire => declaring(scope, kind, Slot::Fresh, tokens),
         Kind::Register => declaring(scope, kind, Slot::Fresh, tokens),
         Kind::Assign(right) => assigning(scope, right, tokens),
-        Kind::Always => always(scope, tokens),
+        Kind::Always => tried(scope, &ALWAYS, tokens),
         Kind::Update => updating(scope, tokens),
         Kind::Done => tried(scope, &[Slot::First(kind)], tokens),
         Kind::Finish => tried(scope, &[Slot::First(kind)], tokens),

@@ -54,13 +54,23 @@ fn is_hex_digit(byte: u8) -> bool
 fn are_digits(word: &[u8]) -> bool
     ensures { result ≡ list_all specified_is_digit word.now }
 {
-    word.iter().all(|byte| is_digit(*byte))
+    for byte in word {
+        if !is_digit(*byte) {
+            return false;
+        }
+    }
+    true
 }
 
 fn are_hex_digits(word: &[u8]) -> bool
     ensures { result ≡ list_all specified_is_hex_digit word.now }
 {
-    word.iter().all(|byte| is_hex_digit(*byte))
+    for byte in word {
+        if !is_hex_digit(*byte) {
+            return false;
+        }
+    }
+    true
 }
 
 /// Whether a word is `0`, or decimal digits that do not begin with 0.

@@ -14,6 +14,6 @@ returns-in-None c = λ x w e.
 
 pub loop-word-preserved : goal.loop-word-preserved
 loop-word-preserved c = record {
-  so_far = ap (λ l. map decimal l) c.in_ok-push-in-Some.ensures.ok ∙ path_more c.loop-word.path c.in-Some.number c.args.words.now c.loop-word.word-index none_word c.loop-word.invariant.so_far c.in-Some.ensures.1 (omega (arith, c.loop-word-test.true, c.loop-word.auto.word-index-end));
-  wide = subst (All IsWide) (sym c.in_ok-push-in-Some.ensures.ok) (All-push IsWide c.loop-word.path c.in-Some.number c.loop-word.invariant.wide c.in-Some.ensures.0);
+  so_far = ap (λ l. map decimal l) c.in-Ok.ensures.ok ∙ path_more c.loop-word.path c.in-Some.number c.args.words.now c.loop-word.word-index none_word c.loop-word.invariant.so_far c.in-Some.ensures.1 (omega (arith, c.loop-word-test.true, c.loop-word.auto.word-index-end));
+  wide = subst (All IsWide) (sym c.in-Ok.ensures.ok) (All-push IsWide c.loop-word.path c.in-Some.number c.loop-word.invariant.wide c.in-Some.ensures.0);
 }

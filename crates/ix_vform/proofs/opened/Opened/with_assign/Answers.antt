@@ -1,11 +1,11 @@
-use Rattle.ix_vform.proofs.Keeping.{driven_more}
+use Rattle.ix_vform.proofs.Keeping.{done, driven_more}
 use Rattle.ix_vform.proofs.opened.Opened.with_assign.Goals as goal
 
-pub invariant_of-opened : goal.invariant_of-opened
-invariant_of-opened c =
-    let s = c.opened.inside.source in
+pub invariant_of-result : goal.invariant_of-result
+invariant_of-result c =
+    let s = c.self.inside.source in
     record {
-      found = c.opened.invariant.found;
-      driven = driven_more c.opened.inside.assigned c.mark.new.names s.assigns c.push.new.self c.args.assigned c.as_str.result.now c.as_str.ensures.text c.in_ok-push.ensures.ok c.in_ok-mark.ensures c.opened.invariant.driven;
-      changed = c.opened.invariant.changed;
+      found = c.self.invariant.found;
+      driven = driven_more c.self.inside.assigned c.mark-told.new.names s.assigns c.push-put.new.self c.args.assigned c.as_str.result.now c.as_str.ensures.text (done c.push-put.result c.in-Ok-Ok.field-0-1 c.in-Ok-Ok.is-1 c.push-put.ensures.ok) (done c.mark-told.result c.in-Ok-Ok.field-0-0 c.in-Ok-Ok.is-0 c.mark-told.ensures) c.self.invariant.driven;
+      changed = c.self.invariant.changed;
     }

@@ -1,11 +1,11 @@
-use Rattle.ix_vform.proofs.Keeping.{changed_more}
+use Rattle.ix_vform.proofs.Keeping.{changed_more, done}
 use Rattle.ix_vform.proofs.opened.Opened.with_update.Goals as goal
 
-pub invariant_of-opened : goal.invariant_of-opened
-invariant_of-opened c =
-    let s = c.opened.inside.source in
+pub invariant_of-result : goal.invariant_of-result
+invariant_of-result c =
+    let s = c.self.inside.source in
     record {
-      found = c.opened.invariant.found;
-      driven = c.opened.invariant.driven;
-      changed = changed_more c.opened.inside.updated c.mark.new.names s.updates c.push.new.self c.args.updated c.as_str.result.now c.as_str.ensures.text c.in_ok-push.ensures.ok c.in_ok-mark.ensures c.opened.invariant.changed;
+      found = c.self.invariant.found;
+      driven = c.self.invariant.driven;
+      changed = changed_more c.self.inside.updated c.mark-told.new.names s.updates c.push-put.new.self c.args.updated c.as_str.result.now c.as_str.ensures.text (done c.push-put.result c.in-Ok-Ok.field-0-1 c.in-Ok-Ok.is-1 c.push-put.ensures.ok) (done c.mark-told.result c.in-Ok-Ok.field-0-0 c.in-Ok-Ok.is-0 c.mark-told.ensures) c.self.invariant.changed;
     }

@@ -4,16 +4,16 @@ use Rattle.ix_verilog.specs.Subset.{with_line}
 use Rattle.ix_verilog.specs.Lines.{wire}
 use Rattle.ix_vform.specs.declared.role.Role.TheVariants.{Assigned}
 use Rattle.ix_vform.specs.Kept.{IsKept}
-use Rattle.ix_vform.proofs.Keeping.{found_more, role_wire}
+use Rattle.ix_vform.proofs.Keeping.{done, found_more, role_wire}
 use Rattle.ix_vform.proofs.opened.Opened.with_wire.Goals as goal
 
-pub invariant_of-opened : goal.invariant_of-opened
-invariant_of-opened c =
-    let s = c.opened.inside.source in
+pub invariant_of-result : goal.invariant_of-result
+invariant_of-result c =
+    let s = c.self.inside.source in
     let p = c.args.declared in
-    let P : List Port → Type 0 = λ z. IsKept (record s { wires = z }) c.declare.new.roles c.opened.inside.assigned c.opened.inside.updated in
-    subst P (sym c.in_ok-push.ensures.ok) (record {
-      found = found_more s (with_line s (wire p)) c.opened.inside.roles c.declare.new.roles p Assigned c.as_str.result.now c.as_str.ensures.text c.in_ok-declare.ensures c.opened.invariant.found (role_wire s p);
-      driven = c.opened.invariant.driven;
-      changed = c.opened.invariant.changed;
+    let P : List Port → Type 0 = λ z. IsKept (record s { wires = z }) c.declare-told.new.roles c.self.inside.assigned c.self.inside.updated in
+    subst P (sym (done c.push-put.result c.in-Ok-Ok.field-0-1 c.in-Ok-Ok.is-1 c.push-put.ensures.ok)) (record {
+      found = found_more s (with_line s (wire p)) c.self.inside.roles c.declare-told.new.roles p Assigned c.as_str.result.now c.as_str.ensures.text (done c.declare-told.result c.in-Ok-Ok.field-0-0 c.in-Ok-Ok.is-0 c.declare-told.ensures) c.self.invariant.found (role_wire s p);
+      driven = c.self.invariant.driven;
+      changed = c.self.invariant.changed;
     })

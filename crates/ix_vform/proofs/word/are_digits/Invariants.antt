@@ -1,0 +1,7 @@
+use Rattle.std.proofs.Common.{◌≡◌, take, true}
+use Rattle.std.specs.List.{list_all}
+use Rattle.ix_verilog.specs.Words.{is_digit}
+use Rattle.ix_vform.proofs.word.are_digits.Given as goal
+
+abbrev pub invariant-loop-byte : goal.invariant-loop-byte
+invariant-loop-byte l = list_all is_digit (take l.byte-index l.word) ≡ true
