@@ -113,15 +113,12 @@ pub fn operation(alloc: Global, words: &[&[u8]]) -> Result<Option<Operation>, Me
     let Some(time) = time(rest) else {
         return Ok(None);
     };
-    match name(alloc, kind) {
-        Ok(kind) => Ok(Some(Operation {
-            place: place as u32,
-            kind,
-            node,
-            time,
-        })),
-        Err(error) => Err(error),
-    }
+    Ok(Some(Operation {
+        place: place as u32,
+        kind: name(alloc, kind)?,
+        node,
+        time,
+    }))
 }
 
 /// The numbers that words are.
@@ -181,16 +178,10 @@ pub fn bound(alloc: Global, words: &[&[u8]]) -> Result<Option<Bound>, Memory>
         return Ok(None);
     };
     if is_label(label, b"early") {
-        return match one(rest) {
-            Some(op) => Ok(Some(Bound::Early(op))),
-            None => Ok(None),
-        };
+        return Ok(early(rest));
     }
     if is_label(label, b"late") {
-        return match one(rest) {
-            Some(op) => Ok(Some(Bound::Late(op))),
-            None => Ok(None),
-        };
+        return Ok(late(rest));
     }
     if is_label(label, b"dep") {
         return Ok(dep(rest));
@@ -199,6 +190,24 @@ pub fn bound(alloc: Global, words: &[&[u8]]) -> Result<Option<Bound>, Memory>
         return chain(alloc, rest);
     }
     Ok(None)
+}
+
+fn early(words: &[&[u8]]) -> Option<Bound>
+    ensures { IsReading IsBound bound_words (codes "early" ∷ texts words.now) result }
+{
+    match one(words) {
+        Some(op) => Some(Bound::Early(op)),
+        None => None,
+    }
+}
+
+fn late(words: &[&[u8]]) -> Option<Bound>
+    ensures { IsReading IsBound bound_words (codes "late" ∷ texts words.now) result }
+{
+    match one(words) {
+        Some(op) => Some(Bound::Late(op)),
+        None => None,
+    }
 }
 
 fn dep(words: &[&[u8]]) -> Option<Bound>
@@ -216,9 +225,8 @@ fn chain(alloc: Global, words: &[&[u8]]) -> Result<Option<Bound>, Memory>
     if is_end(words) {
         return Ok(None);
     }
-    match path(alloc, words) {
-        Ok(Some(path)) => Ok(Some(Bound::Chain(path))),
-        Ok(None) => Ok(None),
-        Err(error) => Err(error),
+    match path(alloc, words)? {
+        Some(path) => Ok(Some(Bound::Chain(path))),
+        None => Ok(None),
     }
 }

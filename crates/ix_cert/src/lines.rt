@@ -58,19 +58,15 @@ fn behaviour(alloc: Global, words: &[&[u8]]) -> Result<Option<Item>, Memory>
     if !is_name(first) || !is_end(rest) {
         return Ok(None);
     }
-    match name(alloc, first) {
-        Ok(name) => Ok(Some(Item::Behaviour(name, mode))),
-        Err(error) => Err(error),
-    }
+    Ok(Some(Item::Behaviour(name(alloc, first)?, mode)))
 }
 
 fn op(alloc: Global, words: &[&[u8]]) -> Result<Option<Item>, Memory>
     ensures { IfOk result (λ found. IsReading IsItem item_words (codes "op" ∷ texts words.now) found) }
 {
-    match operation(alloc, words) {
-        Ok(Some(op)) => Ok(Some(Item::Op(op))),
-        Ok(None) => Ok(None),
-        Err(error) => Err(error),
+    match operation(alloc, words)? {
+        Some(op) => Ok(Some(Item::Op(op))),
+        None => Ok(None),
     }
 }
 
@@ -106,20 +102,18 @@ fn flow(alloc: Global, words: &[&[u8]]) -> Result<Option<Item>, Memory>
     if amount < LEAST_AMOUNT {
         return Ok(None);
     }
-    match bound(alloc, rest) {
-        Ok(Some(bound)) => Ok(Some(Item::Flow(amount, bound))),
-        Ok(None) => Ok(None),
-        Err(error) => Err(error),
+    match bound(alloc, rest)? {
+        Some(bound) => Ok(Some(Item::Flow(amount, bound))),
+        None => Ok(None),
     }
 }
 
 fn cycle(alloc: Global, words: &[&[u8]]) -> Result<Option<Item>, Memory>
     ensures { IfOk result (λ found. IsReading IsItem item_words (codes "cycle" ∷ texts words.now) found) }
 {
-    match bound(alloc, words) {
-        Ok(Some(bound)) => Ok(Some(Item::Cycle(bound))),
-        Ok(None) => Ok(None),
-        Err(error) => Err(error),
+    match bound(alloc, words)? {
+        Some(bound) => Ok(Some(Item::Cycle(bound))),
+        None => Ok(None),
     }
 }
 

@@ -35,9 +35,7 @@ fn mode_word(mode: Option<Mode>) -> &'static str
 fn put_field(out: &mut Vec<u8>, number: u64) -> Result<(), Memory>
     ensures { OnOk result (out.new.items ≡ out.old.items ++ field number) }
 {
-    let Ok(()) = put(out, " ") else {
-        return Err(Memory);
-    };
+    put(out, " ")?;
     put(out, Buffer::new().format(number))
 }
 
@@ -45,9 +43,7 @@ fn put_field(out: &mut Vec<u8>, number: u64) -> Result<(), Memory>
 fn put_labelled(out: &mut Vec<u8>, label: &str, number: u64) -> Result<(), Memory>
     ensures { OnOk result (out.new.items ≡ out.old.items ++ (label.now ++ field number)) }
 {
-    let Ok(()) = put(out, label) else {
-        return Err(Memory);
-    };
+    put(out, label)?;
     put_field(out, number)
 }
 
@@ -55,9 +51,7 @@ fn put_path(out: &mut Vec<u8>, path: &[u32]) -> Result<(), Memory>
     ensures { OnOk result (out.new.items ≡ out.old.items ++ flat_map field path.now) }
 {
     for op in path {
-        let Ok(()) = put_field(out, u64::from(*op)) else {
-            return Err(Memory);
-        };
+        put_field(out, u64::from(*op))?;
     }
     Ok(())
 }
@@ -69,15 +63,11 @@ fn put_bound(out: &mut Vec<u8>, bound: &Bound) -> Result<(), Memory>
         Bound::Early(op) => put_labelled(out, "early", u64::from(*op)),
         Bound::Late(op) => put_labelled(out, "late", u64::from(*op)),
         Bound::Dep(from, to) => {
-            let Ok(()) = put_labelled(out, "dep", u64::from(*from)) else {
-                return Err(Memory);
-            };
+            put_labelled(out, "dep", u64::from(*from))?;
             put_field(out, u64::from(*to))
         }
         Bound::Chain(path) => {
-            let Ok(()) = put(out, "chain") else {
-                return Err(Memory);
-            };
+            put(out, "chain")?;
             put_path(out, path.as_slice())
         }
     }
@@ -87,15 +77,9 @@ fn put_bound(out: &mut Vec<u8>, bound: &Bound) -> Result<(), Memory>
 fn put_node(out: &mut Vec<u8>, node: &Node) -> Result<(), Memory>
     ensures { OnOk result (out.new.items ≡ out.old.items ++ (codes " delay" ++ field node.now.delay ++ codes " latency" ++ field node.now.latency ++ codes " early" ++ field node.now.early ++ codes " late" ++ field node.now.late)) }
 {
-    let Ok(()) = put_labelled(out, " delay", u64::from(node.delay)) else {
-        return Err(Memory);
-    };
-    let Ok(()) = put_labelled(out, " latency", u64::from(node.latency)) else {
-        return Err(Memory);
-    };
-    let Ok(()) = put_labelled(out, " early", u64::from(node.early)) else {
-        return Err(Memory);
-    };
+    put_labelled(out, " delay", u64::from(node.delay))?;
+    put_labelled(out, " latency", u64::from(node.latency))?;
+    put_labelled(out, " early", u64::from(node.early))?;
     put_labelled(out, " late", u64::from(node.late))
 }
 
@@ -117,21 +101,11 @@ fn put_op(
 ) -> Result<(), Memory>
     ensures { OnOk result (out.new.items ≡ out.old.items ++ (op_line place kind.now node.now (time_field time) ++ 10 ∷ [])) }
 {
-    let Ok(()) = put_labelled(out, "op", place) else {
-        return Err(Memory);
-    };
-    let Ok(()) = put(out, " ") else {
-        return Err(Memory);
-    };
-    let Ok(()) = put(out, kind) else {
-        return Err(Memory);
-    };
-    let Ok(()) = put_node(out, node) else {
-        return Err(Memory);
-    };
-    let Ok(()) = put_time(out, time) else {
-        return Err(Memory);
-    };
+    put_labelled(out, "op", place)?;
+    put(out, " ")?;
+    put(out, kind)?;
+    put_node(out, node)?;
+    put_time(out, time)?;
     put(out, "\n")
 }
 
@@ -153,9 +127,7 @@ fn put_ops(out: &mut Vec<u8>, block: &ReportBlock) -> Result<(), Memory>
     let times = block.times.as_slice();
     for (place, node) in block.problem.ops.as_slice().iter().enumerate() {
         let time = time_at(block.mode, times, place);
-        let Ok(()) = put_op(out, place as u64, kinds[place].as_str(), node, time) else {
-            return Err(Memory);
-        };
+        put_op(out, place as u64, kinds[place].as_str(), node, time)?;
     }
     Ok(())
 }
@@ -164,15 +136,9 @@ fn put_edges(out: &mut Vec<u8>, edges: &[(u32, u32)]) -> Result<(), Memory>
     ensures { OnOk result (out.new.items ≡ out.old.items ++ text_of (map edge_line edges.now)) }
 {
     for (from, to) in edges {
-        let Ok(()) = put_labelled(out, "edge", u64::from(*from)) else {
-            return Err(Memory);
-        };
-        let Ok(()) = put_field(out, u64::from(*to)) else {
-            return Err(Memory);
-        };
-        let Ok(()) = put(out, "\n") else {
-            return Err(Memory);
-        };
+        put_labelled(out, "edge", u64::from(*from))?;
+        put_field(out, u64::from(*to))?;
+        put(out, "\n")?;
     }
     Ok(())
 }
@@ -181,18 +147,10 @@ fn put_flow(out: &mut Vec<u8>, flow: &[(Bound, u64)]) -> Result<(), Memory>
     ensures { OnOk result (out.new.items ≡ out.old.items ++ text_of (map flow_line flow.now)) }
 {
     for (bound, amount) in flow {
-        let Ok(()) = put_labelled(out, "flow", *amount) else {
-            return Err(Memory);
-        };
-        let Ok(()) = put(out, " ") else {
-            return Err(Memory);
-        };
-        let Ok(()) = put_bound(out, bound) else {
-            return Err(Memory);
-        };
-        let Ok(()) = put(out, "\n") else {
-            return Err(Memory);
-        };
+        put_labelled(out, "flow", *amount)?;
+        put(out, " ")?;
+        put_bound(out, bound)?;
+        put(out, "\n")?;
     }
     Ok(())
 }
@@ -201,15 +159,9 @@ fn put_cycle(out: &mut Vec<u8>, cycle: &[Bound]) -> Result<(), Memory>
     ensures { OnOk result (out.new.items ≡ out.old.items ++ text_of (map cycle_line cycle.now)) }
 {
     for bound in cycle {
-        let Ok(()) = put(out, "cycle ") else {
-            return Err(Memory);
-        };
-        let Ok(()) = put_bound(out, bound) else {
-            return Err(Memory);
-        };
-        let Ok(()) = put(out, "\n") else {
-            return Err(Memory);
-        };
+        put(out, "cycle ")?;
+        put_bound(out, bound)?;
+        put(out, "\n")?;
     }
     Ok(())
 }
@@ -219,12 +171,8 @@ fn put_certificate(out: &mut Vec<u8>, block: &ReportBlock) -> Result<(), Memory>
 {
     match block.mode {
         Some(_) => {
-            let Ok(()) = put_labelled(out, "cost", block.cost) else {
-                return Err(Memory);
-            };
-            let Ok(()) = put(out, "\n") else {
-                return Err(Memory);
-            };
+            put_labelled(out, "cost", block.cost)?;
+            put(out, "\n")?;
             put_flow(out, block.flow.as_slice())
         }
         None => put_cycle(out, block.cycle.as_slice()),
@@ -234,18 +182,10 @@ fn put_certificate(out: &mut Vec<u8>, block: &ReportBlock) -> Result<(), Memory>
 fn put_head(out: &mut Vec<u8>, name: &str, mode: Option<Mode>) -> Result<(), Memory>
     ensures { OnOk result (out.new.items ≡ out.old.items ++ ((codes "behaviour " ++ name.now ++ codes " " ++ mode_text mode) ++ 10 ∷ [])) }
 {
-    let Ok(()) = put(out, "behaviour ") else {
-        return Err(Memory);
-    };
-    let Ok(()) = put(out, name) else {
-        return Err(Memory);
-    };
-    let Ok(()) = put(out, " ") else {
-        return Err(Memory);
-    };
-    let Ok(()) = put(out, mode_word(mode)) else {
-        return Err(Memory);
-    };
+    put(out, "behaviour ")?;
+    put(out, name)?;
+    put(out, " ")?;
+    put(out, mode_word(mode))?;
     put(out, "\n")
 }
 
@@ -253,18 +193,10 @@ fn put_block(out: &mut Vec<u8>, block: &ReportBlock) -> Result<(), Memory>
     requires { IsPrintable block.now }
     ensures { OnOk result (out.new.items ≡ out.old.items ++ text_of (block_lines block.now)) }
 {
-    let Ok(()) = put_head(out, block.name.as_str(), block.mode) else {
-        return Err(Memory);
-    };
-    let Ok(()) = put_ops(out, block) else {
-        return Err(Memory);
-    };
-    let Ok(()) = put_edges(out, block.problem.edges.as_slice()) else {
-        return Err(Memory);
-    };
-    let Ok(()) = put_certificate(out, block) else {
-        return Err(Memory);
-    };
+    put_head(out, block.name.as_str(), block.mode)?;
+    put_ops(out, block)?;
+    put_edges(out, block.problem.edges.as_slice())?;
+    put_certificate(out, block)?;
     put(out, "end\n")
 }
 
@@ -273,9 +205,7 @@ fn put_blocks(out: &mut Vec<u8>, blocks: &[ReportBlock]) -> Result<(), Memory>
     ensures { OnOk result (out.new.items ≡ out.old.items ++ text_of (flat_map block_lines blocks.now)) }
 {
     for block in blocks {
-        let Ok(()) = put_block(out, block) else {
-            return Err(Memory);
-        };
+        put_block(out, block)?;
     }
     Ok(())
 }
@@ -284,15 +214,9 @@ fn put_report(out: &mut Vec<u8>, report: &Report) -> Result<(), Memory>
     requires { ArePrintable report.now.blocks }
     ensures { OnOk result (out.new.items ≡ out.old.items ++ text_of (report_lines report.now)) }
 {
-    let Ok(()) = put(out, "longnail report 1\n") else {
-        return Err(Memory);
-    };
-    let Ok(()) = put_labelled(out, "period", u64::from(report.period)) else {
-        return Err(Memory);
-    };
-    let Ok(()) = put(out, "\n") else {
-        return Err(Memory);
-    };
+    put(out, "longnail report 1\n")?;
+    put_labelled(out, "period", u64::from(report.period))?;
+    put(out, "\n")?;
     put_blocks(out, report.blocks.as_slice())
 }
 
@@ -303,9 +227,6 @@ pub fn print_report(alloc: Global, report: &Report) -> Result<List<u8>, Memory>
     ensures text { IfOk result (λ text. IsReportText text report.now) }
 {
     let mut out = Vec::new(alloc);
-    let Ok(()) = put_report(&mut out, report) else {
-        drop(out);
-        return Err(Memory);
-    };
+    put_report(&mut out, report)?;
     Ok(List::from_vec(out))
 }

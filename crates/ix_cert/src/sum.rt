@@ -81,10 +81,7 @@ fn amounts_at(alloc: Global, count: usize, parts: &[(u32, u64)]) -> Result<Vec<u
     ensures are { IfOk result (λ amounts. AreAmounts count parts.now amounts.items) }
     ensures small { IfOk result (λ amounts. (k : ℕ) → slice_index amounts.items k < 340282366920938463463374607431768211455) }
 {
-    let Ok(amounts) = vec![in alloc; 0u128; count] else {
-        return Err(Memory);
-    };
-    let mut amounts = amounts;
+    let mut amounts = vec![in alloc; 0u128; count]?;
     let sums = amounts.as_mut_slice();
     'parts: for part in parts {
         let (place, amount) = *part;
@@ -103,16 +100,10 @@ fn parts_in(alloc: Global, b: &ReportBlock) -> Result<Vec<(u32, u64)>, Memory>
 {
     let mut parts = Vec::new(alloc);
     'flow: for part in b.flow.as_slice() {
-        let Ok(()) = parts.push((arc_of_bound(&b.problem, &part.0).to, part.1)) else {
-            drop(parts);
-            return Err(Memory);
-        };
+        parts.push((arc_of_bound(&b.problem, &part.0).to, part.1))?;
     }
     'edges: for edge in b.problem.edges.as_slice() {
-        let Ok(()) = parts.push((edge.0, weight_along(&b.problem, *edge))) else {
-            drop(parts);
-            return Err(Memory);
-        };
+        parts.push((edge.0, weight_along(&b.problem, *edge)))?;
     }
     Ok(parts)
 }
@@ -125,44 +116,12 @@ fn parts_out(alloc: Global, b: &ReportBlock) -> Result<Vec<(u32, u64)>, Memory>
 {
     let mut parts = Vec::new(alloc);
     'flow: for part in b.flow.as_slice() {
-        let Ok(()) = parts.push((arc_of_bound(&b.problem, &part.0).from, part.1)) else {
-            drop(parts);
-            return Err(Memory);
-        };
+        parts.push((arc_of_bound(&b.problem, &part.0).from, part.1))?;
     }
     'edges: for edge in b.problem.edges.as_slice() {
-        let Ok(()) = parts.push((edge.1, weight_along(&b.problem, *edge))) else {
-            drop(parts);
-            return Err(Memory);
-        };
+        parts.push((edge.1, weight_along(&b.problem, *edge)))?;
     }
     Ok(parts)
-}
-
-// For each operation what comes in at it, with the edges out of it.
-fn coming(alloc: Global, b: &ReportBlock) -> Result<Vec<u128>, Memory>
-    requires valid { IsValidProblem b.now.problem }
-    requires named { All (λ part. IsBoundOf b.now.problem part.0) b.now.flow }
-    ensures are { IfOk result (λ amounts. AreAmounts (length b.now.problem.ops) (parts_in b.now.problem b.now.flow) amounts.items) }
-    ensures small { IfOk result (λ amounts. (k : ℕ) → slice_index amounts.items k < 340282366920938463463374607431768211455) }
-{
-    match parts_in(alloc, b) {
-        Ok(parts) => amounts_at(alloc, b.problem.ops.len(), parts.as_slice()),
-        Err(error) => Err(error),
-    }
-}
-
-// For each operation what goes out at it, with the edges into it.
-fn going(alloc: Global, b: &ReportBlock) -> Result<Vec<u128>, Memory>
-    requires valid { IsValidProblem b.now.problem }
-    requires named { All (λ part. IsBoundOf b.now.problem part.0) b.now.flow }
-    ensures are { IfOk result (λ amounts. AreAmounts (length b.now.problem.ops) (parts_out b.now.problem b.now.flow) amounts.items) }
-    ensures small { IfOk result (λ amounts. (k : ℕ) → slice_index amounts.items k < 340282366920938463463374607431768211455) }
-{
-    match parts_out(alloc, b) {
-        Ok(parts) => amounts_at(alloc, b.problem.ops.len(), parts.as_slice()),
-        Err(error) => Err(error),
-    }
 }
 
 // The first place at which the one is not one more than the other.
@@ -185,13 +144,9 @@ pub(crate) fn first_unbalanced(alloc: Global, b: &ReportBlock) -> Result<Option<
     requires named { All (λ part. IsBoundOf b.now.problem part.0) b.now.flow }
     ensures { IfOk result (Tells (length b.now.problem.ops) (IsUnbalanced b.now)) }
 {
-    let Ok(coming) = coming(alloc, b) else {
-        return Err(Memory);
-    };
-    let Ok(going) = going(alloc, b) else {
-        drop(coming);
-        return Err(Memory);
-    };
+    let count = b.problem.ops.len();
+    let coming = amounts_at(alloc, count, parts_in(alloc, b)?.as_slice())?;
+    let going = amounts_at(alloc, count, parts_out(alloc, b)?.as_slice())?;
     Ok(first_apart(coming.as_slice(), going.as_slice()))
 }
 
