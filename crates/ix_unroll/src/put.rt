@@ -68,7 +68,8 @@ fn number(alloc: Global, span: Span, value: i32) -> Result<Expr, Memory>
     ensures { IfOk result (λ r. view r ≡ number_tree span value) }
 {
     let literal = literal(span, value.unsigned_abs());
-    if value < 0 {
+    let negative = value < 0;
+    if negative {
         Ok(Expr {
             span,
             kind: ExprKind::Unary(UnOp::Neg, Box::new(alloc, literal)?),
