@@ -8,18 +8,19 @@ ghost use Rattle.ix_parse_state.specs.Moves.{Moves};
 
 use crate::assign::after_assign;
 use crate::decl::after_value;
+use crate::enter::{behind, drop_frame, entered, open_expr, open_stmt, within};
 use ix_bits::{BinOp, List, Memory};
 use ix_parse_state::chain::Indexed;
 use ix_parse_state::frame::{
     AssignFrame, ClosingFrame, Frame, NamedState, OpenLoop, OperatorFrame, StmtFrame,
 };
-use ix_parse_state::look::{expect, is_symbol, level, nest};
+use ix_parse_state::look::{expect, is_symbol};
 use ix_parse_state::node::{between, index, range, round};
 use ix_parse_state::part::Part;
-use ix_parse_state::reader::{in_assign, in_expr, in_stmt, in_text};
+use ix_parse_state::reader::{in_expr, in_text};
 use ix_parse_state::sign::{CLOSE_BRACE, CLOSE_ROUND, CLOSE_SQUARE, COLON, COMMA, SEMICOLON};
-use ix_parse_state::stack::{pop, push};
-use ix_parse_state::state::{AssignGoal, ExprGoal, Reader, StmtGoal, TextGoal};
+use ix_parse_state::stack::pop;
+use ix_parse_state::state::{AssignGoal, ExprGoal, Goal, Reader, TextGoal};
 use ix_parse_state::stop::Stop;
 use ix_tree::{Assign, Expr, Lvalue, LvalueKind, Span, Token};
 use std::alloc::Global;
@@ -28,19 +29,18 @@ use std::alloc::Global;
 pub fn close(alloc: Global, part: Part, stack: Vec<Frame>, token: &Token) -> Result<Reader, Stop>
     ensures { (e : ℕ) → Moves result (close e (part_of part) (stack_of stack.items) token.now) }
 {
-    let (frame, stack) = match pop(stack) {
+    match pop(stack) {
+        Some((frame, stack)) => match frame {
+            Frame::Closing(frame) => close_frame(alloc, part, frame, stack, token),
+            other => {
+                drop_frame(other);
+                drop(stack);
+                drop(part);
+                Err(Stop::Refused)
+            }
+        },
         None => {
             drop(part);
-            return Err(Stop::Refused);
-        }
-        Some(top) => top,
-    };
-    match frame {
-        Frame::Closing(frame) => close_frame(alloc, part, frame, stack, token),
-        other => {
-            drop(other);
-            drop(part);
-            drop(stack);
             Err(Stop::Refused)
         }
     }
@@ -57,24 +57,14 @@ fn close_frame(
     ensures { (e : ℕ) → Moves result (close e (part_of part) (closing_frame frame ∷ stack_of stack.items) token.now) }
 {
     match frame {
-        ClosingFrame::Round(depth, first) => {
-            let next = close_round(depth, &first, part, stack, token);
-            drop(first);
-            next
-        }
+        ClosingFrame::Round(depth, first) => close_round(depth, first, part, stack, token),
         ClosingFrame::Index(x) => close_index(alloc, x, part, stack, token),
         ClosingFrame::Range(x, high) => close_range(alloc, x, high, part, stack, token),
         ClosingFrame::Then(depth, condition) => close_then(depth, condition, part, stack, token),
-        ClosingFrame::X(depth, word) => {
-            let next = close_x(depth, &word, part, stack, token);
-            drop(word);
-            next
-        }
+        ClosingFrame::X(depth, word) => close_x(depth, word, part, stack, token),
         ClosingFrame::Mem(depth, word) => close_mem(depth, word, part, stack, token),
         ClosingFrame::MemRange(depth, word, high) => {
-            let next = close_mem_range(depth, &word, high, part, stack, token);
-            drop(word);
-            next
+            close_mem_range(depth, word, high, part, stack, token)
         }
         ClosingFrame::Set(_, place, op) => after_assign(alloc, set(place, op, part), stack, token),
         ClosingFrame::Value(first, name) => after_value(alloc, first, name, part, stack, token),
@@ -90,21 +80,16 @@ fn close_frame(
 /// The end of round brackets around an expression.
 fn close_round(
     depth: u32,
-    first: &Token,
+    first: Token,
     part: Part,
     stack: Vec<Frame>,
     token: &Token,
 ) -> Result<Reader, Stop>
-    ensures { Moves result (close 0 (part_of part) (f_round depth first.now ∷ stack_of stack.items) token.now) }
+    ensures { Moves result (close 0 (part_of part) (f_round depth first ∷ stack_of stack.items) token.now) }
 {
-    match expect(token, CLOSE_ROUND, depth, 1) {
-        Ok(_) => Ok(in_expr(ExprGoal::Have(depth, round(first, part, token)), stack)),
-        Err(stop) => {
-            drop(part);
-            drop(stack);
-            Err(stop)
-        }
-    }
+    let goal = ExprGoal::Have(depth, round(&first, part, token));
+    drop(first);
+    behind(token, CLOSE_ROUND, depth, 1, Goal::Expr(goal), stack)
 }
 
 /// The end of an index, or the `:` between its two parts.
@@ -117,10 +102,16 @@ fn close_index(
 ) -> Result<Reader, Stop>
     ensures { Moves result (close 0 (part_of part) (f_index x.depth (part_of x.left) ∷ stack_of stack.items) token.now) }
 {
-    if is_symbol(token, COLON) {
-        return between_parts(x, part, stack);
-    }
     let depth = x.depth;
+    if is_symbol(token, COLON) {
+        let count = x.count;
+        return within(
+            depth,
+            count,
+            Frame::Closing(ClosingFrame::Range(x, part)),
+            stack,
+        );
+    }
     if let Err(stop) = expect(token, CLOSE_SQUARE, depth, x.count) {
         drop(x);
         drop(part);
@@ -132,24 +123,6 @@ fn close_index(
         Err(Memory) => {
             drop(stack);
             Err(Stop::Memory)
-        }
-    }
-}
-
-/// The `:` between the two parts of an index.
-fn between_parts(x: Indexed, high: Part, stack: Vec<Frame>) -> Result<Reader, Stop>
-    ensures { Moves result (go (x.depth + x.count) (want (x.depth + x.count) (f_range x.depth (part_of x.left) (part_of high) ∷ stack_of stack.items))) }
-{
-    match nest(x.depth, x.count) {
-        Ok(inner) => {
-            let stack = push(stack, Frame::Closing(ClosingFrame::Range(x, high)))?;
-            Ok(in_expr(ExprGoal::Want(inner), stack))
-        }
-        Err(stop) => {
-            drop(x);
-            drop(high);
-            drop(stack);
-            Err(stop)
         }
     }
 }
@@ -192,47 +165,23 @@ fn close_then(
 ) -> Result<Reader, Stop>
     ensures { Moves result (close 0 (part_of part) (f_then depth (part_of condition) ∷ stack_of stack.items) token.now) }
 {
-    if !is_symbol(token, COLON) {
-        drop(condition);
-        drop(part);
-        drop(stack);
-        return Err(Stop::Refused);
-    }
-    match level(depth) {
-        Ok(nesting) => {
-            let stack = push(
-                stack,
-                Frame::Operator(OperatorFrame::Else(depth, condition, part)),
-            )?;
-            Ok(in_expr(ExprGoal::Want(nesting + 1), stack))
-        }
-        Err(stop) => {
-            drop(condition);
-            drop(part);
-            drop(stack);
-            Err(stop)
-        }
-    }
+    let frame = OperatorFrame::Else(depth, condition, part);
+    open_expr(token, COLON, depth, 0, Frame::Operator(frame), stack)
 }
 
 /// The end of the index of a written register.
 fn close_x(
     depth: u32,
-    word: &Token,
+    word: Token,
     part: Part,
     stack: Vec<Frame>,
     token: &Token,
 ) -> Result<Reader, Stop>
-    ensures { Moves result (close 0 (part_of part) (f_x depth word.now ∷ stack_of stack.items) token.now) }
+    ensures { Moves result (close 0 (part_of part) (f_x depth word ∷ stack_of stack.items) token.now) }
 {
-    match expect(token, CLOSE_SQUARE, depth, 1) {
-        Ok(_) => Ok(in_assign(AssignGoal::Placed(x_place(word, part, token)), stack)),
-        Err(stop) => {
-            drop(part);
-            drop(stack);
-            Err(stop)
-        }
-    }
+    let goal = AssignGoal::Placed(x_place(&word, part, token));
+    drop(word);
+    behind(token, CLOSE_SQUARE, depth, 1, Goal::Assign(goal), stack)
 }
 
 /// The end of the index of written memory, or the `:` between its two parts.
@@ -246,63 +195,28 @@ fn close_mem(
     ensures { Moves result (close 0 (part_of part) (f_mem depth word ∷ stack_of stack.items) token.now) }
 {
     if is_symbol(token, COLON) {
-        return between_addresses(depth, word, part, stack);
+        let frame = ClosingFrame::MemRange(depth, word, part);
+        return within(depth, 1, Frame::Closing(frame), stack);
     }
-    if let Err(stop) = expect(token, CLOSE_SQUARE, depth, 1) {
-        drop(word);
-        drop(part);
-        drop(stack);
-        return Err(stop);
-    }
-    let place = mem_place(&word, part, token);
+    let goal = AssignGoal::Placed(mem_place(&word, part, token));
     drop(word);
-    Ok(in_assign(AssignGoal::Placed(place), stack))
-}
-
-/// The `:` between the two addresses of written memory.
-fn between_addresses(depth: u32, word: Token, high: Part, stack: Vec<Frame>) -> Result<Reader, Stop>
-    ensures { Moves result (go (depth + 1) (want (depth + 1) (f_mem_range depth word (part_of high) ∷ stack_of stack.items))) }
-{
-    match nest(depth, 1) {
-        Ok(inner) => {
-            let stack = push(
-                stack,
-                Frame::Closing(ClosingFrame::MemRange(depth, word, high)),
-            )?;
-            Ok(in_expr(ExprGoal::Want(inner), stack))
-        }
-        Err(stop) => {
-            drop(word);
-            drop(high);
-            drop(stack);
-            Err(stop)
-        }
-    }
+    behind(token, CLOSE_SQUARE, depth, 1, Goal::Assign(goal), stack)
 }
 
 /// The end of the index of two parts of written memory.
 fn close_mem_range(
     depth: u32,
-    word: &Token,
+    word: Token,
     high: Part,
     part: Part,
     stack: Vec<Frame>,
     token: &Token,
 ) -> Result<Reader, Stop>
-    ensures { Moves result (close 0 (part_of part) (f_mem_range depth word.now (part_of high) ∷ stack_of stack.items) token.now) }
+    ensures { Moves result (close 0 (part_of part) (f_mem_range depth word (part_of high) ∷ stack_of stack.items) token.now) }
 {
-    match expect(token, CLOSE_SQUARE, depth, 1) {
-        Ok(_) => {
-            let place = mem_range_place(word, high, part, token);
-            Ok(in_assign(AssignGoal::Placed(place), stack))
-        }
-        Err(stop) => {
-            drop(high);
-            drop(part);
-            drop(stack);
-            Err(stop)
-        }
-    }
+    let goal = AssignGoal::Placed(mem_range_place(&word, high, part, token));
+    drop(word);
+    behind(token, CLOSE_SQUARE, depth, 1, Goal::Assign(goal), stack)
 }
 
 /// The end of the condition of an `if`.
@@ -315,34 +229,17 @@ fn close_if(
 ) -> Result<Reader, Stop>
     ensures { Moves result (close 0 (part_of part) (f_if depth first ∷ stack_of stack.items) token.now) }
 {
-    let inner = match expect(token, CLOSE_ROUND, depth, 1) {
-        Ok(inner) => inner,
-        Err(stop) => {
-            drop(first);
-            drop(part);
-            drop(stack);
-            return Err(stop);
-        }
-    };
-    let stack = push(stack, Frame::Stmt(StmtFrame::Branch(depth, first, part)))?;
-    Ok(in_stmt(StmtGoal::Stmt(inner), stack))
+    let frame = StmtFrame::Branch(depth, first, part);
+    open_stmt(token, CLOSE_ROUND, depth, Frame::Stmt(frame), stack)
 }
 
 /// The end of the start in a loop's head.
 fn close_start(head: OpenLoop, part: Part, stack: Vec<Frame>, token: &Token) -> Result<Reader, Stop>
     ensures { Moves result (close 0 (part_of part) (f_start head.depth head.first head.ty head.name ∷ stack_of stack.items) token.now) }
 {
-    let inner = match expect(token, SEMICOLON, head.depth, 1) {
-        Ok(inner) => inner,
-        Err(stop) => {
-            drop(head);
-            drop(part);
-            drop(stack);
-            return Err(stop);
-        }
-    };
-    let stack = push(stack, Frame::Closing(ClosingFrame::Test(head, part)))?;
-    Ok(in_expr(ExprGoal::Want(inner), stack))
+    let depth = head.depth;
+    let frame = ClosingFrame::Test(head, part);
+    open_expr(token, SEMICOLON, depth, 1, Frame::Closing(frame), stack)
 }
 
 /// The end of the test in a loop's head.
@@ -355,18 +252,20 @@ fn close_test(
 ) -> Result<Reader, Stop>
     ensures { Moves result (close 0 (part_of part) (f_test head.depth head.first head.ty head.name (part_of start) ∷ stack_of stack.items) token.now) }
 {
-    let inner = match expect(token, SEMICOLON, head.depth, 1) {
-        Ok(inner) => inner,
+    match expect(token, SEMICOLON, head.depth, 1) {
+        Ok(inner) => {
+            let frame = AssignFrame::Last(head, start, part);
+            let goal = AssignGoal::Assigning(inner);
+            entered(Frame::Assign(frame), Goal::Assign(goal), stack)
+        }
         Err(stop) => {
             drop(head);
             drop(start);
             drop(part);
             drop(stack);
-            return Err(stop);
+            Err(stop)
         }
-    };
-    let stack = push(stack, Frame::Assign(AssignFrame::Last(head, start, part)))?;
-    Ok(in_assign(AssignGoal::Assigning(inner), stack))
+    }
 }
 
 /// The end of an entry of a table.
@@ -412,8 +311,7 @@ fn next_entry(
     match more(entries, part) {
         Ok(entries) => {
             let frame = ClosingFrame::Entries(table, length, entries);
-            let stack = push(stack, Frame::Closing(frame))?;
-            Ok(in_expr(ExprGoal::Want(0), stack))
+            entered(Frame::Closing(frame), Goal::Expr(ExprGoal::Want(0)), stack)
         }
         Err(Memory) => {
             drop(table);
@@ -427,8 +325,10 @@ fn next_entry(
 fn more(mut entries: List<Expr>, part: Part) -> Result<List<Expr>, Memory>
     ensures { IfOk result (λ xs. map view xs ≡ map view entries ++ (part_of part).tree ∷ []) }
 {
-    entries.push(part.tree)?;
-    Ok(entries)
+    match entries.push(part.tree) {
+        Ok(()) => Ok(entries),
+        Err(_) => Err(Memory),
+    }
 }
 
 /// A register that is written.

@@ -4,9 +4,10 @@ ghost use Rattle.ix_tree.specs.Productions.{decl, register_tree};
 ghost use Rattle.ix_tree.specs.View.{view_decl, view_state};
 ghost use Rattle.ix_tree.specs.Machine.{after_value, after_decl, go, states};
 ghost use Rattle.ix_tree.specs.Machine as M;
-ghost use Rattle.ix_parse_state.specs.Views.{stack_of, decl_frame, open_of};
-ghost use Rattle.ix_parse_state.specs.Moves.{Moves, StopsBy};
+ghost use Rattle.ix_parse_state.specs.Views.{stack_of, decl_frame, open_of, of_stmt};
+ghost use Rattle.ix_parse_state.specs.Moves.{Moves, GoesTo, StopsBy};
 
+use crate::enter::drop_frame;
 use ix_bits::{List, Memory, Name};
 use ix_parse_state::block::locals;
 use ix_parse_state::frame::{DeclFrame, Frame, NamedState, OpenState};
@@ -57,21 +58,20 @@ fn after_named(
 ) -> Result<Reader, Stop>
     ensures { Moves result (after_value first.now name (option_map part_of value) (stack_of stack.items) token.now) }
 {
-    let (frame, stack) = match pop(stack) {
+    match pop(stack) {
+        Some((frame, stack)) => match frame {
+            Frame::Decl(frame) => after_named_of(first, name, value, frame, stack, token),
+            other => {
+                drop_frame(other);
+                drop(stack);
+                drop(name);
+                drop(value);
+                Err(Stop::Refused)
+            }
+        },
         None => {
             drop(name);
             drop(value);
-            return Err(Stop::Refused);
-        }
-        Some(top) => top,
-    };
-    match frame {
-        Frame::Decl(frame) => after_named_of(first, name, value, frame, stack, token),
-        other => {
-            drop(other);
-            drop(name);
-            drop(value);
-            drop(stack);
             Err(Stop::Refused)
         }
     }
@@ -139,27 +139,40 @@ fn after_decl(
 ) -> Result<Reader, Stop>
     ensures { Moves result (after_decl depth (view_decl decl) ty (map view_decl decls) (stack_of stack.items) token.now) }
 {
+    match decl_goal(depth, decl, ty, decls, token) {
+        Ok(goal) => Ok(in_stmt(goal, stack)),
+        Err(stop) => {
+            drop(stack);
+            Err(stop)
+        }
+    }
+}
+
+/// What is wanted behind a local's declaration.
+fn decl_goal(
+    depth: u32,
+    decl: Decl,
+    ty: TypeText,
+    decls: List<Decl>,
+    token: &Token,
+) -> Result<StmtGoal, Stop>
+    ensures ok { (k : M.Stack) → IfOk result (λ g. GoesTo (of_stmt g k) (after_decl depth (view_decl decl) ty (map view_decl decls) k token.now)) }
+    ensures err { (k : M.Stack) → IfErr result (λ e. StopsBy e (after_decl depth (view_decl decl) ty (map view_decl decls) k token.now)) }
+{
     if is_symbol(token, COMMA) {
         return match leveled(depth, decls, decl) {
-            Ok(decls) => Ok(in_stmt(StmtGoal::Naming(depth, ty, decls), stack)),
-            Err(stop) => {
-                drop(stack);
-                Err(stop)
-            }
+            Ok(decls) => Ok(StmtGoal::Naming(depth, ty, decls)),
+            Err(stop) => Err(stop),
         };
     }
     if is_symbol(token, SEMICOLON) {
         return match leveled(depth, decls, decl) {
-            Ok(decls) => Ok(in_stmt(StmtGoal::Done(locals(ty, decls, token)), stack)),
-            Err(stop) => {
-                drop(stack);
-                Err(stop)
-            }
+            Ok(decls) => Ok(StmtGoal::Done(locals(ty, decls, token))),
+            Err(stop) => Err(stop),
         };
     }
     drop(decl);
     drop(decls);
-    drop(stack);
     Err(Stop::Refused)
 }
 
@@ -224,8 +237,10 @@ fn register(first: &Token, ty: TypeText, name: Name, value: Option<Part>, last: 
 fn with_decl(mut decls: List<Decl>, decl: Decl) -> Result<List<Decl>, Memory>
     ensures { IfOk result (λ ds. map view_decl ds ≡ map view_decl decls ++ view_decl decl ∷ []) }
 {
-    decls.push(decl)?;
-    Ok(decls)
+    match decls.push(decl) {
+        Ok(()) => Ok(decls),
+        Err(_) => Err(Memory),
+    }
 }
 
 /// The states and one more.
@@ -233,6 +248,8 @@ fn with_decl(mut decls: List<Decl>, decl: Decl) -> Result<List<Decl>, Memory>
 fn with_state(mut states: List<State>, state: State) -> Result<List<State>, Memory>
     ensures { IfOk result (λ rs. map view_state rs ≡ map view_state states ++ view_state state ∷ []) }
 {
-    states.push(state)?;
-    Ok(states)
+    match states.push(state) {
+        Ok(()) => Ok(states),
+        Err(_) => Err(Memory),
+    }
 }

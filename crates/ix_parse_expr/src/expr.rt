@@ -1,23 +1,25 @@
-ghost use Rattle.std.specs.Prelude.{◌≡◌, ◌+◌, ◌≤◌, ◌∷◌, IfOk, IfErr};
+ghost use Rattle.std.specs.Prelude.{◌≡◌, ◌+◌, ◌≤◌, ◌∷◌, true, IfOk, IfErr};
+ghost use Rattle.ix_tree.specs.Tokens.{open_round};
 ghost use Rattle.ix_tree.specs.Trees.{power, before};
-ghost use Rattle.ix_tree.specs.Machine.{State, act, go, want, f_binary, f_index, unary_of, begin_expr, want_unary, after_open, after_cast_word, after, settle, bare_cast, step};
+ghost use Rattle.ix_tree.specs.Machine.{State, act, go, only, is, want, opened, cast_word, f_binary, f_index, unary_of, begin_expr, want_unary, after_open, after_cast_word, after, settle, bare_cast, step};
 ghost use Rattle.ix_parse_state.specs.Parts.{part_of};
 ghost use Rattle.ix_parse_state.specs.Views.{stack_of, of_expr};
 ghost use Rattle.ix_parse_state.specs.Moves.{Moves, StopsBy};
 
 use crate::close::close;
+use crate::enter::{below, copied, deeper, entered, within};
 use ix_bits::Memory;
 use ix_parse_state::chain::{Indexed, Operand};
 use ix_parse_state::frame::{ClosingFrame, Frame, OperatorFrame, TypeFrame};
-use ix_parse_state::look::{MOST_NESTING, copy, expect, is_symbol, is_word, level, nest};
+use ix_parse_state::look::{MOST_NESTING, expect, is_symbol, is_word, nest};
 use ix_parse_state::node::{INDEX_POWER, leaf};
 use ix_parse_state::operator::{power, primary, unary_operator};
 use ix_parse_state::part::Part;
-use ix_parse_state::reader::{in_expr, in_type};
+use ix_parse_state::reader::in_expr;
 use ix_parse_state::settle::{Had, settle};
 use ix_parse_state::sign::{CLOSE_ROUND, LESS, OPEN_ROUND, SIGNED, UNSIGNED};
 use ix_parse_state::stack::push;
-use ix_parse_state::state::{ExprGoal, Reader, TypeGoal};
+use ix_parse_state::state::{ExprGoal, Goal, Reader, TypeGoal};
 use ix_parse_state::stop::Stop;
 use ix_parse_state::types::{begin_type, is_type_word};
 use ix_tree::{CastTo, Token};
@@ -32,12 +34,16 @@ pub fn begin_expr(
 ) -> Result<Reader, Stop>
     ensures { Moves result (begin_expr depth (stack_of stack.items) token.now) }
 {
-    match primary(alloc, token)? {
-        Some(tree) => {
-            level(depth)?;
-            Ok(in_expr(ExprGoal::Have(depth, leaf(token, tree)), stack))
+    match primary(alloc, token) {
+        Ok(Some(tree)) => {
+            let goal = ExprGoal::Have(depth, leaf(token, tree));
+            deeper(depth, 0, Goal::Expr(goal), stack)
         }
-        None => begin_unary(alloc, depth, stack, token),
+        Ok(None) => begin_unary(alloc, depth, stack, token),
+        Err(Memory) => {
+            drop(stack);
+            Err(Stop::Memory)
+        }
     }
 }
 
@@ -46,21 +52,45 @@ fn begin_unary(alloc: Global, depth: u32, stack: Vec<Frame>, token: &Token) -> R
     ensures { Moves result (want_unary depth (stack_of stack.items) token.now (unary_of token.now.kind)) }
 {
     match unary_operator(token) {
-        Some(op) => {
-            let inner = level(depth)? + 1;
-            let stack = push(
-                stack,
-                Frame::Operator(OperatorFrame::Unary(depth, copy(alloc, token)?, op)),
-            )?;
-            Ok(in_expr(ExprGoal::Want(inner), stack))
-        }
-        None => {
-            if !is_symbol(token, OPEN_ROUND) {
-                return Err(Stop::Refused);
+        Some(op) => match copied(alloc, depth, 0, token) {
+            Ok(token) => {
+                let frame = OperatorFrame::Unary(depth, token, op);
+                let goal = ExprGoal::Want(depth + 1);
+                entered(Frame::Operator(frame), Goal::Expr(goal), stack)
             }
-            nest(depth, 1)?;
-            Ok(in_expr(ExprGoal::Opened(depth, copy(alloc, token)?), stack))
+            Err(stop) => {
+                drop(stack);
+                Err(stop)
+            }
+        },
+        None => begin_round(alloc, depth, stack, token),
+    }
+}
+
+/// What `(` leads to where an expression is wanted.
+fn begin_round(alloc: Global, depth: u32, stack: Vec<Frame>, token: &Token) -> Result<Reader, Stop>
+    ensures { Moves result (only (is token.now.kind open_round) (depth + 1) (opened depth token.now (stack_of stack.items))) }
+{
+    match opening(alloc, depth, token) {
+        Ok(token) => Ok(in_expr(ExprGoal::Opened(depth, token), stack)),
+        Err(stop) => {
+            drop(stack);
+            Err(stop)
         }
+    }
+}
+
+/// A copy of the token, which has to be a `(` that may stand there.
+fn opening(alloc: Global, depth: u32, token: &Token) -> Result<Token, Stop>
+    ensures symbol { IfOk result (λ _. is token.now.kind open_round ≡ true) }
+    ensures level { IfOk result (λ _. depth + 1 ≤ 64) }
+    ensures ok { IfOk result (λ t. t ≡ token.now) }
+    ensures err { IfErr result (λ e. (z : State) → StopsBy e (only (is token.now.kind open_round) (depth + 1) z)) }
+{
+    if is_symbol(token, OPEN_ROUND) {
+        copied(alloc, depth, 1, token)
+    } else {
+        Err(Stop::Refused)
     }
 }
 
@@ -75,22 +105,43 @@ fn after_open(
     ensures { Moves result (after_open depth first (stack_of stack.items) token.now) }
 {
     if is_word(token, SIGNED) {
-        nest(depth, 1)?;
-        let word = copy(alloc, token)?;
-        return Ok(in_expr(ExprGoal::CastWord(depth, first, word, true), stack));
+        return begin_cast(alloc, depth, first, true, stack, token);
     }
     if is_word(token, UNSIGNED) {
-        nest(depth, 1)?;
-        let word = copy(alloc, token)?;
-        return Ok(in_expr(ExprGoal::CastWord(depth, first, word, false), stack));
+        return begin_cast(alloc, depth, first, false, stack, token);
     }
     let inner = depth.saturating_add(1);
     if is_type_word(token) {
-        let stack = push(stack, Frame::Type(TypeFrame::Cast(depth, first)))?;
-        return begin_type(alloc, inner, stack, token);
+        return match push(stack, Frame::Type(TypeFrame::Cast(depth, first))) {
+            Ok(stack) => begin_type(alloc, inner, stack, token),
+            Err(Memory) => Err(Stop::Memory),
+        };
     }
-    let stack = push(stack, Frame::Closing(ClosingFrame::Round(depth, first)))?;
-    begin_expr(alloc, inner, stack, token)
+    match push(stack, Frame::Closing(ClosingFrame::Round(depth, first))) {
+        Ok(stack) => begin_expr(alloc, inner, stack, token),
+        Err(Memory) => Err(Stop::Memory),
+    }
+}
+
+/// What `signed` or `unsigned` leads to behind `(`.
+fn begin_cast(
+    alloc: Global,
+    depth: u32,
+    first: Token,
+    signed: bool,
+    stack: Vec<Frame>,
+    token: &Token,
+) -> Result<Reader, Stop>
+    ensures { Moves result (go (depth + 1) (cast_word depth first token.now signed (stack_of stack.items))) }
+{
+    match copied(alloc, depth, 1, token) {
+        Ok(word) => Ok(in_expr(ExprGoal::CastWord(depth, first, word, signed), stack)),
+        Err(stop) => {
+            drop(first);
+            drop(stack);
+            Err(stop)
+        }
+    }
 }
 
 /// What goes on behind `( signed` or `( unsigned`.
@@ -106,33 +157,20 @@ fn after_cast_word(
 {
     if is_symbol(token, CLOSE_ROUND) {
         drop(word);
-        let inner = match nest(depth, 1) {
-            Ok(inner) => inner,
-            Err(stop) => {
-                drop(first);
-                return Err(stop);
-            }
-        };
-        let to = bare_cast(signed);
-        let stack = push(
-            stack,
-            Frame::Operator(OperatorFrame::Cast(depth, first, to)),
-        )?;
-        return Ok(in_expr(ExprGoal::Want(inner), stack));
+        let frame = OperatorFrame::Cast(depth, first, bare_cast(signed));
+        return within(depth, 1, Frame::Operator(frame), stack);
     }
-    let inner = match expect(token, LESS, depth, 1) {
-        Ok(inner) => inner,
+    match expect(token, LESS, depth, 1) {
+        Ok(inner) => {
+            let frame = TypeFrame::Cast(depth, first);
+            let goal = TypeGoal::Width(inner, word, signed);
+            entered(Frame::Type(frame), Goal::Type(goal), stack)
+        }
         Err(stop) => {
             drop(first);
             drop(word);
-            return Err(stop);
-        }
-    };
-    match push(stack, Frame::Type(TypeFrame::Cast(depth, first))) {
-        Ok(stack) => Ok(in_type(TypeGoal::Width(inner, word, signed), stack)),
-        Err(Memory) => {
-            drop(word);
-            Err(Stop::Memory)
+            drop(stack);
+            Err(stop)
         }
     }
 }
@@ -172,9 +210,11 @@ fn after(
         return close(alloc, part, stack, token);
     }
     if power == 2 {
-        let inner = level(depth)? + 1;
-        let stack = push(stack, Frame::Closing(ClosingFrame::Then(depth, part)))?;
-        return Ok(in_expr(ExprGoal::Want(inner), stack));
+        return below(
+            depth,
+            Frame::Closing(ClosingFrame::Then(depth, part)),
+            stack,
+        );
     }
     if power == INDEX_POWER {
         return open_index(depth, part, stack);
@@ -187,14 +227,22 @@ fn open_index(depth: u32, part: Part, stack: Vec<Frame>) -> Result<Reader, Stop>
     ensures { Moves result (go (depth + (before 26 (part_of part) + 1)) (want (depth + (before 26 (part_of part) + 1)) (f_index depth (part_of part) ∷ stack_of stack.items))) }
 {
     let count = before(INDEX_POWER, &part);
-    let inner = nest_index(depth, count)?;
-    let frame = Indexed {
-        depth,
-        left: part,
-        count: count + 1,
-    };
-    let stack = push(stack, Frame::Closing(ClosingFrame::Index(frame)))?;
-    Ok(in_expr(ExprGoal::Want(inner), stack))
+    match nest_index(depth, count) {
+        Ok(inner) => {
+            let frame = ClosingFrame::Index(Indexed {
+                depth,
+                left: part,
+                count: count + 1,
+            });
+            let goal = ExprGoal::Want(inner);
+            entered(Frame::Closing(frame), Goal::Expr(goal), stack)
+        }
+        Err(stop) => {
+            drop(part);
+            drop(stack);
+            Err(stop)
+        }
+    }
 }
 
 /// The nesting of a token of an index behind so many others.
@@ -218,22 +266,25 @@ fn after_operand(
 ) -> Result<Reader, Stop>
     ensures { Moves result (go (depth + before (power token.now.kind) (part_of part)) (want (depth + (before (power token.now.kind) (part_of part) + 1)) (f_binary depth (part_of part) token.now ∷ stack_of stack.items))) }
 {
-    let token = copy(alloc, token)?;
-    let before = before(power(&token), &part);
-    if let Err(stop) = nest(depth, before) {
-        drop(token);
-        return Err(stop);
+    let before = before(power(token), &part);
+    match copied(alloc, depth, before, token) {
+        Ok(token) => {
+            let count = before + 1;
+            let frame = OperatorFrame::Binary(Operand {
+                depth,
+                left: part,
+                token,
+                count,
+            });
+            let goal = ExprGoal::Want(depth + count);
+            entered(Frame::Operator(frame), Goal::Expr(goal), stack)
+        }
+        Err(stop) => {
+            drop(part);
+            drop(stack);
+            Err(stop)
+        }
     }
-    let count = before + 1;
-    let inner = depth + count;
-    let frame = Operand {
-        depth,
-        left: part,
-        token,
-        count,
-    };
-    let stack = push(stack, Frame::Operator(OperatorFrame::Binary(frame)))?;
-    Ok(in_expr(ExprGoal::Want(inner), stack))
 }
 
 /// What the token leads to inside of an expression.
@@ -266,6 +317,8 @@ fn after_settled(
 ) -> Result<Reader, Stop>
     ensures { Moves result (act token.now (settle (power token.now.kind) depth (part_of part) (stack_of stack.items))) }
 {
-    let Had { depth, part, stack } = settle(alloc, power(token), depth, part, stack)?;
-    after(alloc, depth, part, stack, token)
+    match settle(alloc, power(token), depth, part, stack) {
+        Ok(Had { depth, part, stack }) => after(alloc, depth, part, stack, token),
+        Err(Memory) => Err(Stop::Memory),
+    }
 }

@@ -4,5 +4,6 @@
 pub mod assign;
 pub mod close;
 pub mod decl;
+mod enter;
 pub mod expr;
 pub mod place;

@@ -1,23 +1,24 @@
-ghost use Rattle.std.specs.Prelude.{◌≡◌, ◌+◌, [], ◌∷◌};
+ghost use Rattle.std.specs.Prelude.{◌≡◌, ◌+◌, [], ◌∷◌, IfOk, IfErr};
 ghost use Rattle.ix_tree.specs.declared.token.TokenKind.TheVariants.{Word};
 ghost use Rattle.ix_tree.specs.Trees.{e_literal};
 ghost use Rattle.ix_tree.specs.Productions.{place_name, place_pc, bit_type, one_bit, assign_before, assign_after};
 ghost use Rattle.ix_tree.specs.View.{view, view_place, view_assign};
 ghost use Rattle.ix_tree.specs.Machine.{Stack, begin_place, after_place, set_or_step, step_of, assign_of, around};
-ghost use Rattle.ix_parse_state.specs.Views.{stack_of, frame_of, assign_frame};
-ghost use Rattle.ix_parse_state.specs.Moves.{Moves};
+ghost use Rattle.ix_parse_state.specs.Views.{stack_of, frame_of, assign_frame, of_assign};
+ghost use Rattle.ix_parse_state.specs.Moves.{Moves, GoesTo, StopsBy};
 
 use crate::assign::after_assign;
+use crate::enter::{copied, deeper, entered};
 use ix_bits::{BinOp, Bits, Memory, Name, Ty};
 use ix_parse_state::frame::{AssignFrame, ClosingFrame, Frame};
-use ix_parse_state::look::{copy, is_symbol, level, nest};
-use ix_parse_state::reader::{in_assign, in_expr};
+use ix_parse_state::look::{is_symbol, level, nest};
+use ix_parse_state::reader::in_assign;
 use ix_parse_state::sign::{
     AND_EQUALS, EQUALS, LEFT_EQUALS, MEM, MINUS_EQUALS, MINUS_MINUS, OR_EQUALS, PC, PLUS_EQUALS,
     PLUS_PLUS, RIGHT_EQUALS, TIMES_EQUALS, X, XOR_EQUALS,
 };
 use ix_parse_state::stack::{pop, push};
-use ix_parse_state::state::{AssignGoal, ExprGoal, Reader};
+use ix_parse_state::state::{AssignGoal, ExprGoal, Goal, Reader};
 use ix_parse_state::stop::Stop;
 use ix_tree::{Assign, Expr, ExprKind, Lvalue, LvalueKind, Span, Token, TokenKind};
 use std::alloc::Global;
@@ -31,40 +32,51 @@ pub fn begin_place(
 ) -> Result<Reader, Stop>
     ensures { Moves result (begin_place depth (stack_of stack.items) token.now token.now.kind) }
 {
+    match place_goal(alloc, depth, token) {
+        Ok(goal) => Ok(in_assign(goal, stack)),
+        Err(stop) => {
+            drop(stack);
+            Err(stop)
+        }
+    }
+}
+
+/// What is had of an assignment behind the first token of a place.
+fn place_goal(alloc: Global, depth: u32, token: &Token) -> Result<AssignGoal, Stop>
+    ensures ok { (k : Stack) → IfOk result (λ g. GoesTo (of_assign g k) (begin_place depth k token.now token.now.kind)) }
+    ensures err { (k : Stack) → IfErr result (λ e. StopsBy e (begin_place depth k token.now token.now.kind)) }
+{
     match &token.kind {
         TokenKind::Name(name) => {
             level(depth)?;
             let place = name_place(token, Name::from_text(alloc, name.as_str())?);
-            Ok(in_assign(AssignGoal::Placed(place), stack))
+            Ok(AssignGoal::Placed(place))
         }
-        TokenKind::Word(word) => begin_word_place(alloc, depth, stack, token, *word),
+        TokenKind::Word(word) => word_goal(alloc, depth, token, *word),
         _ => Err(Stop::Refused),
     }
 }
 
-/// What a reserved word leads to where a place is wanted.
-fn begin_word_place(
-    alloc: Global,
-    depth: u32,
-    stack: Vec<Frame>,
-    token: &Token,
-    word: u8,
-) -> Result<Reader, Stop>
-    ensures { Moves result (begin_place depth (stack_of stack.items) token.now (Word word)) }
+/// The same behind a reserved word.
+fn word_goal(alloc: Global, depth: u32, token: &Token, word: u8) -> Result<AssignGoal, Stop>
+    ensures ok { (k : Stack) → IfOk result (λ g. GoesTo (of_assign g k) (begin_place depth k token.now (Word word))) }
+    ensures err { (k : Stack) → IfErr result (λ e. StopsBy e (begin_place depth k token.now (Word word))) }
 {
-    if word == PC {
-        level(depth)?;
-        return Ok(in_assign(AssignGoal::Placed(pc_place(token)), stack));
+    match word {
+        PC => match level(depth) {
+            Ok(_) => Ok(AssignGoal::Placed(pc_place(token))),
+            Err(stop) => Err(stop),
+        },
+        X => match copied(alloc, depth, 0, token) {
+            Ok(word) => Ok(AssignGoal::XSquare(depth, word)),
+            Err(stop) => Err(stop),
+        },
+        MEM => match copied(alloc, depth, 0, token) {
+            Ok(word) => Ok(AssignGoal::MemSquare(depth, word)),
+            Err(stop) => Err(stop),
+        },
+        _ => Err(Stop::Refused),
     }
-    if word == X {
-        level(depth)?;
-        return Ok(in_assign(AssignGoal::XSquare(depth, copy(alloc, token)?), stack));
-    }
-    if word == MEM {
-        level(depth)?;
-        return Ok(in_assign(AssignGoal::MemSquare(depth, copy(alloc, token)?), stack));
-    }
-    Err(Stop::Refused)
 }
 
 /// A name as a place.
@@ -96,21 +108,20 @@ pub fn after_place(
 ) -> Result<Reader, Stop>
     ensures { Moves result (after_place (view_place place) (stack_of stack.items) token.now) }
 {
-    let (frame, stack) = match pop(stack) {
-        None => return set_or_step(place, none_open(alloc), token),
-        Some(top) => top,
-    };
-    match frame {
-        Frame::Assign(frame) => after_place_of(alloc, place, frame, stack, token),
-        other => {
-            match push(stack, other) {
-                Ok(stack) => set_or_step(place, stack, token),
-                Err(Memory) => {
-                    drop(place);
-                    Err(Stop::Memory)
+    match pop(stack) {
+        Some((frame, stack)) => match frame {
+            Frame::Assign(frame) => after_place_of(alloc, place, frame, stack, token),
+            other => {
+                match push(stack, other) {
+                    Ok(stack) => set_or_step(place, stack, token),
+                    Err(Memory) => {
+                        drop(place);
+                        Err(Stop::Memory)
+                    }
                 }
             }
-        }
+        },
+        None => set_or_step(place, none_open(alloc), token),
     }
 }
 
@@ -155,26 +166,30 @@ fn set_or_step(place: Lvalue, stack: Vec<Frame>, token: &Token) -> Result<Reader
 {
     let (depth, more) = around(stack.as_slice());
     if let Some(op) = assign_of(token) {
-        let depth = match nest(depth, more) {
-            Ok(depth) => depth,
+        return match nest(depth, more) {
+            Ok(depth) => {
+                let frame = ClosingFrame::Set(depth, place, op);
+                let goal = ExprGoal::Want(depth);
+                entered(Frame::Closing(frame), Goal::Expr(goal), stack)
+            }
             Err(stop) => {
                 drop(place);
-                return Err(stop);
+                drop(stack);
+                Err(stop)
             }
         };
-        let stack = push(stack, Frame::Closing(ClosingFrame::Set(depth, place, op)))?;
-        return Ok(in_expr(ExprGoal::Want(depth), stack));
     }
-    if let Some(op) = step_of(token) {
-        if let Err(stop) = nest(depth, more) {
-            drop(place);
-            return Err(stop);
+    match step_of(token) {
+        Some(op) => {
+            let goal = AssignGoal::Assigned(stepped_after(place, op, token));
+            deeper(depth, more, Goal::Assign(goal), stack)
         }
-        let assign = stepped_after(place, op, token);
-        return Ok(in_assign(AssignGoal::Assigned(assign), stack));
+        None => {
+            drop(place);
+            drop(stack);
+            Err(Stop::Refused)
+        }
     }
-    drop(place);
-    Err(Stop::Refused)
 }
 
 /// The nesting at which an assignment stands: that of its production, and how much deeper it is.

@@ -10,30 +10,11 @@ use Rattle.ix_tree.specs.LoopHeads.{Binding}
 use Rattle.ix_tree.specs.Rows.{view_whole, view_items}
 use Rattle.ix_tree.specs.Unrolling.{Mark, statement, alone, inside, row_join, met, met_row, copies, copies_of, copy_marks, loop_marks, judged, Turns, these, with_value, is_loop, unblocked}
 use Rattle.ix_tree.specs.View.{view_stmt}
-use Rattle.ix_tree.proofs.Views.{block_whole, items_rest, items_join, row_join_end, row_join_assoc}
+use Rattle.ix_tree.proofs.Views.{items_rest, items_join, row_join_end, row_join_assoc}
 use Rattle.ix_unroll.specs.declared.error.UnrollErr.{UnrollErr}
 use Rattle.ix_unroll.specs.declared.error.UnrollErr.TheVariants.{Memory}
-use Rattle.ix_unroll.specs.Telling.{Passes, Refuses, KeepsErr}
+use Rattle.ix_unroll.specs.Telling.{KeepsErr}
 use Rattle.ix_unroll.specs.Turning.{head_of, loop_tree, opened_row, row_marks, body_row, body_marks}
-use Rattle.ix_unroll.proofs.Marks.{passes_join, refuses_behind}
-
--- ---- a block
-pub block_refused : (e : UnrollErr) (n m : ℕ) (x : Stmt) (all items : List Stmt) (bs : List Binding) → x.kind ≡ StmtKind.Block all → items ≡ all → Passes n (statement x.span ∷ []) m
-    → Refuses e m (met_row (view_items items) bs) → Refuses e n (met (view_whole x) bs)
-block_refused e n m x all items bs k i p h =
-    let P : List Stmt → Type 0 = λ xs. Refuses e m (met_row (view_items xs) bs) in
-    rw (block_whole x all k) (refuses_behind e n m (statement x.span ∷ []) (met_row (view_items all) bs) p (subst P i h))
-
-pub block_passed : (n m l : ℕ) (x : Stmt) (all items : List Stmt) (bs : List Binding) → x.kind ≡ StmtKind.Block all → items ≡ all → Passes n (statement x.span ∷ []) m
-    → Passes m (met_row (view_items items) bs) l → Passes n (met (view_whole x) bs) l
-block_passed n m l x all items bs k i p q =
-    let P : List Stmt → Type 0 = λ xs. Passes m (met_row (view_items xs) bs) l in
-    rw (block_whole x all k) (passes_join p (subst P i q))
-
-pub block_tree : (r : StmtTree) (made : StmtRow) (x : Stmt) (all items : List Stmt) (bs : List Binding) → x.kind ≡ StmtKind.Block all → items ≡ all → r ≡ s_block x.span made
-    → made ≡ inside (view_items items) bs → r ≡ alone (view_whole x) bs
-block_tree r made x all items bs k i e f =
-    rw (block_whole x all k) (e ∙ ap (λ (row : StmtRow). s_block x.span row) (f ∙ ap (λ (xs : List Stmt). inside (view_items xs) bs) i))
 
 -- ---- the statements of a block, one after another
 pub inside_marks : (all : List Stmt) (k : ℕ) (x : Stmt) (bs : List Binding) → k < length all → x ≡ get_or all k x

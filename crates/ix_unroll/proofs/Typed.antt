@@ -1,6 +1,6 @@
 -- Values of head expressions: types with their numbers.
-use Rattle.std.proofs.Common.{◌≡◌, ℕ, suc, ◌+◌, ◌-◌, ◌^◌, ◌<◌, ◌≤◌, cond, ⊎_elim, Bool, true, false, Some, None, refl, ap, sym, ◌∙◌, arith, ℤ, pos, negsuc, ◌-ℤ◌}
-use Rattle.std.specs.Prelude.{nat_lt, int_lt, FitsSigned}
+use Rattle.std.proofs.Common.{◌≡◌, ℕ, suc, ◌+◌, ◌-◌, ◌^◌, ◌<◌, ◌≤◌, cond, if◌then◌else◌, ◌&&◌, ⊎_elim, Bool, true, false, Option, Some, None, refl, ap, sym, ◌∙◌, arith, ℤ, pos, negsuc, ◌-ℤ◌}
+use Rattle.std.specs.Prelude.{nat_lt, nat_le, int_lt, FitsSigned}
 use Rattle.std.proofs.lemmas.Int.{ints, to_z_pos, to_z-of_z}
 use Rattle.std.specs.Int.{cast_unsigned, cast_signed, w32}
 use Rattle.std.proofs.lemmas.Bool.{le-leb, lt-leb, lt-ltb, le-ltb, ltb-true, cases_lt}
@@ -83,6 +83,42 @@ place_chosen a k true h e = let f : a ≡ k = cc in (ap pos f, omega (arith, ltb
 pub place_is : (n : ℤ) (k : ℕ) → place_of n ≡ Some k → (n ≡ pos k) × (k < 128)
 place_is (pos a) k e = place_chosen a k (nat_lt a 128) refl (rw (le-leb 0 a (omega arith)) at e)
 place_is (negsuc a) k e = cc
+
+none_if : (p q r : Bool) (v : Option Valued) → q ≡ false → None ≡ (if p && q && r then v else None)
+none_if true q r v e = rw e refl
+none_if false q r v e = refl
+
+none_last : (p q r : Bool) (v : Option Valued) → r ≡ false → None ≡ (if p && q && r then v else None)
+none_last true true r v e = rw e refl
+none_last true false r v e = refl
+none_last false q r v e = refl
+
+far : (a : ℕ) → None ≡ place_of (pos a) → 128 ≤ a
+far a e =
+    ⊎_elim
+    (λ (below : a < 128). absurd (let f = rw (le-leb 0 a (omega arith), lt-ltb a 128 below) at e in cc))
+    (λ (above : 128 ≤ a). above)
+    (cases_lt a 128)
+
+-- no bits are from a place that is none
+pub no_high : (x : Valued) (h l : ℤ) → None ≡ place_of h → None ≡ bits_at x h l
+no_high x (pos a) (pos b) e =
+    let above : 128 ≤ a = far a e in
+    none_last (nat_le 0 b) (nat_le b a) (nat_lt a x.ty.width) _ (le-ltb a x.ty.width (omega (arith, x.ty.most_width)))
+no_high x (pos a) (negsuc b) e = refl
+no_high x (negsuc a) (pos b) e = none_if (nat_le 0 b) false _ _ refl
+no_high x (negsuc a) (negsuc b) e = refl
+
+pub no_low : (x : Valued) (h l : ℤ) → None ≡ place_of l → None ≡ bits_at x h l
+no_low x (pos a) (pos b) e =
+    let above : 128 ≤ b = far b e in
+    ⊎_elim
+    (λ (below : a < b). none_if (nat_le 0 b) (nat_le b a) _ _ (lt-leb b a below))
+    (λ (over : b ≤ a). none_last (nat_le 0 b) (nat_le b a) (nat_lt a x.ty.width) _ (le-ltb a x.ty.width (omega (arith, x.ty.most_width))))
+    (cases_lt a b)
+no_low x (negsuc a) (pos b) e = none_if (nat_le 0 b) false _ _ refl
+no_low x (pos a) (negsuc b) e = refl
+no_low x (negsuc a) (negsuc b) e = refl
 
 -- ---- the parts of `value`
 pub valued_same : (t u : Ty) (n m : ℤ) → t ≡ u → n ≡ m

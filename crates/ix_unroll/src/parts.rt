@@ -1,4 +1,4 @@
-ghost use Rattle.std.specs.Prelude.{◌≡◌, map, IfOk, OnOk, IfErr, IsOk};
+ghost use Rattle.std.specs.Prelude.{◌≡◌, ◌++◌, ◌∷◌, [], map, IfOk, OnOk, IfErr, IsOk};
 ghost use Rattle.ix_tree.specs.Trees.{s_block, s_empty, s_locals, s_assign, s_if, s_if_else, s_spawn};
 ghost use Rattle.ix_tree.specs.View.{view, view_decl, view_assign};
 ghost use Rattle.ix_tree.specs.Rows.{view_whole, view_items};
@@ -70,7 +70,10 @@ pub fn choice(
     ensures { IfOk result (λ r. view_whole r ≡ s_if span (put (bindings scope.now) (view condition.now)) (view_whole x)) }
 {
     let x = boxed(alloc, x)?;
-    let condition = put(alloc, scope, condition)?;
+    let Ok(condition) = put(alloc, scope, condition) else {
+        drop(x);
+        return Err(Memory);
+    };
     Ok(Stmt {
         span,
         kind: StmtKind::If(condition, x, None),
@@ -114,12 +117,26 @@ fn both(
         drop(x);
         return Err(Memory);
     };
-    let x = boxed(alloc, x)?;
-    let condition = put(alloc, scope, condition)?;
+    let Ok(x) = boxed(alloc, x) else {
+        drop(y);
+        return Err(Memory);
+    };
+    let Ok(condition) = put(alloc, scope, condition) else {
+        drop(x);
+        drop(y);
+        return Err(Memory);
+    };
     Ok(Stmt {
         span,
         kind: StmtKind::If(condition, x, Some(y)),
     })
+}
+
+/// Puts an item behind others.
+pub fn add<T: Drop>(out: &mut Vec<T>, item: T) -> Result<(), Memory>
+    ensures { OnOk result (out.new.items ≡ out.old.items ++ item ∷ []) }
+{
+    Ok(out.push(item)?)
 }
 
 // The statement in a box of its own.

@@ -4,6 +4,7 @@ ghost use Rattle.ix_tree.specs.View.{view, view_option, view_place, view_assign,
 ghost use Rattle.ix_tree.specs.Unrolling.{literal, number_tree, put_name, put, put_option, put_assign, put_decl, put_place};
 ghost use Rattle.ix_unroll.specs.Scopes.{bindings};
 
+use crate::parts::add;
 use crate::scope::{Scope, value_in};
 use ix_bits::{Bits, List, Memory, Name, Ty, UnOp, least_width};
 use ix_tree::{Assign, Decl, Expr, ExprKind, Lvalue, LvalueKind, Span};
@@ -67,7 +68,8 @@ fn number(alloc: Global, span: Span, value: i32) -> Result<Expr, Memory>
     ensures { IfOk result (λ r. view r ≡ number_tree span value) }
 {
     let literal = literal(span, value.unsigned_abs());
-    if value < 0 {
+    let negative = value < 0;
+    if negative {
         Ok(Expr {
             span,
             kind: ExprKind::Unary(UnOp::Neg, Box::new(alloc, literal)?),
@@ -111,7 +113,12 @@ fn put_place(alloc: Global, scope: &Scope, place: &Lvalue) -> Result<Lvalue, Mem
         LvalueKind::Pc => LvalueKind::Pc,
         LvalueKind::X(e) => LvalueKind::X(put(alloc, scope, e)?),
         LvalueKind::Mem(e, f) => {
-            LvalueKind::Mem(put(alloc, scope, e)?, put_option(alloc, scope, f)?)
+            let f = put_option(alloc, scope, f)?;
+            let Ok(e) = put(alloc, scope, e) else {
+                drop(f);
+                return Err(Memory);
+            };
+            LvalueKind::Mem(e, f)
         }
     };
     Ok(Lvalue {
@@ -124,21 +131,31 @@ fn put_place(alloc: Global, scope: &Scope, place: &Lvalue) -> Result<Lvalue, Mem
 pub fn put_assign(alloc: Global, scope: &Scope, assign: &Assign) -> Result<Assign, Memory>
     ensures { IfOk result (λ r. view_assign r ≡ put_assign (bindings scope.now) (view_assign assign.now)) }
 {
+    let target = put_place(alloc, scope, &assign.target)?;
+    let Ok(value) = put(alloc, scope, &assign.value) else {
+        drop(target);
+        return Err(Memory);
+    };
     Ok(Assign {
         span: assign.span,
-        target: put_place(alloc, scope, &assign.target)?,
+        target,
         op: assign.op,
-        value: put(alloc, scope, &assign.value)?,
+        value,
     })
 }
 
 fn put_decl(alloc: Global, scope: &Scope, decl: &Decl) -> Result<Decl, Memory>
     ensures { IfOk result (λ r. view_decl r ≡ put_decl (bindings scope.now) (view_decl decl.now)) }
 {
+    let value = put_option(alloc, scope, &decl.value)?;
+    let Ok(name) = Name::from_text(alloc, decl.name.as_str()) else {
+        drop(value);
+        return Err(Memory);
+    };
     Ok(Decl {
         span: decl.span,
-        name: Name::from_text(alloc, decl.name.as_str())?,
-        value: put_option(alloc, scope, &decl.value)?,
+        name,
+        value,
     })
 }
 
@@ -148,7 +165,8 @@ pub fn put_decls(alloc: Global, scope: &Scope, decls: &[Decl]) -> Result<List<De
 {
     let mut all = Vec::new(alloc);
     for decl in decls {
-        all.push(put_decl(alloc, scope, decl)?)?;
+        let decl = put_decl(alloc, scope, decl)?;
+        add(&mut all, decl)?;
     }
     Ok(List::from_vec(all))
 }

@@ -1,15 +1,17 @@
-ghost use Rattle.std.specs.Prelude.{◌≡◌, ◌∷◌, [], IfOk, OnOk, IfErr};
+ghost use Rattle.std.specs.Prelude.{◌≡◌, List, ◌∷◌, [], map, IfOk, OnOk, IfErr};
+ghost use Rattle.ix_tree.specs.Trees.{s_block, s_empty, s_locals, s_assign, s_spawn};
+ghost use Rattle.ix_tree.specs.View.{view_decl, view_assign};
 ghost use Rattle.ix_tree.specs.Rows.{view_whole, view_items};
-ghost use Rattle.ix_tree.specs.Unrolling.{statement, alone, inside, copies, row_join, met, met_row, copy_marks};
+ghost use Rattle.ix_tree.specs.Unrolling.{Mark, statement, alone, inside, copies, row_join, met, met_row, copy_marks};
 ghost use Rattle.ix_unroll.specs.Scopes.{bindings};
 ghost use Rattle.ix_unroll.specs.Telling.{Passes, Refuses};
 ghost use Rattle.ix_unroll.specs.Turning.{loop_tree, opened_row, row_marks, body_row, body_marks};
 
 use crate::UnrollErr;
-use crate::parts::{assignment, block, choice, choice_else, empty, locals, spawned};
+use crate::parts::{add, assignment, block, choice, choice_else, empty, locals, spawned};
 use crate::scope::Scope;
 use crate::turns::judged;
-use ix_tree::{Loop, Span, Stmt, StmtKind};
+use ix_tree::{Assign, Decl, Loop, Span, Stmt, StmtKind, TypeText};
 use std::alloc::Global;
 
 /// The greatest count of statements in the result.
@@ -18,7 +20,7 @@ const MOST_STATEMENTS: u32 = 16384;
 // Counts one more statement of the result, which comes from the statement at the span.
 fn counted(count: &mut u32, span: Span) -> Result<(), UnrollErr>
     ensures passed { OnOk result (Passes count.old (statement span ∷ []) count.new) }
-    ensures refused { IfErr result (λ e. Refuses e count.old (statement span ∷ [])) }
+    ensures refused { (rest : List Mark) → IfErr result (λ e. Refuses e count.old (statement span ∷ rest)) }
 {
     if *count < MOST_STATEMENTS {
         *count += 1;
@@ -43,23 +45,12 @@ pub fn alone<'x>(
 {
     let span = stmt.span;
     match &stmt.kind {
-        StmtKind::Block(all) => {
-            counted(count, span)?;
-            let all = inside(alloc, scope, count, all.as_slice())?;
-            Ok(block(span, all))
-        }
-        StmtKind::Empty => {
-            counted(count, span)?;
-            Ok(empty(span))
-        }
+        StmtKind::Block(all) => blocked(alloc, scope, count, span, all.as_slice()),
+        StmtKind::Empty => counted_empty(count, span),
         StmtKind::Locals(ty, decls) => {
-            counted(count, span)?;
-            Ok(locals(alloc, scope, span, *ty, decls.as_slice())?)
+            counted_locals(alloc, scope, count, span, *ty, decls.as_slice())
         }
-        StmtKind::Assign(assign) => {
-            counted(count, span)?;
-            Ok(assignment(alloc, scope, span, assign)?)
-        }
+        StmtKind::Assign(assign) => counted_assignment(alloc, scope, count, span, assign),
         StmtKind::If(condition, x, None) => {
             counted(count, span)?;
             let x = alone(alloc, scope, count, x)?;
@@ -76,11 +67,100 @@ pub fn alone<'x>(
             }
         }
         StmtKind::For(head) => looped(alloc, scope, count, span, head),
-        StmtKind::Spawn(x) => {
-            counted(count, span)?;
-            let x = alone(alloc, scope, count, x)?;
-            Ok(spawned(alloc, span, x)?)
-        }
+        StmtKind::Spawn(x) => spawning(alloc, scope, count, span, x),
+    }
+}
+
+// The empty statement.
+fn counted_empty(count: &mut u32, span: Span) -> Result<Stmt, UnrollErr>
+    ensures tree { IfOk result (λ x. view_whole x ≡ s_empty span) }
+    ensures passed { OnOk result (Passes count.old (statement span ∷ []) count.new) }
+    ensures refused { IfErr result (λ e. Refuses e count.old (statement span ∷ [])) }
+{
+    match counted(count, span) {
+        Ok(()) => Ok(empty(span)),
+        Err(error) => Err(error),
+    }
+}
+
+// Declarations.
+fn counted_locals(
+    alloc: Global,
+    scope: &Scope,
+    count: &mut u32,
+    span: Span,
+    ty: TypeText,
+    decls: &[Decl],
+) -> Result<Stmt, UnrollErr>
+    ensures tree { IfOk result (λ x. view_whole x ≡ alone (s_locals span ty (map view_decl decls.now)) (bindings scope.now)) }
+    ensures passed { OnOk result (Passes count.old (statement span ∷ []) count.new) }
+    ensures refused { IfErr result (λ e. Refuses e count.old (statement span ∷ [])) }
+{
+    match counted(count, span) {
+        Ok(()) => Ok(locals(alloc, scope, span, ty, decls)?),
+        Err(error) => Err(error),
+    }
+}
+
+// An assignment.
+fn counted_assignment(
+    alloc: Global,
+    scope: &Scope,
+    count: &mut u32,
+    span: Span,
+    assign: &Assign,
+) -> Result<Stmt, UnrollErr>
+    ensures tree { IfOk result (λ x. view_whole x ≡ alone (s_assign span (view_assign assign.now)) (bindings scope.now)) }
+    ensures passed { OnOk result (Passes count.old (statement span ∷ []) count.new) }
+    ensures refused { IfErr result (λ e. Refuses e count.old (statement span ∷ [])) }
+{
+    match counted(count, span) {
+        Ok(()) => Ok(assignment(alloc, scope, span, assign)?),
+        Err(error) => Err(error),
+    }
+}
+
+// A block.
+#[cycle(statements)]
+fn blocked<'x>(
+    alloc: Global,
+    scope: &'x Scope<'x>,
+    count: &mut u32,
+    span: Span,
+    all: &'x [Stmt],
+) -> Result<Stmt, UnrollErr>
+    ensures tree { IfOk result (λ x. view_whole x ≡ alone (s_block span (view_items all.now)) (bindings scope.now)) }
+    ensures passed { OnOk result (Passes count.old (met (s_block span (view_items all.now)) (bindings scope.now)) count.new) }
+    ensures refused { IfErr result (λ e. Refuses e count.old (met (s_block span (view_items all.now)) (bindings scope.now))) }
+{
+    match counted(count, span) {
+        Ok(()) => match inside(alloc, scope, count, all) {
+            Ok(all) => Ok(block(span, all)),
+            Err(error) => Err(error),
+        },
+        Err(error) => Err(error),
+    }
+}
+
+// A `spawn`.
+#[cycle(statements)]
+fn spawning<'x>(
+    alloc: Global,
+    scope: &'x Scope<'x>,
+    count: &mut u32,
+    span: Span,
+    x: &'x Stmt,
+) -> Result<Stmt, UnrollErr>
+    ensures tree { IfOk result (λ r. view_whole r ≡ alone (s_spawn span (view_whole x.now)) (bindings scope.now)) }
+    ensures passed { OnOk result (Passes count.old (met (s_spawn span (view_whole x.now)) (bindings scope.now)) count.new) }
+    ensures refused { IfErr result (λ e. Refuses e count.old (met (s_spawn span (view_whole x.now)) (bindings scope.now))) }
+{
+    match counted(count, span) {
+        Ok(()) => match alone(alloc, scope, count, x) {
+            Ok(x) => Ok(spawned(alloc, span, x)?),
+            Err(error) => Err(error),
+        },
+        Err(error) => Err(error),
     }
 }
 
@@ -143,7 +223,7 @@ fn opened<'x>(
         }
         _ => {
             let stmt = alone(alloc, scope, count, stmt)?;
-            out.push(stmt)?;
+            add(out, stmt)?;
             Ok(())
         }
     }
@@ -169,7 +249,7 @@ fn copies<'x>(
         let turn = Scope::Inside(head.name.as_str(), *value, scope);
         let mut body = Vec::new(alloc);
         opened(alloc, &turn, count, &head.body, &mut body)?;
-        out.push(block(span, body))?;
+        add(out, block(span, body))?;
     }
     Ok(())
 }

@@ -6,6 +6,7 @@ ghost use Rattle.ix_tree.specs.Unrolling.{alone_instr, alone_block, alone_sectio
 ghost use Rattle.ix_unroll.specs.Telling.{Passes, Refuses, ComesWhere};
 
 use crate::UnrollErr;
+use crate::parts::add;
 use crate::scope::Scope;
 use crate::statement::alone;
 use ix_bits::List;
@@ -53,7 +54,7 @@ fn unrolled_sections(alloc: Global, sections: List<Section>) -> Result<List<Sect
     let mut out = Vec::new(alloc);
     for section in sections.into_vec() {
         let section = unrolled_section(alloc, &mut count, section)?;
-        out.push(section)?;
+        add(&mut out, section)?;
     }
     Ok(List::from_vec(out))
 }
@@ -99,7 +100,7 @@ fn unrolled_instructions(
     let mut out = Vec::new(alloc);
     for instr in all.into_vec() {
         let instr = unrolled_instruction(alloc, count, instr)?;
-        out.push(instr)?;
+        add(&mut out, instr)?;
     }
     Ok(List::from_vec(out))
 }
@@ -149,7 +150,7 @@ fn unrolled_blocks(
     let mut out = Vec::new(alloc);
     for block in all.into_vec() {
         let block = unrolled_block(alloc, count, block)?;
-        out.push(block)?;
+        add(&mut out, block)?;
     }
     Ok(List::from_vec(out))
 }

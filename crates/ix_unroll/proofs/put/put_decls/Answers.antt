@@ -11,8 +11,8 @@ loop-decl-preserved c =
     let made = λ (d : Decl). put_decl (bindings c.args.scope.now) (view_decl d) in
     let xs = c.args.decls.now in
     let k = c.loop-decl.decl-index in
-    ap (λ (ys : List Decl). map view_decl ys ++ map made (drop (k + 1) xs)) c.in_ok-push.ensures.items
-    ∙ mapped_step view_decl made c.loop-decl.all.items xs k c.decl-item.result c.in_ok-put_decl.field-0 c.loop-decl-test.true c.decl-item.is c.in_ok-put_decl.ensures
+    ap (λ (ys : List Decl). map view_decl ys ++ map made (drop (k + 1) xs)) c.in_ok-add.ensures
+    ∙ mapped_step view_decl made c.loop-decl.all.items xs k c.decl-item.result c.in_ok-decl.decl c.loop-decl-test.true c.decl-item.is c.in_ok-decl.ensures
     ∙ c.loop-decl.invariant
 
 pub returns : goal.returns

@@ -1,36 +1,47 @@
-use Rattle.std.proofs.Common.{◌≡◌, ◌+◌, ◌∙◌, sym, ap, subst, rules, List, [], ◌∷◌, ◌++◌, drop, get_or, ℤ, pos}
+use Rattle.std.proofs.Common.{◌≡◌, IfOk, OnOk, IfErr, ◌+◌, ◌∙◌, sym, ap, subst, rules, List, [], ◌∷◌, ◌++◌, drop, get_or, ℤ, pos}
 use Rattle.std.specs.Prelude.{FitsSigned}
 use Rattle.std.specs.Int.{w32, cast_signed, cast_unsigned}
 use Rattle.std.proofs.lemmas.Int.{to_z-of_z}
 use Rattle.std.proofs.lemmas.Result.{err_from_is_err_and}
 use Rattle.ix_tree.specs.declared.stmt.Stmt.{Stmt}
-use Rattle.ix_tree.specs.Trees.{s_if_else, StmtTree}
+use Rattle.ix_tree.specs.Trees.{s_block, s_if_else, StmtTree}
 use Rattle.ix_tree.specs.LoopHeads.{Binding}
 use Rattle.ix_tree.specs.View.{view}
 use Rattle.ix_tree.specs.Rows.{view_whole, view_items}
+use Rattle.ix_tree.specs.declared.stmt.StmtKind as StmtKind
 use Rattle.ix_tree.specs.declared.stmt.StmtKind.TheViews.{the_lemmas}
-use Rattle.ix_tree.specs.Unrolling.{Mark, statement, met, met_row, copy_marks, row_join, judged, these}
+use Rattle.ix_tree.proofs.Views.{block_whole}
+use Rattle.ix_tree.specs.Unrolling.{Mark, statement, alone, met, met_row, copy_marks, row_join, judged, these}
 use Rattle.ix_unroll.specs.Scopes.{bindings}
 use Rattle.ix_unroll.specs.Telling.{Passes, Refuses}
 use Rattle.ix_unroll.specs.Turning.{head_of, loop_tree, body_row, body_marks, row_marks, opened_row}
 use Rattle.ix_unroll.proofs.Going.{going_as, going_start, going_step, going_refuse}
 use Rattle.ix_unroll.proofs.Marks.{passes_join, refuses_behind}
-use Rattle.ix_unroll.proofs.Statements.{block_refused, block_passed, block_tree, inside_marks, inside_tree, inside_end, copies_marks, copies_tree, copies_end, copy_row, turn_is, loop_met, loop_row_marks, no_loop, no_loop_marks, pushed_row, ok_passes, else_refused, err_to}
+use Rattle.ix_unroll.proofs.Statements.{inside_marks, inside_tree, inside_end, copies_marks, copies_tree, copies_end, copy_row, turn_is, loop_met, loop_row_marks, no_loop, no_loop_marks, pushed_row, ok_passes, else_refused, err_to}
 use Rattle.ix_tree.specs.declared.stmt.Loop.{Loop}
 use Rattle.ix_unroll.proofs.statement.+statements.Goals as goal
 
-pub alone-returns-in_err-all-in-Block-clause-refused : goal.alone-returns-in_err-all-in-Block-clause-refused
-alone-returns-in_err-all-in-Block-clause-refused t c =
-    let p = err_from_is_err_and c.from_residual-in_err-all-in-Block.result c.from_residual-in_err-all-in-Block.ensures.1 in
-    rw (p.1, p.2) (block_refused _ c.args.count.now c.counted.new.count c.args.stmt.now c.in-Block.all c.as_slice.result.now (bindings c.args.scope.now) c.in-Block.is c.as_slice.ensures c.in_ok-counted-in-Block.ensures.passed c.in_err-all-in-Block.ensures.refused)
+-- the tree of a block, as the code has it
+block_is : (x : Stmt) (all items : List Stmt) → x.kind ≡ StmtKind.Block all → items ≡ all → s_block x.span (view_items items) ≡ view_whole x
+block_is x all items k i = ap (λ (xs : List Stmt). s_block x.span (view_items xs)) i ∙ sym (block_whole x all k)
 
-pub alone-returns-in_ok-all-in-Block-clause-tree : goal.alone-returns-in_ok-all-in-Block-clause-tree
-alone-returns-in_ok-all-in-Block-clause-tree t c =
-    block_tree (view_whole c.block.result) _ c.args.stmt.now c.in-Block.all c.as_slice.result.now (bindings c.args.scope.now) c.in-Block.is c.as_slice.ensures c.block.ensures c.in_ok-all-in-Block.ensures.tree
+pub alone-returns-in-Block-clause-tree : goal.alone-returns-in-Block-clause-tree
+alone-returns-in-Block-clause-tree t c =
+    let bs = bindings c.args.scope.now in
+    let P : StmtTree → Type 0 = λ y. IfOk c.blocked.result (λ r. view_whole r ≡ alone y bs) in
+    subst P (block_is c.args.stmt.now c.in-Block.all c.as_slice.result.now c.in-Block.is c.as_slice.ensures) c.blocked.ensures.tree
 
-pub alone-returns-in_ok-all-in-Block-clause-passed : goal.alone-returns-in_ok-all-in-Block-clause-passed
-alone-returns-in_ok-all-in-Block-clause-passed t c =
-    block_passed _ _ _ c.args.stmt.now c.in-Block.all c.as_slice.result.now (bindings c.args.scope.now) c.in-Block.is c.as_slice.ensures c.in_ok-counted-in-Block.ensures.passed c.in_ok-all-in-Block.ensures.passed
+pub alone-returns-in-Block-clause-passed : goal.alone-returns-in-Block-clause-passed
+alone-returns-in-Block-clause-passed t c =
+    let bs = bindings c.args.scope.now in
+    let P : StmtTree → Type 0 = λ y. OnOk c.blocked.result (Passes c.args.count.now (met y bs) c.blocked.new.count) in
+    subst P (block_is c.args.stmt.now c.in-Block.all c.as_slice.result.now c.in-Block.is c.as_slice.ensures) c.blocked.ensures.passed
+
+pub alone-returns-in-Block-clause-refused : goal.alone-returns-in-Block-clause-refused
+alone-returns-in-Block-clause-refused t c =
+    let bs = bindings c.args.scope.now in
+    let P : StmtTree → Type 0 = λ y. IfErr c.blocked.result (λ d. Refuses d c.args.count.now (met y bs)) in
+    subst P (block_is c.args.stmt.now c.in-Block.all c.as_slice.result.now c.in-Block.is c.as_slice.ensures) c.blocked.ensures.refused
 
 pub alone-returns-in-Err-clause-refused : goal.alone-returns-in-Err-clause-refused
 alone-returns-in-Err-clause-refused t c =
@@ -84,7 +95,7 @@ copies-returns-in_err-counted-clause-refused t c =
     let v = get_or vs k (pos 0) in
     let s = c.args.span in
     let rest = marks v ++ copy_marks s marks (drop (k + 1) vs) in
-    rw (p.1, p.2) (going_refuse _ (statement s ∷ []) rest (going_as _ ((statement s ∷ []) ++ rest) (copies_marks s marks vs k c.loop-value-test.true) c.loop-value.invariant.marks) c.in_err-counted.ensures.refused)
+    rw (p.1, p.2) (going_refuse _ (statement s ∷ []) rest (going_as _ ((statement s ∷ []) ++ rest) (copies_marks s marks vs k c.loop-value-test.true) c.loop-value.invariant.marks) (c.in_err-counted.ensures.refused []))
 
 pub copies-returns-in_err-opened-clause-refused : goal.copies-returns-in_err-opened-clause-refused
 copies-returns-in_err-opened-clause-refused t c =
@@ -127,8 +138,8 @@ copies-loop-value-preserved t c =
     ∙ ap (λ (env : List Binding). opened_row body env) turn in
     record {
       tree =
-          copies_tree s row (view_items c.loop-value.out.items) (view_items c.push.new.self.items) vs k c.loop-value-test.true
-          (copy_row c.loop-value.out.items c.push.new.self.items c.opened.new.out.items c.block.result s (row v) c.in_ok-push.ensures.items c.block.ensures made)
+          copies_tree s row (view_items c.loop-value.out.items) (view_items c.add.new.out.items) vs k c.loop-value-test.true
+          (copy_row c.loop-value.out.items c.add.new.out.items c.opened.new.out.items c.block.result s (row v) c.in_ok-add.ensures c.block.ensures made)
           ∙ c.loop-value.invariant.tree;
       marks =
           going_step (marks v) rest
@@ -214,13 +225,13 @@ opened-returns-in_ok-values-in-For-clause-refused t c =
     let R : List Mark → Type 0 = λ ms. Refuses d n ms in
     subst R (sym (ap (λ (x : StmtTree). row_marks x bs) e ∙ loop_row_marks s l bs vs j)) (subst Q c.as_slice.ensures.value (subst P c.deref-in-For.ensures h)))
 
-pub opened-returns-in_ok-push-in_default : goal.opened-returns-in_ok-push-in_default
-opened-returns-in_ok-push-in_default t c =
+pub opened-returns-in_ok-add-in_default : goal.opened-returns-in_ok-add-in_default
+opened-returns-in_ok-add-in_default t c =
     let x = c.args.stmt.now in
     let bs = bindings c.args.scope.now in
     let f = no_loop x c.in_default.not-For in
     record {
-      tree = pushed_row c.args.out.now.items c.push.new.self.items c.in_ok-stmt-in_default.stmt x bs c.in_ok-push-in_default.ensures.items f c.in_ok-stmt-in_default.ensures.tree;
+      tree = pushed_row c.args.out.now.items c.add.new.out.items c.in_ok-stmt-in_default.stmt x bs c.in_ok-add-in_default.ensures f c.in_ok-stmt-in_default.ensures.tree;
       passed = let P : List Mark → Type 0 = λ ms. Passes c.args.count.now ms c.alone.new.count in subst P (sym (no_loop_marks x bs f)) c.in_ok-stmt-in_default.ensures.passed;
       refused = tt;
     }
