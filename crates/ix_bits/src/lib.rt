@@ -2,6 +2,7 @@
 #![tactic(auto)]
 
 mod arithmetic;
+mod boxes;
 mod laws;
 mod list;
 mod memory;
@@ -11,6 +12,7 @@ mod operator;
 mod width;
 
 pub use arithmetic::{binary, cast, is_negative, range, unary, width_of_both};
+pub use boxes::{boxed, boxed_pair, boxed_triple, put};
 pub use laws::number_laws;
 pub use list::List;
 pub use memory::Memory;

@@ -6,8 +6,8 @@ ghost use Rattle.ix_typing.specs.Texts.{judged_block};
 ghost use Rattle.ix_check.specs.Telling.{TellsBlock, TellsBlockBody, TellsBlocks};
 
 use crate::behaviour::{behaviour, name_behaviour};
-use ix_bits::List;
-use ix_check_parts::{CheckErr, put};
+use ix_bits::{List, put};
+use ix_check_parts::CheckErr;
 use ix_tree::{BlockText, TypedBlockText, TypedStmt};
 use ix_typing::{Body, State, TakenNames};
 use std::alloc::Global;

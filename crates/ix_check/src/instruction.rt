@@ -8,8 +8,8 @@ ghost use Rattle.ix_typing.specs.Texts.{behaviour, fields, judged_instr};
 ghost use Rattle.ix_check.specs.Telling.{TellsBody, TellsInstr, TellsInstrBody, TellsInstrs};
 
 use crate::behaviour::{behaviour, name_behaviour};
-use ix_bits::List;
-use ix_check_parts::{CheckErr, check_pieces, declare_fields, put};
+use ix_bits::{List, put};
+use ix_check_parts::{CheckErr, check_pieces, declare_fields};
 use ix_tree::{Instr, PieceText, Stmt, TypedInstr, TypedStmt};
 use ix_typing::{Body, State, TakenNames};
 use std::alloc::Global;

@@ -7,8 +7,8 @@ ghost use Rattle.ix_typing.specs.Texts.{global_state, globals, no_front, judged_
 ghost use Rattle.ix_check.specs.Telling.{TellsSections, TellsText, ComesWhere};
 
 use crate::section::section;
-use ix_bits::List;
-use ix_check_parts::{CheckErr, globals, put};
+use ix_bits::{List, put};
+use ix_check_parts::{CheckErr, globals};
 use ix_tree::{Section, Span, Tree, Typed, TypedSection};
 use ix_typing::{Front, Names, State, TakenNames, Targets};
 use std::alloc::Global;

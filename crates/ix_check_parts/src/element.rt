@@ -10,12 +10,11 @@ ghost use Rattle.ix_unroll.specs.Values as V;
 ghost use Rattle.ix_check_parts.specs.Telling.{seen, seen_pair, Tells, TellsType};
 
 use crate::CheckErr;
-use crate::boxes::{boxed_pair, boxed_triple};
 use crate::judged::{Judged, Pair};
 use crate::same::is_same;
 use crate::types::{goes_into, type_near};
 use crate::words::{is_constant, mem_word, with_name, x_word};
-use ix_bits::{BinOp, Ty, Value, is_negative};
+use ix_bits::{BinOp, Ty, Value, boxed_pair, boxed_triple, is_negative};
 use ix_tree::{Expr, ExprKind, Span, TypedExpr, TypedExprKind};
 use ix_typing::{Field, Role, Setting, Shape, State};
 use ix_unroll::constant_value;

@@ -2,7 +2,6 @@
 #![tactic(auto)]
 
 mod assign;
-mod boxes;
 mod element;
 mod error;
 mod expression;
@@ -18,7 +17,6 @@ mod target;
 mod types;
 mod words;
 
-pub use boxes::put;
 pub use error::CheckErr;
 pub use pieces::{declare_fields, pieces as check_pieces};
 pub use statement::statement as check_statement;

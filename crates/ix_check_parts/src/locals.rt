@@ -8,10 +8,9 @@ ghost use Rattle.ix_check_parts.specs.Telling.{Tells, TellsDecl, TellsDecls};
 
 use crate::CheckErr;
 use crate::assign::{fits_into, span_of};
-use crate::boxes::put;
 use crate::expression::expression;
 use crate::judged::Judged;
-use ix_bits::{Name, Ty};
+use ix_bits::{Name, Ty, put};
 use ix_tree::{Decl, Span, TypedDecl, TypedExpr};
 use ix_typing::{Role, Setting, State};
 use std::alloc::Global;

@@ -7,10 +7,9 @@ ghost use Rattle.ix_typing.specs.Expressions as T;
 ghost use Rattle.ix_check_parts.specs.Telling.{seen, seen_pair, Tells, TellsPair, TellsType};
 
 use crate::CheckErr;
-use crate::boxes::{boxed, boxed_pair, boxed_triple};
 use crate::judged::{Judged, Pair};
 use crate::types::{type_near, written_type};
-use ix_bits::{BinOp, Bits, Ty, UnOp};
+use ix_bits::{BinOp, Bits, Ty, UnOp, boxed, boxed_pair, boxed_triple};
 use ix_tree::{CastTo, Span, TypedExpr, TypedExprKind};
 use ix_types::{TypeErr, common, type_of_binary, type_of_unary};
 use std::alloc::Global;

@@ -9,12 +9,11 @@ ghost use Rattle.ix_typing.specs.Statements.{below_if, below_spawn, judged_decls
 ghost use Rattle.ix_check_parts.specs.Telling.{TellsAssign, TellsDecls, TellsStmt, TellsCondition, appended};
 
 use crate::CheckErr;
-use crate::boxes::{boxed_branches, boxed_stmt};
 use crate::expression::expression;
 use crate::judged::Branch;
 use crate::locals::declarations;
 use crate::types::written_type;
-use ix_bits::List;
+use ix_bits::{List, boxed, boxed_pair};
 use ix_tree::{
     Decl, Expr, Span, TypeText, TypedAssign, TypedDecl, TypedExpr, TypedStmt, TypedStmtKind,
 };
@@ -131,7 +130,7 @@ pub fn choice(
 fn chosen(alloc: Global, span: Span, c: TypedExpr, x: TypedStmt) -> Result<TypedStmt, CheckErr>
     ensures { (st : State) → TellsStmt result st (Ok (record { item = ts_if span (typed_view c) (typed_whole x); after = st })) }
 {
-    match boxed_stmt(alloc, x) {
+    match boxed(alloc, x) {
         Err(_) => {
             drop(c);
             Err(CheckErr::Memory)
@@ -187,7 +186,7 @@ fn chosen_else(
 ) -> Result<TypedStmt, CheckErr>
     ensures { (st : State) → TellsStmt result st (Ok (record { item = ts_if_else span (typed_view c) (typed_whole x) (typed_whole y); after = st })) }
 {
-    match boxed_branches(alloc, x, y) {
+    match boxed_pair(alloc, x, y) {
         Err(_) => {
             drop(c);
             Err(CheckErr::Memory)
@@ -229,7 +228,7 @@ pub fn spawned(
 {
     match x {
         Err(error) => Err(error),
-        Ok(x) => match boxed_stmt(alloc, x) {
+        Ok(x) => match boxed(alloc, x) {
             Err(_) => Err(CheckErr::Memory),
             Ok(x) => Ok(TypedStmt {
                 span,

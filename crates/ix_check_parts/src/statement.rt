@@ -6,13 +6,12 @@ ghost use Rattle.ix_check_parts.specs.Telling.{TellsStmt, TellsRow, other_branch
 
 use crate::CheckErr;
 use crate::assign::assignment;
-use crate::boxes::put;
 use crate::parts::{
     assign_of, below_if, below_spawn, choice, choice_else, condition, joined, locals, spawned,
     with_branch,
 };
 use crate::words::is_instruction;
-use ix_bits::List;
+use ix_bits::{List, put};
 use ix_tree::{LvalueKind, Span, Stmt, StmtKind, TypedStmt, TypedStmtKind};
 use ix_typing::{Names, Role, Setting, State};
 use std::alloc::Global;

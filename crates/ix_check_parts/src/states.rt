@@ -11,11 +11,10 @@ ghost use Rattle.ix_check_parts.specs.StateTelling.{TellsConstant, TellsConstant
 
 use crate::CheckErr;
 use crate::assign::{fits_into, span_of};
-use crate::boxes::put;
 use crate::expression::expression;
 use crate::judged::Judged;
 use crate::types::{nearest_type, written_type};
-use ix_bits::{List, Name, Ty};
+use ix_bits::{List, Name, Ty, put};
 use ix_tree::{
     Expr, Section, SectionKind, Span, State as StateText, StateKind, TypedExpr, TypedState,
     TypedStateKind,

@@ -5,10 +5,9 @@ ghost use Rattle.ix_tree.specs.Rows.{view_whole};
 ghost use Rattle.ix_parse_state.specs.Parts.{part_of};
 ghost use Rattle.ix_parse_state.specs.Views.{done_of};
 
-use crate::boxes::{boxed, boxed_pair};
 use crate::frame::OpenLoop;
 use crate::part::Part;
-use ix_bits::{List, Memory};
+use ix_bits::{List, Memory, boxed, boxed_pair};
 use ix_tree::{Assign, Decl, Loop, Span, Stmt, StmtKind, Token, TypeText};
 use std::alloc::Global;
 

@@ -2,7 +2,6 @@
 #![tactic(auto)]
 
 pub mod block;
-pub mod boxes;
 pub mod chain;
 pub mod frame;
 pub mod look;

@@ -3,11 +3,10 @@ ghost use Rattle.ix_tree.specs.Trees.{between, p_primary, p_unary, p_cast, p_bin
 ghost use Rattle.ix_tree.specs.View.{view};
 ghost use Rattle.ix_parse_state.specs.Parts.{part_of};
 
-use crate::boxes::{boxed, boxed_pair, boxed_triple};
 use crate::chain::{Indexed, Operand};
 use crate::operator::{binary_operator, power};
 use crate::part::Part;
-use ix_bits::{Memory, UnOp};
+use ix_bits::{Memory, UnOp, boxed, boxed_pair, boxed_triple};
 use ix_tree::{CastTo, Expr, ExprKind, Span, Token};
 use std::alloc::Global;
 

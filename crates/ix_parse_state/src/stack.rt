@@ -1,9 +1,8 @@
 ghost use Rattle.std.specs.Prelude.{◌≡◌, ◌+◌, [], ◌∷◌, length, IfOk, IfSome, IfNone};
 ghost use Rattle.ix_parse_state.specs.Views.{frame_of, stack_of};
 
-use crate::boxes::put;
 use crate::frame::Frame;
-use ix_bits::Memory;
+use ix_bits::{Memory, put};
 use std::alloc::Global;
 
 /// The stack with one more open production.

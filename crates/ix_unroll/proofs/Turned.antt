@@ -1,7 +1,7 @@
 -- The turns of a loop, one after another.
 use Rattle.std.proofs.Common.{◌≡◌, ℕ, zero, suc, Bool, true, false, cond, Some, None, List, [], ◌∷◌, ◌++◌, ℤ, refl, ap}
 use Rattle.ix_tree.specs.LoopHeads.{Binding, Valued, is_int}
-use Rattle.ix_tree.specs.Unrolling.{Head, Turns, these, breaks, Broken, bound, turns, assigned, after, on_value, on_test, test_value, next_value, turns_from, unassigned}
+use Rattle.ix_tree.specs.Unrolling.{Head, Turns, these, breaks, Broken, bound, turns, after, on_value, on_test, test_value, next_value, turns_from, unassigned}
 use Rattle.ix_unroll.specs.Values.{in_int}
 
 -- the turns with these values, and then more
@@ -49,7 +49,3 @@ turns_out (suc n) bs h x e = rw (no_int (is_int x.number) x.number e) refl
 pub started_out : (known touched : Bool) (t : Turns) → t ≡ breaks bound → cond known (unassigned touched t) (breaks bound) ≡ breaks bound
 started_out false touched t e = refl
 started_out true touched t e = rw e refl
-
--- a body that assigns the variable
-pub started_touched : (known touched : Bool) (t : Turns) (vs : List ℤ) → known ≡ true → touched ≡ true → t ≡ these vs → cond known (unassigned touched t) (breaks bound) ≡ breaks assigned
-started_touched known touched t vs e f g = rw (e, f, g) refl

@@ -1,4 +1,4 @@
-ghost use Rattle.std.specs.Prelude.{◌≡◌, ◌++◌, ◌∷◌, [], map, IfOk, OnOk, IfErr, IsOk};
+ghost use Rattle.std.specs.Prelude.{◌≡◌, map, IfOk, OnOk, IfErr, IsOk};
 ghost use Rattle.ix_tree.specs.Trees.{s_block, s_empty, s_locals, s_assign, s_if, s_if_else, s_spawn};
 ghost use Rattle.ix_tree.specs.View.{view, view_decl, view_assign};
 ghost use Rattle.ix_tree.specs.Rows.{view_whole, view_items};
@@ -9,7 +9,7 @@ ghost use Rattle.ix_unroll.specs.Telling.{KeepsErr};
 use crate::UnrollErr;
 use crate::put::{put, put_assign, put_decls};
 use crate::scope::Scope;
-use ix_bits::{List, Memory};
+use ix_bits::{List, Memory, boxed};
 use ix_tree::{Assign, Decl, Expr, Span, Stmt, StmtKind, TypeText};
 use std::alloc::Global;
 
@@ -130,20 +130,6 @@ fn both(
         span,
         kind: StmtKind::If(condition, x, Some(y)),
     })
-}
-
-/// Puts an item behind others.
-pub fn add<T: Drop>(out: &mut Vec<T>, item: T) -> Result<(), Memory>
-    ensures { OnOk result (out.new.items ≡ out.old.items ++ item ∷ []) }
-{
-    Ok(out.push(item)?)
-}
-
-// The statement in a box of its own.
-fn boxed(alloc: Global, x: Stmt) -> Result<Box<Stmt>, Memory>
-    ensures { IfOk result (λ r. view_whole r.value ≡ view_whole x) }
-{
-    Ok(Box::new(alloc, x)?)
 }
 
 /// A `spawn` over a body that is without loops.

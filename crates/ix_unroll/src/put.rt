@@ -4,7 +4,6 @@ ghost use Rattle.ix_tree.specs.View.{view, view_option, view_place, view_assign,
 ghost use Rattle.ix_tree.specs.Unrolling.{literal, number_tree, put_name, put, put_option, put_assign, put_decl, put_place};
 ghost use Rattle.ix_unroll.specs.Scopes.{bindings};
 
-use crate::parts::add;
 use crate::scope::{Scope, value_in};
 use ix_bits::{Bits, List, Memory, Name, Ty, UnOp, least_width};
 use ix_tree::{Assign, Decl, Expr, ExprKind, Lvalue, LvalueKind, Span};
@@ -166,7 +165,7 @@ pub fn put_decls(alloc: Global, scope: &Scope, decls: &[Decl]) -> Result<List<De
     let mut all = Vec::new(alloc);
     for decl in decls {
         let decl = put_decl(alloc, scope, decl)?;
-        add(&mut all, decl)?;
+        ix_bits::put(&mut all, decl)?;
     }
     Ok(List::from_vec(all))
 }

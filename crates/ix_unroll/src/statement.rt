@@ -8,9 +8,10 @@ ghost use Rattle.ix_unroll.specs.Telling.{Passes, Refuses};
 ghost use Rattle.ix_unroll.specs.Turning.{loop_tree, opened_row, row_marks, body_row, body_marks};
 
 use crate::UnrollErr;
-use crate::parts::{add, assignment, block, choice, choice_else, empty, locals, spawned};
+use crate::parts::{assignment, block, choice, choice_else, empty, locals, spawned};
 use crate::scope::Scope;
 use crate::turns::judged;
+use ix_bits::put;
 use ix_tree::{Assign, Decl, Loop, Span, Stmt, StmtKind, TypeText};
 use std::alloc::Global;
 
@@ -223,7 +224,7 @@ fn opened<'x>(
         }
         _ => {
             let stmt = alone(alloc, scope, count, stmt)?;
-            add(out, stmt)?;
+            put(out, stmt)?;
             Ok(())
         }
     }
@@ -249,7 +250,7 @@ fn copies<'x>(
         let turn = Scope::Inside(head.name.as_str(), *value, scope);
         let mut body = Vec::new(alloc);
         opened(alloc, &turn, count, &head.body, &mut body)?;
-        add(out, block(span, body))?;
+        put(out, block(span, body))?;
     }
     Ok(())
 }

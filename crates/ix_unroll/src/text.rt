@@ -6,10 +6,9 @@ ghost use Rattle.ix_tree.specs.Unrolling.{alone_instr, alone_block, alone_sectio
 ghost use Rattle.ix_unroll.specs.Telling.{Passes, Refuses, ComesWhere};
 
 use crate::UnrollErr;
-use crate::parts::add;
 use crate::scope::Scope;
 use crate::statement::alone;
-use ix_bits::List;
+use ix_bits::{List, put};
 use ix_tree::{BlockText, Instr, Section, SectionKind, Span, Stmt, Tree};
 use std::alloc::Global;
 
@@ -54,7 +53,7 @@ fn unrolled_sections(alloc: Global, sections: List<Section>) -> Result<List<Sect
     let mut out = Vec::new(alloc);
     for section in sections.into_vec() {
         let section = unrolled_section(alloc, &mut count, section)?;
-        add(&mut out, section)?;
+        put(&mut out, section)?;
     }
     Ok(List::from_vec(out))
 }
@@ -100,7 +99,7 @@ fn unrolled_instructions(
     let mut out = Vec::new(alloc);
     for instr in all.into_vec() {
         let instr = unrolled_instruction(alloc, count, instr)?;
-        add(&mut out, instr)?;
+        put(&mut out, instr)?;
     }
     Ok(List::from_vec(out))
 }
@@ -150,7 +149,7 @@ fn unrolled_blocks(
     let mut out = Vec::new(alloc);
     for block in all.into_vec() {
         let block = unrolled_block(alloc, count, block)?;
-        add(&mut out, block)?;
+        put(&mut out, block)?;
     }
     Ok(List::from_vec(out))
 }

@@ -11,7 +11,7 @@ loop-decl-preserved c =
     let made = λ (d : Decl). put_decl (bindings c.args.scope.now) (view_decl d) in
     let xs = c.args.decls.now in
     let k = c.loop-decl.decl-index in
-    ap (λ (ys : List Decl). map view_decl ys ++ map made (drop (k + 1) xs)) c.in_ok-add.ensures
+    ap (λ (ys : List Decl). map view_decl ys ++ map made (drop (k + 1) xs)) c.in_ok-put.ensures
     ∙ mapped_step view_decl made c.loop-decl.all.items xs k c.decl-item.result c.in_ok-decl.decl c.loop-decl-test.true c.decl-item.is c.in_ok-decl.ensures
     ∙ c.loop-decl.invariant
 

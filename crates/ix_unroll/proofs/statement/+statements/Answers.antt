@@ -138,8 +138,8 @@ copies-loop-value-preserved t c =
     ∙ ap (λ (env : List Binding). opened_row body env) turn in
     record {
       tree =
-          copies_tree s row (view_items c.loop-value.out.items) (view_items c.add.new.out.items) vs k c.loop-value-test.true
-          (copy_row c.loop-value.out.items c.add.new.out.items c.opened.new.out.items c.block.result s (row v) c.in_ok-add.ensures c.block.ensures made)
+          copies_tree s row (view_items c.loop-value.out.items) (view_items c.put.new.out.items) vs k c.loop-value-test.true
+          (copy_row c.loop-value.out.items c.put.new.out.items c.opened.new.out.items c.block.result s (row v) c.in_ok-put.ensures c.block.ensures made)
           ∙ c.loop-value.invariant.tree;
       marks =
           going_step (marks v) rest
@@ -225,13 +225,13 @@ opened-returns-in_ok-values-in-For-clause-refused t c =
     let R : List Mark → Type 0 = λ ms. Refuses d n ms in
     subst R (sym (ap (λ (x : StmtTree). row_marks x bs) e ∙ loop_row_marks s l bs vs j)) (subst Q c.as_slice.ensures.value (subst P c.deref-in-For.ensures h)))
 
-pub opened-returns-in_ok-add-in_default : goal.opened-returns-in_ok-add-in_default
-opened-returns-in_ok-add-in_default t c =
+pub opened-returns-in_ok-put-in_default : goal.opened-returns-in_ok-put-in_default
+opened-returns-in_ok-put-in_default t c =
     let x = c.args.stmt.now in
     let bs = bindings c.args.scope.now in
     let f = no_loop x c.in_default.not-For in
     record {
-      tree = pushed_row c.args.out.now.items c.add.new.out.items c.in_ok-stmt-in_default.stmt x bs c.in_ok-add-in_default.ensures f c.in_ok-stmt-in_default.ensures.tree;
+      tree = pushed_row c.args.out.now.items c.put.new.out.items c.in_ok-stmt-in_default.stmt x bs c.in_ok-put-in_default.ensures f c.in_ok-stmt-in_default.ensures.tree;
       passed = let P : List Mark → Type 0 = λ ms. Passes c.args.count.now ms c.alone.new.count in subst P (sym (no_loop_marks x bs f)) c.in_ok-stmt-in_default.ensures.passed;
       refused = tt;
     }

@@ -33,7 +33,7 @@ loop-block-preserved c =
     let more = length_push c.loop-block.yielded x in
     rw more (record {
       tree =
-          ap (λ (ys : List BlockText). map view_block ys ++ map made (drop (k + 1) xs)) c.in_ok-add.ensures
+          ap (λ (ys : List BlockText). map view_block ys ++ map made (drop (k + 1) xs)) c.in_ok-put.ensures
           ∙ mapped_step view_block made c.loop-block.out.items xs k x c.in_ok-block.block turn.0 turn.1 c.in_ok-block.ensures.tree
           ∙ c.loop-block.invariant.tree;
       marks = going_step (met (view_whole x.body) []) rest (going_as _ (met (view_whole x.body) [] ++ rest) (blocks_rest xs k x turn.0 turn.1) c.loop-block.invariant.marks) c.in_ok-block.ensures.passed;

@@ -33,7 +33,7 @@ loop-instr-preserved c =
     let more = length_push c.loop-instr.yielded x in
     rw more (record {
       tree =
-          ap (λ (ys : List Instr). map view_instr ys ++ map made (drop (k + 1) xs)) c.in_ok-add.ensures
+          ap (λ (ys : List Instr). map view_instr ys ++ map made (drop (k + 1) xs)) c.in_ok-put.ensures
           ∙ mapped_step view_instr made c.loop-instr.out.items xs k x c.in_ok-instr.instr turn.0 turn.1 c.in_ok-instr.ensures.tree
           ∙ c.loop-instr.invariant.tree;
       marks = going_step (met (view_whole x.body) []) rest (going_as _ (met (view_whole x.body) [] ++ rest) (instrs_rest xs k x turn.0 turn.1) c.loop-instr.invariant.marks) c.in_ok-instr.ensures.passed;

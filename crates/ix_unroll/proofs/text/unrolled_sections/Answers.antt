@@ -32,7 +32,7 @@ loop-section-preserved c =
     let more = length_push c.loop-section.yielded x in
     rw more (record {
       tree =
-          ap (λ (ys : List Section). map view_section ys ++ map made (drop (k + 1) xs)) c.in_ok-add.ensures
+          ap (λ (ys : List Section). map view_section ys ++ map made (drop (k + 1) xs)) c.in_ok-put.ensures
           ∙ mapped_step view_section made c.loop-section.out.items xs k x c.in_ok-section.section turn.0 turn.1 c.in_ok-section.ensures.tree
           ∙ c.loop-section.invariant.tree;
       marks = going_step (met_kind (view_section x).kind) rest (going_as _ (met_kind (view_section x).kind ++ rest) (sections_rest xs k x turn.0 turn.1) c.loop-section.invariant.marks) c.in_ok-section.ensures.passed;

@@ -1,6 +1,6 @@
 ghost use Rattle.std.specs.Prelude.{◌≡◌, ◌++◌, ◌∷◌, [], IfOk, OnOk};
 
-use ix_bits::Memory;
+use crate::Memory;
 use std::alloc::Global;
 
 /// A value in a box of its own.
