@@ -1,5 +1,5 @@
-use Rattle.lawful_rows.proofs.DetourRows.{detour_lawful, unflushed_refused, no_redirect_refused, missing_stop_refused}
-use Rattle.lawful_rows.proofs.laws.detour_run.Goals as goal
+use Rattle.row_laws.proofs.DetourRows.{detour_lawful, unflushed_refused, no_redirect_refused, missing_stop_refused}
+use Rattle.row_laws.proofs.laws.detour_run.Goals as goal
 
 pub returns-clause-rows : goal.returns-clause-rows
 returns-clause-rows c = detour_lawful

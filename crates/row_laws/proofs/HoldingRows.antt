@@ -15,9 +15,9 @@ use Rattle.rv_trace.specs.Trace.{has_serial, is_flushed, is_retired, place, newe
 use Rattle.rv_trace.specs.RowParts.{Name, name_of, leaves, ComesFirst}
 use Rattle.rv_lawful.specs.Settings.{Stands, tailed}
 use Rattle.rv_lawful.specs.LawfulTrace.{Moves, fetch_address, next_serial, reads_of, IsWordOf, IsDueToStop, WaitsForOperand, WaitsForCustom, OwnHold, StopsRun, ShowsHold, Settles, successor, LawfulRow, Lawful}
-use Rattle.lawful_rows.specs.Hands.{quiet, going}
-use Rattle.lawful_rows.specs.Holding.{writing, holding_hand, holding, holding_asks, reading, writer, reader, sum, break, row_0, row_1, held_row, row_2, row_3, row_4, row_5, row_6, row_7, last_row, row_8, two_rows, five_rows, eight_rows, holding_rows, IsUnlawful, untrue_hold, later_hold, tail_one_more, tail_one_less, tail_left_out, custom_left_out, skipped_word, wrong_stop, missing_stop}
-use Rattle.lawful_rows.proofs.Stages.{true_not_false, no_register, no_custom, same_cell, Free, free_outside, free_behind, done_below, no_own, goes_before, shows_none, shows_behind, shows_own, custom_first, operand_first, shows_tail, shows_last, settles_at_ex, no_turn, none_settles, no_stop, some_left, none_retires, one_retires}
+use Rattle.row_laws.specs.Hands.{quiet, going}
+use Rattle.row_laws.specs.Holding.{writing, holding_hand, holding, holding_asks, reading, writer, reader, sum, break, row_0, row_1, held_row, row_2, row_3, row_4, row_5, row_6, row_7, last_row, row_8, two_rows, five_rows, eight_rows, holding_rows, IsUnlawful, untrue_hold, later_hold, tail_one_more, tail_one_less, tail_left_out, custom_left_out, skipped_word, wrong_stop, missing_stop}
+use Rattle.row_laws.proofs.Stages.{true_not_false, no_register, no_custom, same_cell, Free, free_outside, free_behind, done_below, no_own, goes_before, shows_none, shows_behind, shows_own, custom_first, operand_first, shows_tail, shows_last, settles_at_ex, no_turn, none_settles, no_stop, some_left, none_retires, one_retires}
 
 at_front : ◌≡◌ {A = ℕ} 0 1 → ⊥
 at_front e = absurd (omega (arith, e))

@@ -1,5 +1,5 @@
-use Rattle.lawful_rows.proofs.AddingRows.{adding_lawful, adding_agrees, wrong_value_refused, wrong_order_refused, other_stop_refused}
-use Rattle.lawful_rows.proofs.laws.adding_run.Goals as goal
+use Rattle.row_laws.proofs.AddingRows.{adding_lawful, adding_agrees, wrong_value_refused, wrong_order_refused, other_stop_refused}
+use Rattle.row_laws.proofs.laws.adding_run.Goals as goal
 
 pub returns-clause-rows : goal.returns-clause-rows
 returns-clause-rows c = adding_lawful

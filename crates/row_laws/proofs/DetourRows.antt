@@ -12,9 +12,9 @@ use Rattle.rv_trace.specs.Trace.{has_serial, is_flushed, is_retired, place}
 use Rattle.rv_trace.specs.declared.row.Cell.{Cell}
 use Rattle.rv_trace.specs.declared.row.Hold.{Hold}
 use Rattle.rv_trace.specs.declared.row.Row.{Row}
-use Rattle.lawful_rows.specs.Detour.{detour_hand, detour, leaping, passed, target, row_0, turn_row, row_1, row_2, last_row, row_3, two_rows, three_rows, detour_rows, IsUnlawful, unflushed, no_redirect, missing_stop}
-use Rattle.lawful_rows.specs.Hands.{going, none_flushed}
-use Rattle.lawful_rows.proofs.Stages.{true_not_false, same_cell, free_outside, free_behind, done_below, no_own, shows_none, shows_last, none_settles, no_stop, some_left, none_retires, one_retires}
+use Rattle.row_laws.specs.Detour.{detour_hand, detour, leaping, passed, target, row_0, turn_row, row_1, row_2, last_row, row_3, two_rows, three_rows, detour_rows, IsUnlawful, unflushed, no_redirect, missing_stop}
+use Rattle.row_laws.specs.Hands.{going, none_flushed}
+use Rattle.row_laws.proofs.Stages.{true_not_false, same_cell, free_outside, free_behind, done_below, no_own, shows_none, shows_last, none_settles, no_stop, some_left, none_retires, one_retires}
 
 at_front : ◌≡◌ {A = ℕ} 0 1 → ⊥
 at_front e = absurd (omega (arith, e))

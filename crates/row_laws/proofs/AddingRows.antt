@@ -32,9 +32,9 @@ use Rattle.rv_trace.specs.declared.row.Cell.{Cell}
 use Rattle.rv_trace.specs.declared.row.Hold.{Hold}
 use Rattle.rv_trace.specs.declared.row.Hold.TheVariants.{Operand, Behind}
 use Rattle.rv_trace.specs.declared.row.Row.{Row}
-use Rattle.lawful_rows.specs.Adding.{adding_image, adding_asks, adding_hand, adding, writes, five, seven, sum, break, row_0, row_1, row_2, row_3, row_4, last_row, row_5, two_rows, five_rows, adding_rows, IsOther, wrong_value, wrong_order, other_stop}
-use Rattle.lawful_rows.specs.Hands.{three, no_customs}
-use Rattle.lawful_rows.proofs.Stages.{true_not_false, no_register, no_custom, same_cell, AllNamed, named, word_is, Free, free_outside, free_behind, done_below, no_own, goes_before, shows_none, shows_behind, shows_own, operand_first, shows_last, settles_at_ex, no_turn, none_settles, no_stop, some_left, none_retires, one_retires}
+use Rattle.row_laws.specs.Adding.{adding_image, adding_asks, adding_hand, adding, writes, five, seven, sum, break, row_0, row_1, row_2, row_3, row_4, last_row, row_5, two_rows, five_rows, adding_rows, IsOther, wrong_value, wrong_order, other_stop}
+use Rattle.row_laws.specs.Hands.{three, no_customs}
+use Rattle.row_laws.proofs.Stages.{true_not_false, no_register, no_custom, same_cell, AllNamed, named, word_is, Free, free_outside, free_behind, done_below, no_own, goes_before, shows_none, shows_behind, shows_own, operand_first, shows_last, settles_at_ex, no_turn, none_settles, no_stop, some_left, none_retires, one_retires}
 
 -- The run
 

@@ -14,7 +14,7 @@ use Rattle.rv_trace.specs.declared.row.Cell.{Cell}
 use Rattle.rv_trace.specs.declared.row.Hold.{Hold}
 use Rattle.rv_trace.specs.declared.row.Hold.TheVariants.{Operand, Behind}
 use Rattle.rv_trace.specs.declared.row.Row.{Row}
-use Rattle.lawful_rows.specs.Hands.{Hand, by_hand, three, cell, none_flushed, row_with, row_of}
+use Rattle.row_laws.specs.Hands.{Hand, by_hand, three, cell, none_flushed, row_with, row_of}
 
 -- addi x1, x0, 5 (00500093); addi x2, x0, 7 (00700113); add x3, x1, x2 (002081b3); ebreak (00100073)
 abbrev pub adding_image : List ℕ

@@ -1,10 +1,10 @@
 ghost use Rattle.rv_lawful.specs.Headline.{Agreeing};
 ghost use Rattle.rv_lawful.specs.LawfulTrace.{Lawful};
 ghost use Rattle.rv_seq.specs.Bare.{bare};
-ghost use Rattle.lawful_rows.specs.Adding.{adding, adding_image, adding_rows, IsOther, wrong_value, wrong_order, other_stop};
-ghost use Rattle.lawful_rows.specs.Detour as leap;
-ghost use Rattle.lawful_rows.specs.Holding.{holding, holding_rows, IsUnlawful, untrue_hold, later_hold, tail_one_more, tail_one_less, tail_left_out, custom_left_out, idle_cell, skipped_word, wrong_stop, missing_stop, after_stop, cell_behind};
-ghost use Rattle.lawful_rows.specs.Turning as turn;
+ghost use Rattle.row_laws.specs.Adding.{adding, adding_image, adding_rows, IsOther, wrong_value, wrong_order, other_stop};
+ghost use Rattle.row_laws.specs.Detour as leap;
+ghost use Rattle.row_laws.specs.Holding.{holding, holding_rows, IsUnlawful, untrue_hold, later_hold, tail_one_more, tail_one_less, tail_left_out, custom_left_out, idle_cell, skipped_word, wrong_stop, missing_stop, after_stop, cell_behind};
+ghost use Rattle.row_laws.specs.Turning as turn;
 
 /// The laws of rows, tried on a hand-made run whose first instruction is Tight and writes a custom register late: they hold of its rows, in which
 /// it is held by Tail and the next instruction by Custom, and of none in which one thing is changed.

@@ -1,5 +1,5 @@
-use Rattle.lawful_rows.proofs.HoldingRows.{holding_lawful, untrue_hold_refused, later_hold_refused, tail_one_more_refused, tail_one_less_refused, tail_left_out_refused, custom_left_out_refused, skipped_word_refused, wrong_stop_refused, missing_stop_refused}
-use Rattle.lawful_rows.proofs.laws.holding_run.Goals as goal
+use Rattle.row_laws.proofs.HoldingRows.{holding_lawful, untrue_hold_refused, later_hold_refused, tail_one_more_refused, tail_one_less_refused, tail_left_out_refused, custom_left_out_refused, skipped_word_refused, wrong_stop_refused, missing_stop_refused}
+use Rattle.row_laws.proofs.laws.holding_run.Goals as goal
 
 pub returns-clause-rows : goal.returns-clause-rows
 returns-clause-rows c = holding_lawful

@@ -1,5 +1,5 @@
-use Rattle.lawful_rows.proofs.TurningRows.{turning_lawful, unflushed_refused, one_unflushed_refused, no_redirect_refused, late_left_out_refused}
-use Rattle.lawful_rows.proofs.laws.turning_run.Goals as goal
+use Rattle.row_laws.proofs.TurningRows.{turning_lawful, unflushed_refused, one_unflushed_refused, no_redirect_refused, late_left_out_refused}
+use Rattle.row_laws.proofs.laws.turning_run.Goals as goal
 
 pub returns-clause-rows : goal.returns-clause-rows
 returns-clause-rows c = turning_lawful

@@ -13,7 +13,7 @@ use Rattle.rv_trace.specs.RowParts.{name_of, leaves, ComesFirst}
 use Rattle.rv_waits.specs.Waits.{wait_at}
 use Rattle.rv_lawful.specs.Settings.{Stands, accesses_before, tailed}
 use Rattle.rv_lawful.specs.LawfulTrace.{IsWordOf, WaitsForOperand, WaitsForCustom, WaitsForJump, WaitsToDrain, WaitsForMemory, WaitsForModule, OwnHold, StopsRun, WaitsBehind, TrueHold, ShowsHold, IsSettlingStage, Settles, successor, IsMismatch, Successors, IsEmptyAfter, StopsRightly, Retires, reads_of}
-use Rattle.lawful_rows.specs.Hands.{Hand, by_hand, no_customs, none_flushed}
+use Rattle.row_laws.specs.Hands.{Hand, by_hand, no_customs, none_flushed}
 
 pub true_not_false : true ≡ false → ⊥
 true_not_false e = grind (arith, e)

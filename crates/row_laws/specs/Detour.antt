@@ -8,7 +8,7 @@ use Rattle.rv_seq.specs.declared.commit.Stop.{Stop}
 use Rattle.rv_seq.specs.declared.commit.Stop.TheVariants.{Ebreak}
 use Rattle.rv_trace.specs.declared.row.Cell.{Cell}
 use Rattle.rv_trace.specs.declared.row.Row.{Row}
-use Rattle.lawful_rows.specs.Hands.{Hand, by_hand, quiet, going, cell, none_flushed, row_with, row_of}
+use Rattle.row_laws.specs.Hands.{Hand, by_hand, quiet, going, cell, none_flushed, row_with, row_of}
 
 -- the first instruction goes on at address 8, where the run stops
 abbrev pub detour_answer : ℕ → StepAnswer

@@ -15,9 +15,9 @@ use Rattle.rv_trace.specs.Trace.{has_serial, is_flushed, is_retired, place, newe
 use Rattle.rv_trace.specs.RowParts.{name_of, leaves}
 use Rattle.rv_lawful.specs.Settings.{Stands, tailed}
 use Rattle.rv_lawful.specs.LawfulTrace.{fetch_address, next_serial, IsDueToStop, WaitsForJump, OwnHold, StopsRun, ShowsHold, Settles, successor, IsMismatch, LawfulRow, Lawful}
-use Rattle.lawful_rows.specs.Hands.{quiet, going, no_customs, none_flushed}
-use Rattle.lawful_rows.specs.Turning.{turning_hand, turning, turning_asks, jump, passed, passed_too, target, row_0, row_1, row_2, turn_row, both, row_3, row_4, row_5, two_rows, three_rows, turning_rows, IsUnlawful, unflushed, one_unflushed, no_redirect, late_left_out}
-use Rattle.lawful_rows.proofs.Stages.{true_not_false, no_register, no_custom, same_cell, free_outside, free_behind, done_below, no_own, goes_before, shows_none, shows_behind, shows_own, late_first, shows_tail, shows_last, none_settles, no_stop, some_left, none_retires, one_retires}
+use Rattle.row_laws.specs.Hands.{quiet, going, no_customs, none_flushed}
+use Rattle.row_laws.specs.Turning.{turning_hand, turning, turning_asks, jump, passed, passed_too, target, row_0, row_1, row_2, turn_row, both, row_3, row_4, row_5, two_rows, three_rows, turning_rows, IsUnlawful, unflushed, one_unflushed, no_redirect, late_left_out}
+use Rattle.row_laws.proofs.Stages.{true_not_false, no_register, no_custom, same_cell, free_outside, free_behind, done_below, no_own, goes_before, shows_none, shows_behind, shows_own, late_first, shows_tail, shows_last, none_settles, no_stop, some_left, none_retires, one_retires}
 
 at_front : ◌≡◌ {A = ℕ} 0 1 → ⊥
 at_front e = absurd (omega (arith, e))

@@ -11,7 +11,7 @@ use Rattle.rv_trace.specs.declared.row.Cell.{Cell}
 use Rattle.rv_trace.specs.declared.row.Hold.{Hold}
 use Rattle.rv_trace.specs.declared.row.Hold.TheVariants.{Late, Tail, Behind}
 use Rattle.rv_trace.specs.declared.row.Row.{Row}
-use Rattle.lawful_rows.specs.Hands.{Hand, by_hand, quiet, no_customs, going, cell, none_flushed, row_with, row_of}
+use Rattle.row_laws.specs.Hands.{Hand, by_hand, quiet, no_customs, going, cell, none_flushed, row_with, row_of}
 
 -- the first instruction writes the pc late, in one more cycle in the last stage
 abbrev pub turning_asks : ℕ → Asks
