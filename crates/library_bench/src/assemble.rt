@@ -1,13 +1,8 @@
-//! Assembles a large source: the lines on the standard input, 4,096 times one behind the other, with `@` as the number of the copy. It prints
-//! how many words the image has, and the sum of the words modulo 2^32.
-#![tactic(auto)]
-
 use ix_bits::{List, Memory, Name};
 use ix_tree::Extension;
 use rv_asm::assemble;
 use std::alloc::Global;
 use std::io;
-use std::io::Read;
 
 /// How often the lines are repeated.
 const COPIES: u16 = 4096;
@@ -64,10 +59,10 @@ fn words(alloc: Global, lines: &[u8]) -> Result<(u32, u32), Memory> {
     Ok((image.len(), sum))
 }
 
-fn main(rt: HostRuntime) -> io::Result<()> {
-    let mut lines = Vec::new(rt.alloc());
-    rt.reader().read_to_end(&mut lines)?;
-    match words(rt.alloc(), lines.as_slice()) {
+/// Assembles the lines of a source, 4,096 times one behind the other, with `@` as the number of the copy. It
+/// prints how many words the image has, and the sum of the words modulo 2^32.
+pub(crate) fn run(rt: &impl Print, alloc: Global, lines: &[u8]) -> io::Result<()> {
+    match words(alloc, lines) {
         Ok((count, sum)) => println!(rt; "{count} words, sum {sum}"),
         Err(Memory) => println!(rt; "refused"),
     }

@@ -2,7 +2,7 @@ ghost use Rattle.std.specs.Prelude.{◌≤◌};
 
 use ix_eval::{Effect, Inputs};
 
-// The pattern that is left of a number in so many bits, 1 to 128.
+/// The pattern that is left of a number in so many bits, 1 to 128.
 fn low(number: u128, width: u32) -> u128
     requires least { 1 ≤ width }
     requires most { width ≤ 128 }
@@ -10,7 +10,7 @@ fn low(number: u128, width: u32) -> u128
     number & (u128::MAX >> (128 - width))
 }
 
-// The number of a pattern of so many bits with a sign, as 128 bits.
+/// The number of a pattern of so many bits with a sign, as 128 bits.
 fn signed(pattern: u128, width: u32) -> u128
     requires least { 1 ≤ width }
     requires most { width ≤ 128 }
@@ -19,7 +19,7 @@ fn signed(pattern: u128, width: u32) -> u128
     (pattern ^ sign).wrapping_sub(sign)
 }
 
-// The effect that writes a word to rd, and nothing else.
+/// The effect that writes a word to rd, and nothing else.
 fn written(word: u32) -> Effect {
     Effect {
         rd: Some(word),
@@ -32,7 +32,7 @@ fn written(word: u32) -> Effect {
 
 /// The effect of a square root of a whole number, bit by bit.
 #[inline(never)]
-pub fn square_root(inputs: &Inputs) -> Effect {
+pub(crate) fn square_root(inputs: &Inputs) -> Effect {
     let mut n = u128::from(inputs.rs1);
     let mut r = 0u128;
     for turn in 0..16u32 {
@@ -50,7 +50,7 @@ pub fn square_root(inputs: &Inputs) -> Effect {
 
 /// The effect of a sum of the products of four signed bytes.
 #[inline(never)]
-pub fn dot_product(inputs: &Inputs) -> Effect {
+pub(crate) fn dot_product(inputs: &Inputs) -> Effect {
     let a = u128::from(inputs.rs1);
     let b = u128::from(inputs.rs2);
     let mut sum = 0u128;

@@ -29,12 +29,7 @@ const END: u8 = 30;
 const TOO_MANY: usize = 0x1_0000_0000;
 
 /// Puts the answer to what a word asks of a text.
-fn put_answer(
-    out: &mut String,
-    alloc: Global,
-    word: &[u8],
-    text: &[u8],
-) -> Result<(), AllocError> {
+fn put_answer(out: &mut String, alloc: Global, word: &[u8], text: &[u8]) -> Result<(), AllocError> {
     if text.len() >= TOO_MANY {
         return out.push_str("too long\n");
     }

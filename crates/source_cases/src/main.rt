@@ -29,12 +29,7 @@ pub(crate) fn put_text(out: &mut String, bytes: &[u8]) -> Result<(), AllocError>
 }
 
 /// Puts the answer to what a word asks of a text.
-fn put_answer(
-    out: &mut String,
-    alloc: Global,
-    word: &[u8],
-    text: &[u8],
-) -> Result<(), AllocError> {
+fn put_answer(out: &mut String, alloc: Global, word: &[u8], text: &[u8]) -> Result<(), AllocError> {
     match word {
         b"waits" => waits::put_answer(out, alloc, text),
         b"image" => image::put_answer(out, alloc, text),
