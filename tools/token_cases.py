@@ -1,8 +1,7 @@
 #!/usr/bin/env python3
-"""Makes stdin and stdout of crates/token_cases: texts, and by hand their tokens with their places, or why they have none."""
-from pathlib import Path
+"""Makes the cases `tokens` of crates/text_cases: texts, and by hand their tokens with their places, or why they have none."""
+from text_groups import put_group
 
-FOLDER = Path(__file__).resolve().parent.parent / "crates" / "token_cases"
 NAME64 = "a123456789_123456789_123456789_123456789_123456789_123456789_123"
 GREATEST = 2**128 - 1
 
@@ -58,7 +57,4 @@ REFUSED = [(text, "BadNumber 0") for text in ["5'd32", "0x", "0b", "0b2", "00", 
     (f"1 {NAME64}4", "BadByte 2"),
 ]
 
-with open(FOLDER / "stdin", "w", newline="", encoding="utf-8") as stdin, open(FOLDER / "stdout", "w", newline="") as stdout:
-    for text, told in READ + REFUSED:
-        stdin.write(text + "\x1e")
-        stdout.write(told + "\n")
+put_group("tokens", [(text.encode().decode("latin-1"), told) for text, told in READ + REFUSED])

@@ -1,5 +1,5 @@
 #!/usr/bin/env python3
-"""Makes stdin and stdout of crates/unroll_cases: unroll_cases.py VECTORS ...
+"""Makes the cases `unrolled` of crates/text_cases: unroll_cases.py VECTORS ...
 
 Each VECTORS is a file of JSON lines, plain or gzipped, a case a line, whose `files` or `ext` have texts of extensions; taken are those with
 a loop that are not nested too deep, and before them the texts of tools/unroll (in a file with several, lines of four dashes part them). The answers come from the parser and the unrolling below, which follow docs/LANGUAGE.md
@@ -11,8 +11,9 @@ import pathlib
 import re
 import sys
 
+from text_groups import put_group
+
 TOP = pathlib.Path(__file__).resolve().parent.parent
-CRATE = TOP / "crates" / "unroll_cases"
 MOST_TURNS, MOST_STATEMENTS = 128, 16384
 
 TOKEN = re.compile(
@@ -618,12 +619,8 @@ def main():
         for text in texts_of(path):
             if isinstance(text, str) and re.search(r"\bfor\b", text) and text not in taken:
                 taken.append(text)
-    with open(CRATE / "stdin", "w", newline="") as stdin, open(CRATE / "stdout", "w", newline="") as stdout:
-        for text in taken:
-            told = answer(text) if text.isascii() else None
-            if told is not None and len(told) < 20_000:
-                stdin.write(text + "\x1e")
-                stdout.write(told + "\n")
+    answered = [(text, answer(text)) for text in taken if text.isascii()]
+    put_group("unrolled", [(text, told) for text, told in answered if told is not None and len(told) < 20_000])
 
 
 if __name__ == "__main__":
