@@ -1,5 +1,9 @@
-"""What the makers of cases share. A program of cases reads `stdin`, cases that are each ended by a byte 30 and begin with a word, and writes
-`stdout`. A maker writes the cases of one word anew, where those of the word stood, and leaves the others as they are."""
+"""What the makers of cases share.
+
+A program of cases reads `stdin`, cases that are each ended by a byte 30 and begin with a word, and
+writes `stdout`. A maker writes the cases of one word anew, where those of the word stood, and
+leaves the others as they are.
+"""
 import pathlib
 import re
 
@@ -23,8 +27,11 @@ def write(path, texts):
 
 
 def replace(crate, word, made, answer_end="\n", answers=lambda case: 1):
-    """Writes the cases of a word anew. `made` has pairs: a case without its word and its end, and what the program answers.
-    `answers` says how many pieces of stdout, each ended by `answer_end`, answer a case of another word."""
+    """Writes the cases of a word anew.
+
+    `made` has pairs: a case without its word and its end, and what the program answers. `answers`
+    says how many pieces of stdout, each ended by `answer_end`, answer a case of another word.
+    """
     folder = TOP / "crates" / crate
     cases = pieces(read(folder / "stdin"), END)
     due = pieces(read(folder / "stdout"), answer_end)

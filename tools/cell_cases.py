@@ -1,6 +1,9 @@
-#!/usr/bin/env python3
-"""Makes the case `cells` of crates/number_cases: each of the 24 kinds of operations that compute, at operands of 1, 32, 33, 64 and 128 bits (less
-where the result would pass 128), on patterns at the ends of their ranges and on some that look random. The results are of exact whole numbers."""
+"""Makes the case `cells` of crates/number_cases.
+
+It has each of the 24 kinds of operations that compute, at operands of 1, 32, 33, 64 and 128 bits
+(less where the result would pass 128), on patterns at the ends of their ranges and on some that
+look random. The results are of exact whole numbers.
+"""
 import random
 
 from case_files import replace

@@ -1,5 +1,7 @@
 #!/usr/bin/env python3
-"""Makes the cases `graph` of crates/behaviour_cases: graph_cases.py VECTORS [--first N] [NAME ...]
+"""Makes the cases `graph` of crates/behaviour_cases.
+
+Use: graph_cases.py VECTORS [--first N] [NAME ...]
 
 VECTORS is a file of JSON lines, plain or gzipped, a case a line: `name`, `ext` (the text of an extension), `tables` and `behaviours`,
 each with its `name`, and `ops` or a `refusal`. Taken are the cases with these names and, of each group of names that differ in

@@ -1,5 +1,7 @@
 #!/usr/bin/env python3
-"""Makes the cases `generate` of crates/net_cases: netgen_cases.py VECTORS [--first N] [--most-lives N]
+"""Makes the cases `generate` of crates/net_cases.
+
+Use: netgen_cases.py VECTORS [--first N] [--most-lives N]
 
 Before the vectors stand the sum of two registers in given cycles, and the extensions of examples/ on the cores of three, four and five stages, and on a
 slow one, with tokens whose inputs look random.
@@ -98,10 +100,11 @@ def sums():
 
 
 def given_cycles(case, most):
-    """A case of the vectors: each of its modules in the cycles that are given, so many lives at most."""
+    """A case of the vectors: its modules in the cycles that are given, so many lives at most."""
     text, sheet = files_of(case)
-    lives = [lives_of(module, most) for module in case["modules"]]
-    heads = (head(module["name"], module["inputs"], module["outputs"]) for module in case["modules"])
+    modules = case["modules"]
+    lives = [lives_of(module, most) for module in modules]
+    heads = (head(module["name"], module["inputs"], module["outputs"]) for module in modules)
     due = "".join(line + due for line, (_, due) in zip(heads, lives))
     return f"{text}\x1f{sheet}\x1f" + "\x1d".join(put for put, _ in lives), due + END
 
