@@ -5,7 +5,8 @@ use ix_bits::{Bits, Ty, range};
 use ix_eval::Effect;
 use ix_graph::{Kind, Op, Role, kind_role};
 
-/// What is due at the outputs of an operation, one after another; nothing is due where there is none.
+/// What is due at the outputs of an operation, one after another; nothing is due where there is
+/// none.
 pub type Due = [Option<u128>; 3];
 
 fn due(value: Option<u128>) -> Due {
@@ -90,7 +91,8 @@ fn read(kind: &Kind, token: &Token) -> u128 {
     }
 }
 
-/// What an operation reads for a token, or for none a pattern that looks random; none where it is no read.
+/// What an operation reads for a token, or for none a pattern that looks random; none where it is
+/// no read.
 pub fn input_of(op: &Op, token: Option<&Token>, random: u128) -> Option<Bits> {
     match (kind_role(&op.kind), token) {
         (Role::Read, Some(token)) => Some(cut(read(&op.kind, token), op.ty)),

@@ -45,7 +45,8 @@ fn token_at<'a>(places: &Places, tokens: &'a [Token], time: usize) -> Option<&'a
     tokens.get(place)
 }
 
-/// Enables that look random: a time is left with three chances of four, but none is left for a time at which a token stays.
+/// Enables that look random: a time is left with three chances of four, but none is left for a time
+/// at which a token stays.
 fn enables(places: &Places, rd: usize, last: usize, seed: u64) -> Enables {
     let mut all = [false; 65];
     let mut seed = seed;
@@ -112,7 +113,8 @@ fn put_reads(
     Ok(())
 }
 
-/// Whether the outputs of an operation, of which the first has this number, show what is due of a token.
+/// Whether the outputs of an operation, of which the first has this number, show what is due of a
+/// token.
 fn shows(sim: &Sim<'_>, net: &Net, op: &Op, first: usize, token: &Token) -> bool
     requires { sim.now.net ≡ net.now }
 {
@@ -146,7 +148,8 @@ fn all_show(timing: Timing<'_>, sim: &Sim<'_>, net: &Net, places: &Places, token
     number == net.outputs.len()
 }
 
-/// One cycle: the places behind it; an error where an output is another than due, or the ports are others.
+/// One cycle: the places behind it; an error where an output is another than due, or the ports are
+/// others.
 fn cycle(
     alloc: Global,
     timing: Timing<'_>,

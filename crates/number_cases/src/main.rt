@@ -1,13 +1,13 @@
 //! Computes operators on numbers, and operations by the cells that are made of them. Standard input
-//! has cases, each ended by a byte 30. A case is a word, a line feed and a table, and each line of the
-//! table is answered by itself and its result:
+//! has cases, each ended by a byte 30. A case is a word, a line feed and a table, and each line of
+//! the table is answered by itself and its result:
 //!
-//! - `numbers`: operators. `Add u 5 17 s 4 7` is answered by ` = s 7 24` behind it. A type is `u` or
-//!   `s` and a width, and a value is a pattern. Behind `Cast` the second type is the result's, behind
-//!   `Range` stand the highest and the lowest bit.
-//! - `cells`: the same lines, by cells, and `Mux` and `Rom`: behind the index of `Rom` stand the type
-//!   and the patterns of the entries. Of each operation a module of its cells alone is made, judged
-//!   and settled.
+//! - `numbers`: operators. `Add u 5 17 s 4 7` is answered by ` = s 7 24` behind it. A type is `u`
+//!   or `s` and a width, and a value is a pattern. Behind `Cast` the second type is the result's,
+//!   behind `Range` stand the highest and the lowest bit.
+//! - `cells`: the same lines, by cells, and `Mux` and `Rom`: behind the index of `Rom` stand the
+//!   type and the patterns of the entries. Of each operation a module of its cells alone is made,
+//!   judged and settled.
 //!
 //! The answers due come from exact whole numbers.
 #![tactic(auto)]

@@ -47,7 +47,8 @@ fn put_output(alloc: Global, net: &mut Net, wire: Wire) -> Result<(), Memory> {
     })
 }
 
-/// What the one output shows of these patterns at the inputs; none where the module is not valid or has other ports.
+/// What the one output shows of these patterns at the inputs; none where the module is not valid or
+/// has other ports.
 fn settled(alloc: Global, net: &Net, patterns: &[Bits]) -> Result<Option<Bits>, Memory> {
     if !is_valid(alloc, net)? || net.outputs.len() != 1 {
         return Ok(None);
@@ -60,7 +61,8 @@ fn settled(alloc: Global, net: &Net, patterns: &[Bits]) -> Result<Option<Bits>, 
     Ok(Some(sim.output(0)))
 }
 
-/// What the cells of an operation show of these patterns at the inputs; none where the module of these cells is not valid.
+/// What the cells of an operation show of these patterns at the inputs; none where the module of
+/// these cells is not valid.
 pub fn shown(
     alloc: Global,
     graph: &Graph,

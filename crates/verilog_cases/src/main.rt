@@ -1,11 +1,11 @@
-//! Prints nets as Verilog, and reads Verilog texts. Standard input has cases, each ended by a byte 30.
-//! A case is a word, a space or a line feed, and what the word asks about:
+//! Prints nets as Verilog, and reads Verilog texts. Standard input has cases, each ended by a byte
+//! 30. A case is a word, a space or a line feed, and what the word asks about:
 //!
-//! - `print NET`: the text of a net. `sum` is a module with a register, `wide 1` and `wide 128` have
-//!   each right side at that width.
+//! - `print NET`: the text of a net. `sum` is a module with a register, `wide 1` and `wide 128`
+//!   have each right side at that width.
 //! - `chain COUNT`: the length of the text of a chain of so many cells.
-//! - `read`: a line with the count of the nets of a text, and whether they are printed as this text, or
-//!   with why it is refused.
+//! - `read`: a line with the count of the nets of a text, and whether they are printed as this
+//!   text, or with why it is refused.
 //! - `fronts`: the count of the fronts of a text, shorter than it, that are refused.
 //! - `words`: a line for each word of a text with its place, and `--` behind them.
 #![tactic(auto)]
