@@ -1,4 +1,4 @@
-//! Tells what behaviours do, and prints their operation graphs. Standard input has cases, each
+//! Says what behaviours do, and prints their operation graphs. Standard input has cases, each
 //! ended by a byte 30. A case is a word, a space or a line feed, and what the word asks about:
 //!
 //! - `effect`: what a behaviour does in a given state. Behind the word stand the text of an
@@ -16,7 +16,7 @@
 //!   line has the patterns of its entries. A behaviour with more than 256 operations is
 //!   `graph NAME TooManyOps`, a text that has no extension `refused`.
 //!
-//! The answers due come from an evaluator, which makes no graphs, and from a maker of graphs, both
+//! The answers come from an evaluator, which makes no graphs, and from a maker of graphs, both
 //! in another language and written from the rules of CoreDSL.
 #![tactic(auto)]
 

@@ -67,7 +67,7 @@ fn put_modules(
     }
 }
 
-/// Puts what the building of an extension comes to.
+/// Puts the modules of an extension, or its refusal.
 fn put_design(
     out: &mut String,
     alloc: Global,
@@ -97,7 +97,7 @@ fn put_design(
     }
 }
 
-/// Puts what the building of an extension comes to, from its text, a byte 31 and a datasheet.
+/// Puts the modules of an extension, or its refusal, from its text, a byte 31 and a datasheet.
 pub fn put_built(out: &mut String, alloc: Global, case: &[u8]) -> Result<(), AllocError> {
     let mut parts = case.split(|byte| *byte == MIDDLE);
     let text = parts.next().unwrap_or(&[]);

@@ -5,7 +5,7 @@ use ix_bits::{Bits, Ty, range};
 use ix_eval::Effect;
 use ix_graph::{Kind, Op, Role, kind_role};
 
-/// What is due at the outputs of an operation, one after another; nothing is due where there is
+/// What is required at the outputs of an operation, one after another; nothing is required where there is
 /// none.
 pub type Due = [Option<u128>; 3];
 
@@ -61,7 +61,7 @@ pub fn count(kind: &Kind) -> usize {
     }
 }
 
-/// What is due at the outputs of an operation of a token.
+/// What is required at the outputs of an operation of a token.
 pub fn due_at(kind: &Kind, effect: &Effect) -> Due {
     match kind {
         Kind::RdMem => of_load(effect),

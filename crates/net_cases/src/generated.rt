@@ -39,7 +39,7 @@ fn draw_of(text: &str) -> Option<Draw> {
     }
 }
 
-/// Puts what the tokens of a behaviour's module come to.
+/// Puts what becomes of the tokens of a behaviour's module.
 fn put_tokens(
     alloc: Global,
     out: &mut String,
@@ -60,7 +60,7 @@ fn put_tokens(
     Ok(())
 }
 
-/// Puts what the lives of a behaviour's module come to.
+/// Puts what a behaviour's module shows in its lives.
 fn put_given(
     alloc: Global,
     out: &mut String,
@@ -78,7 +78,7 @@ fn put_given(
     put_lives(alloc, out, &made.net, lives)
 }
 
-/// Puts what a behaviour's module comes to, if the extension has the behaviour.
+/// Puts what a behaviour's module shows, if the extension has the behaviour.
 fn put_behaviour(
     alloc: Global,
     out: &mut String,
@@ -136,7 +136,7 @@ fn put_all(
     Ok(())
 }
 
-/// Puts what the modules of an extension come to, on a datasheet.
+/// Puts what the modules of an extension show, on a datasheet.
 fn put_modules(
     alloc: Global,
     out: &mut String,

@@ -113,7 +113,7 @@ fn put_reads(
     Ok(())
 }
 
-/// Whether the outputs of an operation, of which the first has this number, show what is due of a
+/// Whether the outputs of an operation, of which the first has this number, show what is required of a
 /// token.
 fn shows(sim: &Sim<'_>, net: &Net, op: &Op, first: usize, token: &Token) -> bool
     requires { sim.now.net ≡ net.now }
@@ -132,7 +132,7 @@ fn shows(sim: &Sim<'_>, net: &Net, op: &Op, first: usize, token: &Token) -> bool
     true
 }
 
-/// Whether all outputs show what is due of the tokens that stand at their operations' times.
+/// Whether all outputs show what is required of the tokens that stand at their operations' times.
 fn all_show(timing: Timing<'_>, sim: &Sim<'_>, net: &Net, places: &Places, tokens: &[Token]) -> bool
     requires { sim.now.net ≡ net.now }
 {
@@ -211,7 +211,7 @@ fn last_of(times: &[u8], rd: u8) -> usize {
     usize::from(last)
 }
 
-/// The count of tokens that went through a module, all with the outputs that are due.
+/// The count of tokens that went through a module, all with the required outputs.
 pub fn served(
     alloc: Global,
     made: &Module,

@@ -20,7 +20,7 @@
 //!   `ports differ` stands behind it where the ports of a module are not those of the net of the
 //!   extension's design.
 //!
-//! The answers due to given cycles come from an implementation in another language
+//! The answers to given cycles come from an implementation in another language
 //! (`tools/netgen_cases.py`).
 #![tactic(auto)]
 

@@ -9,7 +9,7 @@
 //!   type and the patterns of the entries. Of each operation a module of its cells alone is made,
 //!   judged and settled.
 //!
-//! The answers due come from exact whole numbers.
+//! The answers come from exact whole numbers.
 #![tactic(auto)]
 
 mod cells;

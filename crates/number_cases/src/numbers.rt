@@ -58,7 +58,7 @@ fn answer_to_range(words: &mut SplitWhitespace<'_>) -> Option<Answer> {
     }
 }
 
-/// Puts the line of a case, and what it comes to.
+/// Puts the line of a case, and its result.
 fn put_line(out: &mut String, text: &str) -> Result<(), AllocError> {
     out.push_str(text)?;
     match answer_to(text) {
@@ -72,7 +72,7 @@ fn put_line(out: &mut String, text: &str) -> Result<(), AllocError> {
     }
 }
 
-/// Puts the lines of a table, each with what it comes to.
+/// Puts the lines of a table, each with its result.
 pub fn put_numbers(out: &mut String, table: &str) -> Result<(), AllocError> {
     for line in table.lines() {
         put_line(out, line)?;

@@ -6,7 +6,7 @@
 //! - `chain COUNT`: the length of the text of a chain of so many cells.
 //! - `read`: a line with the count of the nets of a text, and whether they are printed as this
 //!   text, or with why it is refused.
-//! - `fronts`: the count of the fronts of a text, shorter than it, that are refused.
+//! - `prefixes`: the count of the proper prefixes of a text that are refused.
 //! - `words`: a line for each word of a text with its place, and `--` behind them.
 #![tactic(auto)]
 
@@ -15,7 +15,7 @@ mod nets;
 mod printed;
 mod words;
 
-use modules::{put_fronts, put_read};
+use modules::{put_prefixes, put_read};
 use printed::{put_chain, put_printed};
 use std::alloc::{AllocError, Global};
 use std::io;
@@ -42,7 +42,7 @@ fn put_answer(out: &mut String, alloc: Global, case: &[u8]) -> Result<(), AllocE
         "print" => put_printed(out, alloc, rest),
         "chain" => put_chain(out, alloc, rest),
         "read" => put_read(out, alloc, rest),
-        "fronts" => put_fronts(out, alloc, rest),
+        "prefixes" => put_prefixes(out, alloc, rest),
         "words" => put_words(out, alloc, rest),
         _ => out.push_str("unknown word\n"),
     }

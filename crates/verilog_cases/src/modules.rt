@@ -29,8 +29,8 @@ fn count(alloc: Global, text: &[u8]) -> Result<(usize, bool), VErr> {
     }
 }
 
-/// How many of the fronts of a text that are shorter than it are refused.
-fn refused_fronts(alloc: Global, text: &[u8]) -> usize {
+/// How many proper prefixes of a text are refused.
+fn refused_prefixes(alloc: Global, text: &[u8]) -> usize {
     let mut refused = 0;
     for length in 0..text.len() {
         if count(alloc, &text[..length]).is_err() {
@@ -53,8 +53,8 @@ pub fn put_read(out: &mut String, alloc: Global, text: &[u8]) -> Result<(), Allo
     }
 }
 
-/// Puts how many of the fronts of a text that are shorter than it are refused.
-pub fn put_fronts(out: &mut String, alloc: Global, text: &[u8]) -> Result<(), AllocError> {
-    let refused = refused_fronts(alloc, text);
-    write!(out, "refused fronts {refused} of {}\n", text.len())
+/// Puts how many proper prefixes of a text are refused.
+pub fn put_prefixes(out: &mut String, alloc: Global, text: &[u8]) -> Result<(), AllocError> {
+    let refused = refused_prefixes(alloc, text);
+    write!(out, "refused prefixes {refused} of {}\n", text.len())
 }
