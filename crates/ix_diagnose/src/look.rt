@@ -55,3 +55,26 @@ pub(crate) fn look_of(bytes: &[u8]) -> Look {
         Look::Other
     }
 }
+
+/// What is wrong where a file looks like one of another kind than is due.
+pub(crate) fn misplaced(due: Look, bytes: &[u8]) -> Option<&'static str> {
+    let found = look_of(bytes);
+    if found == due {
+        return None;
+    }
+    match found {
+        Look::Extension => Some(
+            "this file is an extension, and another one is due here: write the files in the order of the command, as in `schedule EXT SHEET`",
+        ),
+        Look::Sheet => Some(
+            "this file is a datasheet, and another one is due here: write the files in the order of the command, as in `schedule EXT SHEET`",
+        ),
+        Look::Report => Some(
+            "this file is a report, and another one is due here: write a report behind `certify` alone",
+        ),
+        Look::Image => Some(
+            "this file is an image, and another one is due here: write the files in the order of the command, as in `seq EXT IMAGE STEPS`",
+        ),
+        Look::Other => None,
+    }
+}

@@ -59,7 +59,8 @@ fn word_end(bytes: &[u8], at: usize) -> usize
 fn is_declared_at(bytes: &[u8], place: Place, name: &str) -> bool
     requires { place.to ≤ length bytes.now }
 {
-    part(bytes, place) == name.as_bytes() && bytes[behind_blanks(bytes, place.to)..].starts_with(b"{")
+    part(bytes, place) == name.as_bytes()
+        && bytes[behind_blanks(bytes, place.to)..].starts_with(b"{")
 }
 
 /// The place where an extension declares the instruction or the always-block of that name.
@@ -80,20 +81,14 @@ pub(crate) fn declaration(bytes: &[u8], name: &str) -> Option<Place> {
 
 /// A text without the blanks, the quotes and the brackets at both ends.
 fn bare(key: &[u8]) -> &[u8] {
-    let mut key = key;
-    while let [first, rest @ ..] = key {
-        if !is_around(*first) {
-            break;
-        }
-        key = rest;
+    let Some(start) = key.iter().position(|b| !is_around(*b)) else {
+        return &[];
+    };
+    let rest = &key[start..];
+    match rest.iter().rposition(|b| !is_around(*b)) {
+        Some(last) => &rest[..last + 1],
+        None => rest,
     }
-    while let [rest @ .., last] = key {
-        if !is_around(*last) {
-            break;
-        }
-        key = rest;
-    }
-    key
 }
 
 fn is_around(byte: u8) -> bool {
@@ -102,13 +97,19 @@ fn is_around(byte: u8) -> bool {
 
 /// Whether a key of a datasheet, or one of its parts between points, is this name.
 fn has_name(key: &[u8], name: &str) -> bool {
-    bare(key) == name.as_bytes() || key.split(|b| *b == b'.').any(|part| bare(part) == name.as_bytes())
+    bare(key) == name.as_bytes()
+        || key
+            .split(|b| *b == b'.')
+            .any(|part| bare(part) == name.as_bytes())
 }
 
 /// The key of a line of a datasheet, or its header.
 fn key_of(bytes: &[u8], line: Place) -> Place {
     let text = part(bytes, line);
-    let count = text.iter().position(|b| matches!(*b, b'=' | b'#')).unwrap_or(text.len());
+    let count = text
+        .iter()
+        .position(|b| matches!(*b, b'=' | b'#'))
+        .unwrap_or(text.len());
     let key = &text[..count];
     let start = behind_blanks(key, 0);
     let end = before_blanks(key, count);

@@ -96,7 +96,10 @@ fn comment_end(bytes: &[u8], at: usize) -> usize
     ensures behind { at ≤ result }
     ensures within { result ≤ length bytes.now }
 {
-    match bytes[at..].windows(2).position(|pair| pair == b"*/".as_slice()) {
+    match bytes[at..]
+        .windows(2)
+        .position(|pair| pair == b"*/".as_slice())
+    {
         Some(count) => at.saturating_add(count).saturating_add(2).min(bytes.len()),
         None => bytes.len(),
     }
@@ -113,7 +116,6 @@ fn string_end(bytes: &[u8], at: usize) -> usize
         None => bytes.len(),
     }
 }
-
 
 /// The place behind the comment, the string, the name or the single byte that stands there.
 pub(crate) fn token_end(bytes: &[u8], at: usize) -> usize

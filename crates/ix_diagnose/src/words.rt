@@ -1,13 +1,50 @@
 ghost use Rattle.std.specs.Prelude.{◌≡◌, ◌<◌, ◌^◌, ◌++◌, [], ◌∷◌, ℕ, List, Some, IsSomeAnd, decimal, codes};
 ghost use Rattle.ix_diagnose.specs.Refusals.{IsWord, before, refusal_line};
+ghost use Rattle.ix_diagnose.specs.Findings.{IsStatus};
 
 use crate::place::Place;
+
+/// What was refused, as the second word of its line says.
+#[derive(Clone, Copy, Debug, PartialEq, Eq)]
+pub(crate) enum Status {
+    Usage,
+    ReadFault,
+    TooLong,
+    Extension,
+    Sheet,
+    Image,
+    NoSchedule,
+    Certificate,
+    Source,
+    Waits,
+    /// No line of the tool begins so.
+    Other,
+}
 
 /// What was refused, and what is told of it.
 #[derive(Clone, Copy)]
 pub(crate) struct Refusal<'a> {
-    pub(crate) status: &'a str,
+    pub(crate) status: Status,
     pub(crate) rest: &'a str,
+}
+
+/// What the second word of a line says.
+fn status_of(word: &str) -> Status
+    ensures { IsStatus word.now result }
+{
+    match word {
+        "Usage" => Status::Usage,
+        "ReadFault" => Status::ReadFault,
+        "TooLong" => Status::TooLong,
+        "Extension" => Status::Extension,
+        "Sheet" => Status::Sheet,
+        "Image" => Status::Image,
+        "NoSchedule" => Status::NoSchedule,
+        "Certificate" => Status::Certificate,
+        "Source" => Status::Source,
+        "Waits" => Status::Waits,
+        _ => Status::Other,
+    }
 }
 
 /// The first word of a text, and what stands behind the space after it.
@@ -46,12 +83,15 @@ pub(crate) fn span(text: &str) -> Option<Place>
 /// What a line without its line feed refuses.
 fn refused_in(body: &str) -> Option<Refusal<'_>>
     ensures { (status : List ℕ) (rest : List ℕ) → IsWord status → body.now ≡ before (codes "refused") (before status rest)
-        → IsSomeAnd result (λ r. (r.status.now ≡ status) × (r.rest.now ≡ rest)) }
+        → IsSomeAnd result (λ r. IsStatus status r.status × (r.rest.now ≡ rest)) }
 {
     let (first, told) = cut(body);
     if first == "refused" {
         let (status, rest) = cut(told);
-        return Some(Refusal { status, rest });
+        return Some(Refusal {
+            status: status_of(status),
+            rest,
+        });
     }
     None
 }
@@ -59,7 +99,7 @@ fn refused_in(body: &str) -> Option<Refusal<'_>>
 /// What a line of the output refuses, if it is such a line.
 pub(crate) fn read_refusal(line: &str) -> Option<Refusal<'_>>
     ensures { (status : List ℕ) (rest : List ℕ) → IsWord status → line.now ≡ refusal_line status rest
-        → IsSomeAnd result (λ r. (r.status.now ≡ status) × (r.rest.now ≡ rest)) }
+        → IsSomeAnd result (λ r. IsStatus status r.status × (r.rest.now ≡ rest)) }
 {
     match line.strip_suffix('\n') {
         None => None,
