@@ -1,7 +1,7 @@
 use crate::files::{END, files_of, is_command};
 use ix_bits::{List, Memory};
-use ix_diagnose::{Subject, diagnose, subject_of};
-use ix_io::{MemShelf, MemSink, Sink, read_all, write_all};
+use ix_diagnose::explain;
+use ix_io::{MemShelf, MemSink, Sink, write_all};
 use ix_tool::tool::run_tool;
 use std::alloc::{AllocError, Global};
 
@@ -83,23 +83,6 @@ fn run_faulty<S: Sink>(
     write_status(alloc, status.code(), sink)
 }
 
-// What is told of the first line of an output, which the words of a command gave.
-fn told(
-    alloc: Global,
-    line: &str,
-    words: &[String],
-    shelf: &mut MemShelf,
-) -> Result<String, AllocError> {
-    match subject_of(line, words) {
-        Some(Subject::File(name)) => match read_all(alloc, shelf, name) {
-            Ok(bytes) => diagnose(alloc, line, name, bytes.as_slice()),
-            Err(_) => Ok(String::new(alloc)),
-        },
-        Some(Subject::Name(name)) => diagnose(alloc, line, name, &[]),
-        None => Ok(String::new(alloc)),
-    }
-}
-
 // Runs a command and writes the first line of its output, what is told of it, and the exit status.
 fn run_told<S: Sink>(
     alloc: Global,
@@ -116,7 +99,9 @@ fn run_told<S: Sink>(
     let (first, _) = text.split_once('\n').unwrap_or(("", ""));
     let line = format!(in alloc; "{first}\n")?;
     let _written = write_all(sink, line.as_bytes());
-    let _told = write_all(sink, told(alloc, line.as_str(), words.as_slice(), shelf)?.as_bytes());
+    if let Some(told) = explain(alloc, line.as_str(), words.as_slice(), shelf) {
+        let _told = write_all(sink, told.as_bytes());
+    }
     write_status(alloc, status.code(), sink)
 }
 

@@ -1,5 +1,5 @@
 -- Lines of refusals that tell a place, and what is told of it.
-use Rattle.std.specs.Prelude.{◌≡◌, ◌≢◌, ◌+◌, ◌<◌, ◌≤◌, ◌++◌, ◌∷◌, ◌^◌, ℕ, List, length, codes, decimal, slice_index}
+use Rattle.std.specs.Prelude.{◌≡◌, ◌≢◌, ◌+◌, ◌<◌, ◌≤◌, ◌++◌, ◌∷◌, ◌^◌, ◌⊎◌, [], ℕ, List, length, codes, decimal, slice_index}
 use Rattle.std.specs.List.{count_by}
 use Rattle.ix_diagnose.specs.Lines.{is_feed, line_number}
 use Rattle.ix_diagnose.specs.Shown.{TellsAt}
@@ -30,3 +30,15 @@ pub record TellsLine (name bytes : List ℕ) (number : ℕ) (text : List ℕ) : 
 -- each number that is told is below this
 abbrev pub IsTold : ℕ → Type 0
 IsTold n = n < 2 ^ 64
+
+-- the text tells of a place of the file
+abbrev pub TellsSomewhere : List ℕ → List ℕ → List ℕ → Type 0
+TellsSomewhere name bytes text = (from : ℕ) × ((to : ℕ) × TellsAt name bytes from to text)
+
+-- the text tells of the file as a whole
+abbrev pub TellsWhole : List ℕ → List ℕ → Type 0
+TellsWhole name text = (sentence : List ℕ) × (text ≡ name ++ (codes ": error: " ++ (sentence ++ codes "\n")))
+
+-- what is told of a file, if anything is
+abbrev pub Tells : List ℕ → List ℕ → List ℕ → Type 0
+Tells name bytes text = (text ≡ []) ⊎ TellsWhole name text ⊎ TellsSomewhere name bytes text

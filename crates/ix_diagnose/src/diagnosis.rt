@@ -1,5 +1,5 @@
 ghost use Rattle.std.specs.Prelude.{◌≡◌, ◌≤◌, ◌<◌, ℕ, List, Some, IfOk, codes, decimal, length, string_bytes};
-ghost use Rattle.ix_diagnose.specs.Refusals.{IsWord, IsTold, before, refusal_line, TellsLine};
+ghost use Rattle.ix_diagnose.specs.Refusals.{IsWord, IsTold, before, refusal_line, TellsLine, Tells};
 ghost use Rattle.ix_diagnose.specs.Shown.{TellsAt};
 ghost use Rattle.ix_diagnose.specs.Findings.{IsLineOf};
 
@@ -19,7 +19,8 @@ fn sentence_about(alloc: Global, sentence: &str, about: &str) -> Result<String, 
 
 /// Tells a finding: at its place, or of the whole file where it has none.
 fn tell(alloc: Global, name: &str, bytes: &[u8], finding: Finding<'_>) -> Result<String, AllocError>
-    ensures { (from : ℕ) (to : ℕ) → finding.entry.place ≡ Some (record { from = from; to = to }) → from ≤ length bytes.now
+    ensures told { IfOk result (λ text. Tells name.now bytes.now (string_bytes text)) }
+    ensures at { (from : ℕ) (to : ℕ) → finding.entry.place ≡ Some (record { from = from; to = to }) → from ≤ length bytes.now
         → IfOk result (λ text. TellsAt name.now bytes.now from to (string_bytes text)) }
 {
     let sentence = sentence_about(alloc, finding.sentence, finding.about)?;
@@ -39,8 +40,11 @@ fn tell(alloc: Global, name: &str, bytes: &[u8], finding: Finding<'_>) -> Result
 }
 
 /// Tells what a line of the output refuses: at its place of the file, in one sentence with what to write in its place, and then the line of the file with carets under the
-/// place. `name` is that of the file which `file_of` gives, and `bytes` are the file's. The answer is empty where the line refuses nothing.
+/// place. `name` is that of the file that the refusal is of, and `bytes` are the bytes of it. The answer is empty where the line refuses nothing.
 pub fn diagnose(alloc: Global, line: &str, name: &str, bytes: &[u8]) -> Result<String, AllocError>
+    // What has a line and a column has those of a place of the file.
+    ensures told { IfOk result (λ text. Tells name.now bytes.now (string_bytes text)) }
+
     // The refusal of an extension that tells two numbers is told of the bytes from the one up to the other.
     ensures extension { (kind : List ℕ) (from : ℕ) (to : ℕ) → IsWord kind → IsTold from → IsTold to → from ≤ length bytes.now
         → line.now ≡ refusal_line (codes "Extension") (before kind (before (decimal from) (decimal to)))

@@ -2,6 +2,7 @@
 #![tactic(auto)]
 
 mod diagnosis;
+mod explained;
 mod extension;
 mod finding;
 mod grammar;
@@ -17,4 +18,4 @@ mod text;
 mod words;
 
 pub use diagnosis::diagnose;
-pub use subject::{Subject, subject_of};
+pub use explained::explain;

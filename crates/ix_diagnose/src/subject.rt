@@ -2,7 +2,7 @@ use crate::words::{Refusal, Status, read_refusal};
 
 /// What a refusal is of.
 #[derive(Clone, Copy, Debug, PartialEq, Eq)]
-pub enum Subject<'a> {
+pub(crate) enum Subject<'a> {
     /// The bytes of the file of that name.
     File(&'a str),
     /// A file that was not read whole, or the program.
@@ -19,7 +19,7 @@ fn image_word(count: usize) -> usize {
 }
 
 /// What the line of a refusal is of, by the words of the command; nothing where the line refuses nothing.
-pub fn subject_of<'a>(line: &'a str, words: &'a [String]) -> Option<Subject<'a>> {
+pub(crate) fn subject_of<'a>(line: &'a str, words: &'a [String]) -> Option<Subject<'a>> {
     let refusal = read_refusal(line)?;
     let word = match refusal.status {
         Status::Usage => return Some(Subject::Name("ixt")),

@@ -74,9 +74,12 @@ pub(crate) fn span(text: &str) -> Option<Place>
         → result ≡ Some (record { from = from; to = to }) }
 {
     let (first, rest) = cut(text);
-    match (number(first), number(rest)) {
-        (Some(from), Some(to)) => Some(Place { from, to }),
-        _ => None,
+    match number(first) {
+        None => None,
+        Some(from) => match number(rest) {
+            None => None,
+            Some(to) => Some(Place { from, to }),
+        },
     }
 }
 

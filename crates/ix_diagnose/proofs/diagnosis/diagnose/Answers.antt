@@ -8,22 +8,22 @@ use Rattle.ix_diagnose.proofs.diagnosis.diagnose.Goals as goal
 pub returns-in-Some-clause-extension : goal.returns-in-Some-clause-extension
 returns-in-Some-clause-extension c kind from to w low high within e =
     let found = c.in-Some.ensures (codes "Extension") (before kind (before (decimal from) (decimal to))) (word_of (codes "Extension") refl) e in
-    c.tell.ensures from to (c.finding_of.ensures.extension kind from to w low high (found.0.extension refl) found.1) within
+    c.tell.ensures.at from to (c.finding_of.ensures.extension kind from to w low high (found.0.extension refl) found.1) within
 
 pub returns-in-Some-clause-image : goal.returns-in-Some-clause-image
 returns-in-Some-clause-image c n line e =
     let found = c.in-Some.ensures (codes "Image") (decimal n) (word_of (codes "Image") refl) e in
-    told_line string_bytes c.args.name.now c.args.bytes.now n c.finding_of.result.place c.tell.result (c.finding_of.ensures.image n line (found.0.image refl) found.1) c.tell.ensures
+    told_line string_bytes c.args.name.now c.args.bytes.now n c.finding_of.result.place c.tell.result (c.finding_of.ensures.image n line (found.0.image refl) found.1) c.tell.ensures.at
 
 pub returns-in-Some-clause-certificate : goal.returns-in-Some-clause-certificate
 returns-in-Some-clause-certificate c kind n line e =
     let found = c.in-Some.ensures (codes "Certificate") (before (decimal n) kind) (word_of (codes "Certificate") refl) e in
-    told_line string_bytes c.args.name.now c.args.bytes.now n c.finding_of.result.place c.tell.result (c.finding_of.ensures.certificate kind n line (found.0.certificate refl) found.1) c.tell.ensures
+    told_line string_bytes c.args.name.now c.args.bytes.now n c.finding_of.result.place c.tell.result (c.finding_of.ensures.certificate kind n line (found.0.certificate refl) found.1) c.tell.ensures.at
 
 pub returns-in-Some-clause-source : goal.returns-in-Some-clause-source
 returns-in-Some-clause-source c kind n w line e =
     let found = c.in-Some.ensures (codes "Source") (before kind (decimal n)) (word_of (codes "Source") refl) e in
-    told_line string_bytes c.args.name.now c.args.bytes.now n c.finding_of.result.place c.tell.result (c.finding_of.ensures.source kind n w line (found.0.source refl) found.1) c.tell.ensures
+    told_line string_bytes c.args.name.now c.args.bytes.now n c.finding_of.result.place c.tell.result (c.finding_of.ensures.source kind n w line (found.0.source refl) found.1) c.tell.ensures.at
 
 pub returns-in-None-clause-extension : goal.returns-in-None-clause-extension
 returns-in-None-clause-extension c kind from to w low high within e =
