@@ -180,6 +180,6 @@ parts.append("byte NOTEXT 255")
 due("schedule MULX NOTEXT", 8, "refused Sheet Utf8 -\n")
 due("schedule EMPTY EMPTY", 7, "refused Extension At 0 0\n")
 
-STORED = [Path(__file__).resolve().parent / "commands" / name for name in ["tutorial", "runs", "base"]]
+STORED = [Path(__file__).resolve().parent / "commands" / name for name in ["tutorial", "runs", "base", "diagnoses"]]
 FOLDER.joinpath("stdin").write_bytes(b"".join(it.with_suffix(".cases").read_bytes() for it in STORED) + "".join(part + END for part in parts).encode())
 FOLDER.joinpath("stdout").write_bytes(b"".join(it.with_suffix(".answers").read_bytes() for it in STORED) + "".join(answer + END for answer in answers).encode())

@@ -4,6 +4,7 @@
 //! - `file NAME`, and behind this line the text of the file;
 //! - `many NAME COUNT`, and behind this line a text that stands in the file so many times;
 //! - `byte NAME NUMBER`: the file is this one byte;
+//! - `tell WORDS`: of the command of these words the first line of its output is written, and what the program tells of it on the standard error;
 //! - `faults READ MOST WRITE MOST`, and behind this line the words of a command in which this read and this write fail, counted from 0 (`-`: none does), and so many bytes at most go in one of
 //!   them.
 //!
