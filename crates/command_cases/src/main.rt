@@ -12,6 +12,7 @@
 #![tactic(auto)]
 
 mod files;
+mod own_core;
 mod parts;
 
 use ix_io::HostSink;

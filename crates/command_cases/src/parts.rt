@@ -1,4 +1,5 @@
 use crate::files::{END, files_of, is_command};
+use crate::own_core::run_own_core;
 use ix_bits::{List, Memory};
 use ix_io::{MemShelf, MemSink, Sink, write_all};
 use ix_tool::tool::run_tool;
@@ -90,10 +91,13 @@ pub fn run_parts<S: Sink>(alloc: Global, text: &str, sink: &mut S) -> Result<(),
     };
     let mut shelf = MemShelf::new(files, List::new(alloc), MOST_READ);
     for part in text.split(END) {
-        match part.strip_prefix("faults ") {
-            Some(told) => run_faulty(alloc, text, told, sink)?,
-            None if is_command(part) => run_command(alloc, part, &mut shelf, sink)?,
-            None => {}
+        if let Some(told) = part.strip_prefix("faults ") {
+            run_faulty(alloc, text, told, sink)?;
+        } else if let Some(own) = part.strip_prefix("core ") {
+            run_own_core(alloc, own, &mut shelf, sink);
+            let _written = write_all(sink, b"\x1e");
+        } else if is_command(part) {
+            run_command(alloc, part, &mut shelf, sink)?;
         }
     }
     Ok(())
