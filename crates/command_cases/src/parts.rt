@@ -1,4 +1,5 @@
 use crate::files::{END, files_of, is_command};
+use crate::own_core::run_own_core;
 use ix_bits::{List, Memory};
 use ix_diagnose::explain;
 use ix_io::{MemShelf, MemSink, Sink, write_all};
@@ -84,7 +85,7 @@ fn run_faulty<S: Sink>(
 }
 
 // Runs a command and writes the first line of its output, what is told of it, and the exit status.
-fn run_told<S: Sink>(
+fn run_diagnosed<S: Sink>(
     alloc: Global,
     part: &str,
     shelf: &mut MemShelf,
@@ -115,8 +116,11 @@ pub fn run_parts<S: Sink>(alloc: Global, text: &str, sink: &mut S) -> Result<(),
     for part in text.split(END) {
         if let Some(told) = part.strip_prefix("faults ") {
             run_faulty(alloc, text, told, sink)?;
-        } else if let Some(command) = part.strip_prefix("tell ") {
-            run_told(alloc, command, &mut shelf, sink)?;
+        } else if let Some(command) = part.strip_prefix("diagnose ") {
+            run_diagnosed(alloc, command, &mut shelf, sink)?;
+        } else if let Some(own) = part.strip_prefix("core ") {
+            run_own_core(alloc, own, &mut shelf, sink);
+            let _written = write_all(sink, b"\x1e");
         } else if is_command(part) {
             run_command(alloc, part, &mut shelf, sink)?;
         }

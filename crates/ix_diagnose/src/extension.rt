@@ -12,7 +12,7 @@ fn loop_sentence(kind: &str) -> Option<&'static str> {
             "the body of this loop changes the loop's variable or declares its name again: use another local in it",
         ),
         "Size" => Some(
-            "the loops come to more than 16384 statements: write fewer turns or shorter bodies",
+            "the loops unroll to more than 16384 statements: write fewer turns or shorter bodies",
         ),
         _ => None,
     }
@@ -108,7 +108,7 @@ fn token_sentence(kind: &str, bytes: &[u8], place: Place) -> Option<&'static str
         "BadByte" => Some(bad_byte(bytes, place.from)),
         "Unclosed" => Some(unclosed(bytes, place.from)),
         "BadNumber" => Some(
-            "this is no number: write decimal digits with no 0 in front, `0x` or `0b` and digits, or a width, a base and digits that fit, as `8'd200`",
+            "this is not a number: write decimal digits with no leading 0, `0x` or `0b` and digits, or a width, a base and digits that fit, as `8'd200`",
         ),
         "At" => Some(unexpected(bytes, place)),
         "Deep" => Some("this is nested deeper than 64: write a part of it before, into a local"),

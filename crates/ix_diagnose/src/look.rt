@@ -64,16 +64,16 @@ pub(crate) fn misplaced(due: Look, bytes: &[u8]) -> Option<&'static str> {
     }
     match found {
         Look::Extension => Some(
-            "this file is an extension, and another one is due here: write the files in the order of the command, as in `schedule EXT SHEET`",
+            "this file is an extension, and another kind of file is expected here: write the files in the order of the command, as in `schedule EXT SHEET`",
         ),
         Look::Sheet => Some(
-            "this file is a datasheet, and another one is due here: write the files in the order of the command, as in `schedule EXT SHEET`",
+            "this file is a datasheet, and another kind of file is expected here: write the files in the order of the command, as in `schedule EXT SHEET`",
         ),
         Look::Report => Some(
-            "this file is a report, and another one is due here: write a report behind `certify` alone",
+            "this file is a report, and another kind of file is expected here: a report goes to `certify` alone",
         ),
         Look::Image => Some(
-            "this file is an image, and another one is due here: write the files in the order of the command, as in `seq EXT IMAGE STEPS`",
+            "this file is an image, and another kind of file is expected here: write the files in the order of the command, as in `seq EXT IMAGE STEPS`",
         ),
         Look::Other => None,
     }

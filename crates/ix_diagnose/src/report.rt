@@ -9,10 +9,10 @@ pub(crate) fn report_sentence(kind: &str) -> &'static str {
         "Window" =>
             "the time is outside of the operation's window: write one from `early` to `late`",
         "Chain" => {
-            "the delays at one time come to more than the period, or no such chain exists: write a later time, or a chain of the behaviour"
+            "the delays at one time sum to more than the period, or no such chain exists: write a later time, or a chain of the behaviour"
         }
         "Value" => {
-            "the cost is not that of the times, or the flow does not come to it: write the cost of the times and a flow of that cost"
+            "the cost is not that of the times, or the flow does not sum to it: write the cost of the times and a flow of that cost"
         }
         "Balance" => {
             "the flow is out of balance at this operation: write amounts whose inflow less outflow is 1 and the edges into it less those out of it"
@@ -20,7 +20,7 @@ pub(crate) fn report_sentence(kind: &str) -> &'static str {
         "NotClosed" =>
             "this bound does not start where the one before ends: write the bounds in the order of a cycle",
         "NotPositive" =>
-            "the numbers of this cycle come to no more than 0: write a cycle that demands more",
+            "the numbers of this cycle do not sum to more than 0: write a cycle that demands more",
         _ => "the report is refused: write it as docs/FORMATS.md says",
     }
 }

@@ -79,7 +79,7 @@ fn form_sentence(line: &[u8]) -> &'static str {
         return "there is no such directive: write the program from address 0 on, and each constant as `.word n`";
     }
     if name.starts_with("//") || name.starts_with(';') {
-        return "a comment begins with `#`: write that in front of it";
+        return "a comment begins with `#`: write that before it";
     }
     if lacks_offset(text) {
         return "the bracket has no offset before it: write one, as `lw x1, 0(x2)`";
