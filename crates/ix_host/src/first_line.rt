@@ -21,7 +21,11 @@ impl FirstLine {
         }
     }
 
+    /// Goes on by a piece of the output; one behind the first line costs nothing.
     fn put_all(&mut self, piece: &[u8]) {
+        if self.is_ended {
+            return;
+        }
         for byte in piece {
             self.put(*byte);
         }
