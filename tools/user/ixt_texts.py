@@ -308,11 +308,12 @@ def redirector_of(row):
 
 
 class SourceLine(NamedTuple):
-    """The line of a source that an address has: its number from 1, the labels that name it, and its text."""
+    """The line of a source that an address has: its number from 1, its labels, its text, and its word where it is an image's."""
 
     number: int
     labels: str
     text: str
+    word: str
 
 
 LABEL = re.compile(r"([A-Za-z_][A-Za-z0-9_]*):(.*)", re.ASCII)
@@ -336,7 +337,7 @@ def image_lines(plain):
     found = {}
     for number, line in enumerate(plain, 1):
         if line and not line.startswith(("#", "//")):
-            found[f"{4 * len(found):08x}"] = SourceLine(number, "", line.lower())
+            found[f"{4 * len(found):08x}"] = SourceLine(number, "", line.lower(), line.lower())
     return found
 
 
@@ -349,16 +350,27 @@ def assembly_lines(plain):
             labels.append(form[1])
             line = form[2].strip(BLANKS)
         if line:
-            found[f"{4 * len(found):08x}"] = SourceLine(number, " ".join(labels), " ".join(line.split()))
+            found[f"{4 * len(found):08x}"] = SourceLine(number, " ".join(labels), " ".join(line.split()), "")
             labels = []
     return found
 
 
-def source_line(source, address):
-    """The source line at an address that a run has fetched."""
-    if address not in source:
-        raise BadInput(f"the source has no word at {address}, where the trace fetches: is it the source of this program?")
-    return source[address]
+def check_source(source, words):
+    """BadInput where the source cannot be that of a run: `words` are the run's words by address, empty for unknown ones."""
+    for address, word in sorted(words.items()):
+        line = source.get(address)
+        if line is None:
+            raise BadInput(f"the source has no word at {address}, where the trace fetches: is it the source of this program?")
+        if word and line.word and word != line.word:
+            raise BadInput(f"the source has {line.word} at {address}, where the trace has {word}: is it the source of this program?")
+
+
+def source_text(source, address):
+    """The labels and the text of an address, or the empty text where there is no source."""
+    if source is None:
+        return ""
+    line = source[address]
+    return f"{line.labels}: {line.text}" if line.labels else line.text
 
 
 # Reports

@@ -11,8 +11,8 @@ from collections import Counter, defaultdict
 from typing import NamedTuple
 
 from ixt_texts import (
-    HOLDS, BadInput, Trace, add_output_option, finish, hold_parts, positive, read_source, redirector_of,
-    source_line, write_output,
+    HOLDS, BadInput, Trace, add_output_option, check_source, finish, hold_parts, positive, read_source, redirector_of,
+    source_text, write_output,
 )
 
 # Causes of gaps that are no hold of an instruction.
@@ -45,7 +45,7 @@ class Account:
         self.retired_at = Counter()
         self.waits_at = Counter()
         self.lost_at = defaultdict(Counter)
-        self.fetched = set()
+        self.words = {}
 
 
 def account(trace):
@@ -63,7 +63,7 @@ def account(trace):
             if cause.address is not None:
                 sums.lost_at[cause.address][cause.name + cause.detail] += 1
         before = row
-    sums.fetched = set(addresses.values())
+    sums.words = dict.fromkeys(addresses.values(), "") | sums.words
     return sums
 
 
@@ -74,6 +74,7 @@ def count_row(sums, row):
     if row.retired is not None:
         sums.retired += 1
         sums.retired_at[row.retirement.address] += 1
+        sums.words[row.retirement.address] = row.retirement.word
     if row.flushed:
         sums.flushed += len(row.flushed)
     if row.redirect is not None:
@@ -196,11 +197,7 @@ def address_lines(sums, source, top):
 
 
 def place_text(source, address):
-    if source is None:
-        return ""
-    line = source_line(source, address)
-    labels = f"{line.labels}: " if line.labels else ""
-    return f"line {line.number}: {labels}{line.text}"
+    return f"line {source[address].number}: {source_text(source, address)}" if source else ""
 
 
 def main():
@@ -217,8 +214,7 @@ def main():
     source = read_source(options.source) if options.source else None
     sums = account(Trace(options.trace))
     if source is not None:
-        for address in sorted(sums.fetched):
-            source_line(source, address)
+        check_source(source, sums.words)
     write_output(options.output, summary_text(sums, source, options.top))
 
 
