@@ -50,6 +50,11 @@ def fitted(words, size, room):
     return words[: most - 1] + "…" if most > 1 else ""
 
 
+def step_of(wide, words_wide):
+    """How many columns of a width lie from one number above them to the next, so that numbers keep apart."""
+    return next((step for step in (1, 5, 10, 50, 100) if words_wide + 3 <= wide * step), 1000)
+
+
 def visible(words):
     """The words without characters that XML does not have."""
     return "".join(it if it.isprintable() else "?" for it in words)

@@ -9,7 +9,7 @@ picture shows the cycle of bounds that contradict each other.
 import argparse
 from typing import NamedTuple
 
-from ixt_svg import ALARM, HAIR, INK, PALE, SHADES, STANDING, Legend, Picture, fitted, text_width
+from ixt_svg import ALARM, HAIR, INK, PALE, SHADES, STANDING, Legend, Picture, fitted, step_of, text_width
 from ixt_texts import (
     CORE_KINDS, GATE_KINDS, BadInput, Bound, add_output_option, finish, kind_name, lines_of, parse_report, write_output,
 )
@@ -250,7 +250,7 @@ def draw_times(picture, frame, bottom):
     """Lines between the times, which are clock edges, and the numbers of the times above."""
     wide = frame.wide()
     size = min(9, frame.size + 1)
-    step = 1 if text_width("00", size) + 2 <= wide else 5
+    step = step_of(wide, text_width(str(frame.last), size))
     for time in range(frame.first, frame.last + 2):
         picture.line(frame.column(time), frame.top, frame.column(time), bottom)
         if time <= frame.last and time % step == 0:
@@ -408,9 +408,10 @@ def draw_cycle(picture, frame, behaviour, steps, rooted):
     picture.text(names, frame.top - 5, "of operation", 9, fill=PALE)
     bottom = frame.top + frame.line * len(steps)
     wide = frame.wide()
+    step = step_of(wide, text_width(time_text(frame.last, rooted, wide), 9))
     for time in range(frame.first, frame.last + 2):
         picture.line(frame.column(time), frame.top, frame.column(time), bottom)
-        if time <= frame.last:
+        if time <= frame.last and time % step == 0:
             picture.text(frame.column(time) + wide / 2, frame.top - 5, time_text(time, rooted, wide), 9, anchor="middle")
     for at, step in enumerate(steps):
         draw_step(picture, frame, behaviour, steps, at, names)

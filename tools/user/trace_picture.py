@@ -7,7 +7,7 @@ instruction is, an open one that it stays there and why. It shows as many cycles
 import argparse
 from collections import Counter
 
-from ixt_svg import ALARM, HAIR, INK, LYING, PALE, SHADES, Legend, Picture, fitted, text_width
+from ixt_svg import ALARM, INK, LYING, PALE, SHADES, Legend, Picture, fitted, step_of, text_width
 from ixt_texts import (
     HOLDS, STAGES, BadInput, Trace, add_output_option, check_source, finish, hold_parts, natural, positive, read_source,
     source_text, write_output,
@@ -147,7 +147,7 @@ def diagram(window, source, name):
 
 def draw_grid(picture, layout, window):
     """The numbers of the cycles and fine lines below them; where they are narrow, each fifth one has its number."""
-    step = 1 if text_width(str(window.first + window.count), 9) + 3 <= layout.cell else 5
+    step = step_of(layout.cell, text_width(str(window.first + window.count), 9))
     picture.text(layout.left, layout.top - 6, "instruction", 9, fill=PALE)
     picture.text(layout.grid, layout.top - 18, "cycle", 9, fill=PALE)
     if any(it.holds for it in window.lives.values()):
