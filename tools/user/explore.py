@@ -185,13 +185,20 @@ INKS = ["#1f1333", "#2a7fb0", "#8fc98a", "#e0b040"]
 FORMS = ["circle", "square", "diamond", "triangle", "cross", "ring"]
 
 
-def plot(rows):
-    """A panel for each program: cycles up, bits of registers across, a sign for each extension and datasheet."""
+def panels_of(rows):
+    """The points of each program."""
+    names = {column: short_names([row[column] for row in rows]) for column in COLUMNS[:3]}
     panels = {}
     for row in rows:
         if row["stop"] in ENDS:
-            series = (name_of(row["extension"]), name_of(row["sheet"]))
-            panels.setdefault(name_of(row["program"]), []).append(Point(series, int(row["register_bits"]), int(row["cycles"])))
+            extension, sheet, program = (names[column][row[column]] for column in COLUMNS[:3])
+            panels.setdefault(program, []).append(Point((extension, sheet), int(row["register_bits"]), int(row["cycles"])))
+    return panels
+
+
+def plot(rows):
+    """A panel for each program: cycles up, bits of registers across, a sign for each extension and datasheet."""
+    panels = panels_of(rows)
     if not panels:
         return None
     shown = dict(list(panels.items())[:MOST_PANELS])
@@ -284,8 +291,10 @@ def draw_sign(picture, x, y, sign, tip):
         picture.polygon([(x + dx, y + dy) for dx, dy in arm], tip, **style)
 
 
-def name_of(path):
-    return Path(path).stem
+def short_names(paths):
+    """For each path the name of its file without its ending, or the path itself where another one has that name too."""
+    stems = [Path(it).stem for it in set(paths)]
+    return {it: Path(it).stem if stems.count(Path(it).stem) == 1 else it for it in paths}
 
 
 def parse_options():

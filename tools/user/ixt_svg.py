@@ -123,6 +123,7 @@ class Legend:
 
     def add(self, sign_width, words, draw):
         """`draw(x, y)` draws the sign, whose left edge and base line are given."""
+        words = fitted(words, self.size, self.room - sign_width - 5)
         wide = sign_width + 5 + text_width(words, self.size) + 16
         if self.x > self.left and self.x + wide > self.left + self.room:
             self.x, self.y = self.left, self.y + self.height

@@ -19,6 +19,7 @@ MOST_IN_BLOCK = 110
 MOST_WITH_READS = 40
 LEAST_LINE = 6.5
 WINDOW = "#ececec"
+HELD_BY = "held by"
 CORE, GATES, WIRES = SHADES[0], SHADES[2], SHADES[4]
 
 
@@ -222,7 +223,8 @@ def frame_of(block, corner, width, line, short):
     size = min(10, line * 0.72)
     facts, operations = block.facts, block.operations
     labels = max((text_width(label_of(it), size) for it in operations), default=0) + 8
-    bounds = max((text_width(held_text(facts.held[it.number], short), size) for it in operations), default=0) + 10
+    held = [HELD_BY] + [held_text(facts.held[it.number], short) for it in operations]
+    bounds = max(text_width(it, size + 1 if it == HELD_BY else size) for it in held) + 10
     first = min((it.time if short else it.early for it in operations), default=0)
     last = max((max(it.time + it.latency, facts.kept[it.number]) for it in operations), default=0)
     return Frame(*corner, width, line, size, labels, min(bounds, width * 0.45), first, last, short)
@@ -233,10 +235,10 @@ def label_of(it):
 
 
 def draw_block(picture, frame, block):
-    picture.text(frame.left, frame.top - 32, fitted(block.head, 11, frame.width), 11, weight="bold")
+    picture.text(frame.left, frame.top - 32, fitted(block.head, 11, STANDING[0] - 16), 11, weight="bold")
     bottom = frame.top + frame.line * len(block.operations)
     draw_times(picture, frame, bottom)
-    picture.text(frame.column(frame.last + 1) + 8, frame.top - 5, "held by", min(9, frame.size + 1), fill=PALE)
+    picture.text(frame.column(frame.last + 1) + 8, frame.top - 5, HELD_BY, min(9, frame.size + 1), fill=PALE)
     places = {it.number: at for at, it in enumerate(block.operations)}
     for it in block.operations:
         draw_window(picture, frame, places[it.number], it)
