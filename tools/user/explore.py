@@ -243,7 +243,7 @@ def draw_panel(picture, place, program, points, series):
         if it.series in series:
             at = taken.setdefault((it.registers, it.cycles), 0)
             taken[(it.registers, it.cycles)] += 1
-            x = grid[0] + grid[2] * it.registers / across[-1] + 7 * at
+            x = place_across(grid, it.registers, across) + 7 * at
             y = grid[1] + grid[3] * (1 - it.cycles / up[-1])
             tip = f"{it.series[0]} on {it.series[1]}: {it.cycles} cycles, {it.registers} bits"
             draw_sign(picture, min(x, grid[0] + grid[2]), y, series[it.series], tip)
@@ -256,6 +256,11 @@ def ticks(most):
     return list(range(0, max(most, 1) + step, step))
 
 
+def place_across(grid, number, across):
+    """Where a number is across; 0 keeps off the axis, so that its sign touches no number beside that."""
+    return grid[0] + 9 + (grid[2] - 9) * number / across[-1]
+
+
 def draw_axes(picture, grid, across, up):
     left, top, width, height = grid
     for at in up:
@@ -263,7 +268,7 @@ def draw_axes(picture, grid, across, up):
         picture.line(left, y, left + width, y, stroke=HAIR)
         picture.text(left - 5, y + 3, str(at), 8, anchor="end")
     for at in across:
-        x = left + width * at / across[-1]
+        x = place_across(grid, at, across)
         picture.line(x, top, x, top + height, stroke=HAIR)
         picture.text(x, top + height + 12, str(at), 8, anchor="middle")
     picture.line(left, top, left, top + height, stroke=INK)
@@ -333,6 +338,8 @@ def main():
     check_files(options)
     parallel = check_parallel(options.parallel)
     folder, jobs = Path(options.folder), jobs_text(options)
+    # (the launcher proves and builds a program that is missing: once, and not in each job)
+    run_program(options.ixt, ["check", options.extensions[0]])
     prepare(folder, jobs, options.resume)
     run_all(options, parallel, folder)
     rows, missing = gather(folder, options)

@@ -529,7 +529,8 @@ def kind_name(kind):
 
 
 def add_program_option(parser):
-    parser.add_argument("--ixt", metavar="PATH", default=str(LAUNCHER), help="the program (else the launcher of this repository)")
+    program = os.environ.get("IXT") or str(LAUNCHER)
+    parser.add_argument("--ixt", metavar="PATH", default=program, help="the program (else $IXT, else the launcher of this repository)")
 
 
 def add_output_option(parser):

@@ -195,7 +195,7 @@ def schedule_page(behaviours, period):
         frame = frame_of(block, (left, top + heads), width, line, wide)
         draw_block(picture, frame, block)
         bottom = max(bottom, frame.top + line * len(block.operations))
-        right = max(right, frame.column(frame.last + 1) + 8 + frame.bounds)
+        right = max(right, frame.column(frame.last + 1) + 8 + frame.bounds, min(24 + text_width(block.head, 11), STANDING[0]))
         top = 8 if wide else bottom + 10
     legend = schedule_legend(picture, facts, (bottom + 22, right - 16), period, wide)
     return picture.whole(right, legend.bottom())
