@@ -1,8 +1,13 @@
+ghost use Rattle.ix_extension.specs.Extensions.{view_extension};
+ghost use Rattle.ix_extension.specs.WellFormed.{IsWellFormed};
+ghost use Rattle.ix_behaviour.specs.Behaviours.{HasBehaviour};
+
 use crate::done::Done;
 use crate::given::{Given, Why, given_in};
-use effect_cases::values;
+use effect_cases::{Case, values};
 use ix_bits::Bits;
 use ix_eval::{Effect, Inputs, Scratch, eval};
+use ix_tree::Extension;
 use std::alloc::Global;
 
 fn of_word(word: Option<u32>) -> Option<u128> {
@@ -38,10 +43,12 @@ fn done_by(effect: &Effect) -> Done {
     }
 }
 
-/// What a behaviour does in a case, as the evaluator says.
-pub fn done_in(alloc: Global, case: &[u8]) -> Result<Done, Why> {
-    let Given { extension, case } = given_in(alloc, case)?;
-    let mut scratch = Scratch::new(alloc, &extension)?;
+// What a behaviour of an extension does in a case, as the evaluator says.
+fn effect_of(alloc: Global, extension: &Extension, case: &Case) -> Result<Effect, Why>
+    requires well_formed { IsWellFormed extension.now }
+    requires in_range { HasBehaviour (view_extension extension.now) case.now.which }
+{
+    let mut scratch = Scratch::new(alloc, extension)?;
     let inputs = Inputs {
         word: case.word,
         rs1: case.rs1,
@@ -51,12 +58,18 @@ pub fn done_in(alloc: Global, case: &[u8]) -> Result<Done, Why> {
     };
     let from = case.at;
     let bytes = case.bytes;
-    let effect = eval(
-        &extension,
+    Ok(eval(
+        extension,
         case.which,
         &inputs,
         |at, _count| if at == from { bytes } else { 0 },
         &mut scratch,
-    );
+    ))
+}
+
+/// What a behaviour does in a case, as the evaluator says.
+pub fn done_in(alloc: Global, case: &[u8]) -> Result<Done, Why> {
+    let Given { extension, case } = given_in(alloc, case)?;
+    let effect = effect_of(alloc, &extension, &case)?;
     Ok(done_by(&effect))
 }
