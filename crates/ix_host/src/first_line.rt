@@ -1,3 +1,5 @@
+ghost use Rattle.std.specs.Prelude.{None};
+
 use ix_io::{Failed, HostSink, Sink};
 
 /// The most bytes that are kept.
