@@ -5,7 +5,6 @@
 //! - `many NAME COUNT`, and behind this line a text that stands in the file so many times;
 //! - `byte NAME NUMBER`: the file is this one byte;
 //! - `diagnose WORDS`: of the command of these words the first line of its output is written, and what the program writes of it to the standard error;
-//! - `core NAME EXT IMAGE WAITS CYCLES`: the run of these files on a core that no command has, `early` or `late`;
 //! - `faults READ MOST WRITE MOST`, and behind this line the words of a command in which this read and this write fail, counted from 0 (`-`: none does), and so many bytes at most go in one of
 //!   them.
 //!
@@ -14,7 +13,6 @@
 #![tactic(auto)]
 
 mod files;
-mod own_core;
 mod parts;
 
 use ix_io::HostSink;

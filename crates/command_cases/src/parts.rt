@@ -1,5 +1,4 @@
 use crate::files::{END, files_of, is_command};
-use crate::own_core::run_own_core;
 use ix_bits::{List, Memory};
 use ix_diagnose::explain;
 use ix_io::{MemShelf, MemSink, Sink, write_all};
@@ -118,9 +117,6 @@ pub fn run_parts<S: Sink>(alloc: Global, text: &str, sink: &mut S) -> Result<(),
             run_faulty(alloc, text, told, sink)?;
         } else if let Some(command) = part.strip_prefix("diagnose ") {
             run_diagnosed(alloc, command, &mut shelf, sink)?;
-        } else if let Some(own) = part.strip_prefix("core ") {
-            run_own_core(alloc, own, &mut shelf, sink);
-            let _written = write_all(sink, b"\x1e");
         } else if is_command(part) {
             run_command(alloc, part, &mut shelf, sink)?;
         }
