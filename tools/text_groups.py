@@ -17,7 +17,9 @@ def write(name, text):
 
 
 def put_group(word, answered):
-    """Puts texts with the lines of their answers in place of a word's cases. A character is a byte."""
+    """Puts texts with the lines of their answers in place of the cases of a word.
+
+    A character stands for a byte."""
     cases = read("stdin").split(END)
     lines = read("stdout").split("\n")
     places = [place for place, case in enumerate(cases) if case.startswith(word + "\n")]
