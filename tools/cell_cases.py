@@ -1,10 +1,13 @@
-#!/usr/bin/env python3
-"""Makes stdin and stdout of crates/cell_cases: each of the 24 kinds of operations that compute, at operands of 1, 32, 33, 64 and 128 bits (less
-where the result would pass 128), on patterns at the ends of their ranges and on some that look random. The results are of exact whole numbers."""
-import pathlib
+"""Makes the case `cells` of crates/number_cases.
+
+It has each of the 24 kinds of operations that compute, at operands of 1, 32, 33, 64 and 128 bits
+(less where the result would pass 128), on patterns at the ends of their ranges and on some that
+look random. The results are of exact whole numbers.
+"""
 import random
 
-CRATE = pathlib.Path(__file__).resolve().parent.parent / "crates" / "cell_cases"
+from case_files import replace
+
 WIDTHS = [1, 32, 33, 64, 127, 128]
 draw = random.Random(27)
 
@@ -151,8 +154,10 @@ OPERATORS = ["Add", "Sub", "Mul", "And", "Or", "Xor", "Shl", "Shr", *COMPARE, "L
 def main():
     cases = [case for op in OPERATORS for case in two(op)]
     cases += [*one(), *choices(), *tables()]
-    (CRATE / "stdin").write_text("".join(f"{text}\n" for text, _ in cases))
-    (CRATE / "stdout").write_text("".join(f"{text} = {answer}\n" for text, answer in cases))
+    table = "".join(f"{text}\n" for text, _ in cases)
+    due = "".join(f"{text} = {answer}\n" for text, answer in cases)
+    # (a table is answered line by line, and the word stands in a line of its own)
+    replace("number_cases", "cells", [(table, due)], answers=lambda case: case.count("\n") - 1)
 
 
 if __name__ == "__main__":

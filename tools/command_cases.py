@@ -1,7 +1,7 @@
 #!/usr/bin/env python3
-"""Makes stdin and stdout of crates/command_cases: the commands of docs/TUTORIAL.md (tools/commands/tutorial), programs on pipelines with extensions (tools/commands/runs) and of the base set
+"""Makes stdin and stdout of crates/command_cases: the commands of docs/TUTORIAL.md and the reports of docs/SCHEDULES.md (tools/commands/tutorial, schedules), programs on pipelines with extensions (tools/commands/runs) and of the base set
 alone on each core of a datasheet (tools/commands/base), whose answers come from a pipeline in another language written from the rules, and, here below, commands on files, with reads and writes
-that fail, and the answers due by hand.
+that fail, and the answers by hand. Those of tools/commands/cores come from tools/pipeline_peer.rs with the numbers of its two cores in place of a datasheet's.
 """
 import re
 from pathlib import Path
@@ -180,6 +180,6 @@ parts.append("byte NOTEXT 255")
 due("schedule MULX NOTEXT", 8, "refused Sheet Utf8 -\n")
 due("schedule EMPTY EMPTY", 7, "refused Extension At 0 0\n")
 
-STORED = [Path(__file__).resolve().parent / "commands" / name for name in ["tutorial", "runs", "base"]]
+STORED = [Path(__file__).resolve().parent / "commands" / name for name in ["tutorial", "schedules", "runs", "base", "diagnoses", "cores"]]
 FOLDER.joinpath("stdin").write_bytes(b"".join(it.with_suffix(".cases").read_bytes() for it in STORED) + "".join(part + END for part in parts).encode())
 FOLDER.joinpath("stdout").write_bytes(b"".join(it.with_suffix(".answers").read_bytes() for it in STORED) + "".join(answer + END for answer in answers).encode())

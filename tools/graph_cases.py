@@ -1,5 +1,7 @@
 #!/usr/bin/env python3
-"""Makes stdin and stdout of crates/graph_cases: graph_cases.py VECTORS [--first N] [NAME ...]
+"""Makes the cases `graph` of crates/behaviour_cases.
+
+Use: graph_cases.py VECTORS [--first N] [NAME ...]
 
 VECTORS is a file of JSON lines, plain or gzipped, a case a line: `name`, `ext` (the text of an extension), `tables` and `behaviours`,
 each with its `name`, and `ops` or a `refusal`. Taken are the cases with these names and, of each group of names that differ in
@@ -9,10 +11,8 @@ hand, lie in tools/graphs/.
 import argparse
 import gzip
 import json
-import pathlib
 
-TOP = pathlib.Path(__file__).resolve().parent.parent
-CRATE = TOP / "crates" / "graph_cases"
+from case_files import TOP, replace
 
 
 def lines_of(case):
@@ -42,6 +42,12 @@ def chosen(cases, names, first):
     return taken
 
 
+def worked():
+    """The texts whose graphs were worked out by hand."""
+    for due in sorted((TOP / "tools" / "graphs").glob("*.graphs")):
+        yield (TOP / "examples" / f"{due.stem}.core_desc").read_text(), due.read_text()
+
+
 def main():
     parser = argparse.ArgumentParser()
     parser.add_argument("vectors")
@@ -51,14 +57,8 @@ def main():
     opened = gzip.open(given.vectors, "rt") if given.vectors.endswith(".gz") else open(given.vectors)
     with opened as file:
         cases = chosen([json.loads(line) for line in file], given.names, given.first)
-    with open(CRATE / "stdin", "w") as stdin, open(CRATE / "stdout", "w") as stdout:
-        for due in sorted((TOP / "tools" / "graphs").glob("*.graphs")):
-            stdin.write((TOP / "examples" / f"{due.stem}.core_desc").read_text() + "\x1e")
-            stdout.write(due.read_text())
-        for case in cases:
-            stdin.write(case["ext"] + "\x1e")
-            for line in lines_of(case):
-                stdout.write(line + "\n")
+    made = ((case["ext"], "".join(f"{line}\n" for line in lines_of(case))) for case in cases)
+    replace("behaviour_cases", "graph", [*worked(), *made])
 
 
 main()

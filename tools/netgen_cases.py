@@ -1,5 +1,7 @@
 #!/usr/bin/env python3
-"""Makes stdin and stdout of crates/netgen_cases: netgen_cases.py VECTORS [--first N] [--most-lives N]
+"""Makes the cases `generate` of crates/net_cases.
+
+Use: netgen_cases.py VECTORS [--first N] [--most-lives N]
 
 Before the vectors stand the sum of two registers in given cycles, and the extensions of examples/ on the cores of three, four and five stages, and on a
 slow one, with tokens whose inputs look random.
@@ -10,11 +12,10 @@ in their last number alone, the first N are taken.
 import argparse
 import gzip
 import json
-import pathlib
 import re
 
-TOP = pathlib.Path(__file__).resolve().parent.parent
-CRATE = TOP / "crates" / "netgen_cases"
+from case_files import END, TOP, replace
+
 SLOW = "core = \"three\"\nperiod = 1000\n[delay]\nsub = 700\nge = 700\nadd = 600\nmul = 900\n"
 TOKENS = 24
 # A store has one time, in which its address is a product and a sum: on the slow core these pass the period.
@@ -79,7 +80,7 @@ def worked():
             due = "".join(f"ixt_{name} {TOKENS} tokens\n" for name in behaviours(text))
             if (path.stem, sheet) in NO_SCHEDULE:
                 due = "NoSchedule\n"
-            yield f"{text}\x1f{toml}\x1ftokens {TOKENS} {seed}\x1e", due + "\x1e"
+            yield f"{text}\x1f{toml}\x1ftokens {TOKENS} {seed}", due + END
 
 
 # The sum of two registers on five stages: of 5 and 7 with the enable and then zeros; the same without it; and then two cycles held with other values.
@@ -95,7 +96,17 @@ def sums():
     toml = (TOP / "examples" / "five.toml").read_text()
     put, due = lives_of({"lives": SUMS}, len(SUMS))
     ports = head("ixt_addx", [("en1", 1), ("in0", 32), ("in1", 32)], [("out4_v", 32), ("out4_c", 1)])
-    return f"{text}\x1f{toml}\x1f{put}\x1e", f"{ports}{due}\x1e"
+    return f"{text}\x1f{toml}\x1f{put}", f"{ports}{due}{END}"
+
+
+def given_cycles(case, most):
+    """A case of the vectors: its modules in the cycles that are given, so many lives at most."""
+    text, sheet = files_of(case)
+    modules = case["modules"]
+    lives = [lives_of(module, most) for module in modules]
+    heads = (head(module["name"], module["inputs"], module["outputs"]) for module in modules)
+    due = "".join(line + due for line, (_, due) in zip(heads, lives))
+    return f"{text}\x1f{sheet}\x1f" + "\x1d".join(put for put, _ in lives), due + END
 
 
 def main():
@@ -107,17 +118,8 @@ def main():
     opened = gzip.open(given.vectors, "rt") if given.vectors.endswith(".gz") else open(given.vectors)
     with opened as file:
         cases = chosen([json.loads(line) for line in file], given.first)
-    with open(CRATE / "stdin", "w", newline="") as stdin, open(CRATE / "stdout", "w", newline="") as stdout:
-        for put, due in [sums(), *worked()]:
-            stdin.write(put)
-            stdout.write(due)
-        for case in cases:
-            text, sheet = files_of(case)
-            lives = [lives_of(module, given.most_lives) for module in case["modules"]]
-            stdin.write(f"{text}\x1f{sheet}\x1f" + "\x1d".join(put for put, _ in lives) + "\x1e")
-            for module, (_, due) in zip(case["modules"], lives):
-                stdout.write(head(module["name"], module["inputs"], module["outputs"]) + due)
-            stdout.write("\x1e")
+    made = [sums(), *worked(), *(given_cycles(case, given.most_lives) for case in cases)]
+    replace("net_cases", "generate", made, answer_end=END)
 
 
 if __name__ == "__main__":

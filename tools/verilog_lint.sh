@@ -1,6 +1,7 @@
 #!/bin/sh
 # Gives each module of a Verilog text to iverilog, verilator and yosys, where they are installed. No message is wanted.
-# Use: tools/verilog_lint.sh FILE   (for instance crates/verilog_cases/stdout)
+# Use: tools/verilog_lint.sh FILE
+# (for instance what `printf 'print sum\036' | crates/verilog_cases/out/verilog_cases` writes)
 set -e
 folder=$(mktemp -d)
 trap 'rm -rf "$folder"' EXIT

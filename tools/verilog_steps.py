@@ -1,7 +1,8 @@
 #!/usr/bin/env python3
 """Steps the modules of a Verilog text in iverilog beside our simulator, on the same inputs, and tells each difference.
 
-Use: tools/verilog_steps.py NET_STEPS FILE CYCLES   (NET_STEPS is the program of the crate net_steps; `rt run` in its folder builds it)
+Use: tools/verilog_steps.py NET_CASES FILE CYCLES
+NET_CASES is the program of the crate net_cases; `rt run` in its folder builds it.
 """
 import os
 import re
@@ -58,7 +59,9 @@ def main():
     steps, path, cycles = sys.argv[1:4]
     with open(path) as file:
         text = file.read()
-    printed = subprocess.run([steps, cycles], input=text, capture_output=True, text=True, check=True).stdout
+    case = f"step {cycles}\n{text}\x1e"
+    stepped = subprocess.run([steps], input=case, capture_output=True, text=True, check=True)
+    printed = stepped.stdout.rstrip("\x1e")
     modules = modules_of(text)
     differences = 0
     parts = re.split(r"^module (\w+)\n", printed, flags=re.M)[1:]

@@ -74,6 +74,7 @@ pub(crate) fn is_command(part: &str) -> bool {
         && !part.starts_with("many ")
         && !part.starts_with("byte ")
         && !part.starts_with("faults ")
+        && !part.starts_with("tell ")
 }
 
 /// The files of a text's parts, or those that stand there as texts alone, since the others may be long.

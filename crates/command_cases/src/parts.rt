@@ -1,5 +1,7 @@
 use crate::files::{END, files_of, is_command};
+use crate::own_core::run_own_core;
 use ix_bits::{List, Memory};
+use ix_diagnose::explain;
 use ix_io::{MemShelf, MemSink, Sink, write_all};
 use ix_tool::tool::run_tool;
 use std::alloc::{AllocError, Global};
@@ -82,6 +84,28 @@ fn run_faulty<S: Sink>(
     write_status(alloc, status.code(), sink)
 }
 
+// Runs a command and writes the first line of its output, what is told of it, and the exit status.
+fn run_diagnosed<S: Sink>(
+    alloc: Global,
+    part: &str,
+    shelf: &mut MemShelf,
+    sink: &mut S,
+) -> Result<(), AllocError> {
+    let Ok(mut output) = MemSink::new(alloc, List::new(alloc), MOST_READ) else {
+        return Ok(());
+    };
+    let words = words_of(alloc, part)?;
+    let status = run_tool(alloc, words.as_slice(), shelf, &mut output);
+    let text = str::from_utf8(output.bytes()).unwrap_or("");
+    let (first, _) = text.split_once('\n').unwrap_or(("", ""));
+    let line = format!(in alloc; "{first}\n")?;
+    let _written = write_all(sink, line.as_bytes());
+    if let Some(told) = explain(alloc, line.as_str(), words.as_slice(), shelf) {
+        let _told = write_all(sink, told.as_bytes());
+    }
+    write_status(alloc, status.code(), sink)
+}
+
 /// Puts the files of a text's parts, and then runs its commands in their order: of each its output and its exit status are written, ended by a byte 30. Where memory is not
 /// found, the rest is left out.
 pub fn run_parts<S: Sink>(alloc: Global, text: &str, sink: &mut S) -> Result<(), AllocError> {
@@ -90,10 +114,15 @@ pub fn run_parts<S: Sink>(alloc: Global, text: &str, sink: &mut S) -> Result<(),
     };
     let mut shelf = MemShelf::new(files, List::new(alloc), MOST_READ);
     for part in text.split(END) {
-        match part.strip_prefix("faults ") {
-            Some(told) => run_faulty(alloc, text, told, sink)?,
-            None if is_command(part) => run_command(alloc, part, &mut shelf, sink)?,
-            None => {}
+        if let Some(told) = part.strip_prefix("faults ") {
+            run_faulty(alloc, text, told, sink)?;
+        } else if let Some(command) = part.strip_prefix("diagnose ") {
+            run_diagnosed(alloc, command, &mut shelf, sink)?;
+        } else if let Some(own) = part.strip_prefix("core ") {
+            run_own_core(alloc, own, &mut shelf, sink);
+            let _written = write_all(sink, b"\x1e");
+        } else if is_command(part) {
+            run_command(alloc, part, &mut shelf, sink)?;
         }
     }
     Ok(())

@@ -41,7 +41,7 @@ fn put_report(out: &mut String, alloc: Global, report: &List<u8>) -> Result<(), 
     }
 }
 
-/// Puts what the scheduling of an extension on the core of a datasheet comes to.
+/// Puts the schedule of an extension on the core of a datasheet, or its refusal.
 fn put_scheduled(
     out: &mut String,
     alloc: Global,

@@ -20,7 +20,7 @@ fn put_refusal(out: &mut String, error: AsmErr) -> Result<(), AllocError> {
     }
 }
 
-/// Puts what the assembling of a source with an extension comes to.
+/// Puts the image of a source with an extension, or its refusal.
 fn put_assembled(
     out: &mut String,
     alloc: Global,

@@ -1,334 +1,61 @@
-//! Prints nets as Verilog text: a module with a register, and each right side at widths 1 and 128. With a number, prints 64 chains of so many cells
-//! and tells the lengths of their texts.
+//! Prints nets as Verilog, and reads Verilog texts. Standard input has cases, each ended by a byte
+//! 30. A case is a word, a space or a line feed, and what the word asks about:
+//!
+//! - `print NET`: the text of a net. `sum` is a module with a register, `wide 1` and `wide 128`
+//!   have each right side at that width.
+//! - `chain COUNT`: the length of the text of a chain of so many cells.
+//! - `read`: a line with the count of the nets of a text, and whether they are printed as this
+//!   text, or with why it is refused.
+//! - `prefixes`: the count of the proper prefixes of a text that are refused.
+//! - `words`: a line for each word of a text with its place, and `--` behind them.
 #![tactic(auto)]
 
-ghost use Rattle.std.specs.Prelude.{◌≡◌, length};
+mod modules;
+mod nets;
+mod printed;
+mod words;
 
-use ix_bits::{Bits, List, Memory, Name};
-use ix_net::{Bank, Cell, Form, Net, Port, is_valid};
-use ix_vprint::print;
-use std::alloc::Global;
-use std::{env, io};
+use modules::{put_prefixes, put_read};
+use printed::{put_chain, put_printed};
+use std::alloc::{AllocError, Global};
+use std::io;
+use std::io::Read;
+use words::put_words;
 
-fn name(alloc: Global, text: &str) -> Result<Name, Memory> {
-    if text.len() > 80 {
-        return Err(Memory);
+/// The byte behind each case.
+const END: u8 = 30;
+
+/// The first word of a case, and what stands behind the space or line feed that ends it.
+fn parted(case: &[u8]) -> (&str, &[u8]) {
+    let word = case
+        .split(|byte| *byte == b' ' || *byte == b'\n')
+        .next()
+        .unwrap_or(&[]);
+    let rest = case.get(word.len() + 1..).unwrap_or(&[]);
+    (str::from_utf8(word).unwrap_or(""), rest)
+}
+
+/// Puts the answer to a case.
+fn put_answer(out: &mut String, alloc: Global, case: &[u8]) -> Result<(), AllocError> {
+    let (word, rest) = parted(case);
+    match word {
+        "print" => put_printed(out, alloc, rest),
+        "chain" => put_chain(out, alloc, rest),
+        "read" => put_read(out, alloc, rest),
+        "prefixes" => put_prefixes(out, alloc, rest),
+        "words" => put_words(out, alloc, rest),
+        _ => out.push_str("unknown word\n"),
     }
-    Name::from_text(alloc, text)
-}
-
-fn port(alloc: Global, text: &str, width: u8) -> Result<Port, Memory> {
-    let name = name(alloc, text)?;
-    Ok(Port { name, width })
-}
-
-// A right side of one operand, by number.
-fn one(alloc: Global, k: u8, a: &str, width: u8) -> Result<Form, Memory> {
-    let a = name(alloc, a)?;
-    Ok(match k {
-        0 => Form::Not(a),
-        1 => Form::Copy(a),
-        _ => Form::Range {
-            source: a,
-            hi: width,
-            lo: 0,
-        },
-    })
-}
-
-// A right side of two operands, by number.
-fn two(alloc: Global, k: u8, a: &str, b: &str) -> Result<Form, Memory> {
-    let a = name(alloc, a)?;
-    let b = name(alloc, b)?;
-    Ok(match k {
-        0 => Form::Add(a, b),
-        1 => Form::Sub(a, b),
-        2 => Form::Mul(a, b),
-        3 => Form::And(a, b),
-        4 => Form::Or(a, b),
-        5 => Form::Xor(a, b),
-        6 => Form::Eq(a, b),
-        7 => Form::Lt(a, b),
-        8 => Form::LtSigned(a, b),
-        _ => Form::Join(a, b),
-    })
-}
-
-fn choice(alloc: Global) -> Result<Form, Memory> {
-    let c = name(alloc, "c0")?;
-    let a = name(alloc, "a0")?;
-    let b = name(alloc, "b0")?;
-    Ok(Form::Choose(c, a, b))
-}
-
-// The cells of a sum of two words whose low half waits in a register.
-fn sum_form(alloc: Global, k: u8) -> Result<Form, Memory> {
-    match k {
-        0 => Ok(Form::Hex(Bits { raw: 0, width: 1 })),
-        1 => two(alloc, 9, "n0", "in0"),
-        2 => two(alloc, 9, "n0", "in1"),
-        3 => two(alloc, 0, "n1", "n2"),
-        4 => one(alloc, 2, "n3", 31),
-        5 => one(alloc, 1, "r0", 32),
-        _ => Ok(Form::Hex(Bits { raw: 1, width: 1 })),
-    }
-}
-
-fn sum_target(k: u8) -> (&'static str, u8) {
-    match k {
-        0 => ("n0", 1),
-        1 => ("n1", 33),
-        2 => ("n2", 33),
-        3 => ("n3", 33),
-        4 => ("n4", 32),
-        5 => ("out4_v", 32),
-        _ => ("out4_c", 1),
-    }
-}
-
-fn cell(alloc: Global, text: &str, width: u8, form: Form) -> Result<Cell, Memory> {
-    match name(alloc, text) {
-        Ok(target) => Ok(Cell {
-            target,
-            width,
-            form,
-        }),
-        Err(_) => Err(Memory),
-    }
-}
-
-fn sum_cell(alloc: Global, k: u8) -> Result<Cell, Memory> {
-    let (text, width) = sum_target(k);
-    let form = sum_form(alloc, k)?;
-    cell(alloc, text, width, form)
-}
-
-fn sum_cells(alloc: Global) -> Result<List<Cell>, Memory> {
-    let mut cells = List::new(alloc);
-    for k in 0u8..7 {
-        cells.push(sum_cell(alloc, k)?)?;
-    }
-    Ok(cells)
-}
-
-fn sum_bank(alloc: Global) -> Result<Bank, Memory> {
-    let target = name(alloc, "r0")?;
-    let enable = name(alloc, "en1")?;
-    let source = name(alloc, "n4")?;
-    Ok(Bank {
-        target,
-        width: 32,
-        enable,
-        source,
-    })
-}
-
-fn sum_port(alloc: Global, k: u8) -> Result<Port, Memory> {
-    match k {
-        0 => port(alloc, "en1", 1),
-        1 => port(alloc, "in0", 32),
-        2 => port(alloc, "in1", 32),
-        3 => port(alloc, "out4_v", 32),
-        _ => port(alloc, "out4_c", 1),
-    }
-}
-
-fn sum_ports(alloc: Global, from: u8, to: u8) -> Result<List<Port>, Memory> {
-    let mut ports = List::new(alloc);
-    for k in from..to {
-        ports.push(sum_port(alloc, k)?)?;
-    }
-    Ok(ports)
-}
-
-fn sum_banks(alloc: Global) -> Result<List<Bank>, Memory> {
-    let mut banks = List::new(alloc);
-    banks.push(sum_bank(alloc)?)?;
-    Ok(banks)
-}
-
-fn sum(alloc: Global) -> Result<Net, Memory> {
-    let name = name(alloc, "ixt_addx")?;
-    let inputs = sum_ports(alloc, 0, 3)?;
-    let outputs = sum_ports(alloc, 3, 5)?;
-    let banks = sum_banks(alloc)?;
-    let cells = sum_cells(alloc)?;
-    Ok(Net {
-        name,
-        inputs,
-        cells,
-        banks,
-        outputs,
-    })
-}
-
-// Each right side but `{a, b}`, by number.
-fn any_form(alloc: Global, k: u8, width: u8) -> Result<Form, Memory> {
-    if k < 9 {
-        return two(alloc, k, "a0", "b0");
-    }
-    match k {
-        9 => one(alloc, 0, "a0", width),
-        10 => Ok(Form::Hex(ones(width))),
-        11 => one(alloc, 1, "b0", width),
-        12 => choice(alloc),
-        _ => one(alloc, 2, "a0", if width == 1 { 0 } else { 127 }),
-    }
-}
-
-fn ones(width: u8) -> Bits {
-    if width == 1 {
-        Bits { raw: 1, width: 1 }
-    } else {
-        Bits {
-            raw: u128::MAX,
-            width: 128,
-        }
-    }
-}
-
-fn any_cell(alloc: Global, k: u8, width: u8) -> Result<Cell, Memory> {
-    let Ok(text) = format!(in alloc; "w{k}") else {
-        return Err(Memory);
-    };
-    let form = any_form(alloc, k, width)?;
-    cell(
-        alloc,
-        text.as_str(),
-        if k < 6 || k > 8 { width } else { 1 },
-        form,
-    )
-}
-
-fn any_cells(alloc: Global, width: u8) -> Result<List<Cell>, Memory> {
-    let mut cells = List::new(alloc);
-    for k in 0u8..14 {
-        cells.push(any_cell(alloc, k, width)?)?;
-    }
-    Ok(cells)
-}
-
-fn any_inputs(alloc: Global, width: u8) -> Result<List<Port>, Memory> {
-    let mut ports = List::new(alloc);
-    ports.push(port(alloc, "a0", width)?)?;
-    ports.push(port(alloc, "b0", width)?)?;
-    ports.push(port(alloc, "c0", 1)?)?;
-    Ok(ports)
-}
-
-fn every_form(alloc: Global, text: &str, width: u8) -> Result<Net, Memory> {
-    let name = name(alloc, text)?;
-    let inputs = any_inputs(alloc, width)?;
-    let cells = any_cells(alloc, width)?;
-    Ok(Net {
-        name,
-        inputs,
-        cells,
-        banks: List::new(alloc),
-        outputs: List::new(alloc),
-    })
-}
-
-fn far_name(alloc: Global, k: u32) -> Result<Name, Memory> {
-    let Ok(text) = format!(in alloc; "n{k}") else {
-        return Err(Memory);
-    };
-    name(alloc, text.as_str())
-}
-
-// A cell that adds the one before it to itself.
-fn far_cell(alloc: Global, k: u32) -> Result<Cell, Memory> {
-    let target = far_name(alloc, k.wrapping_add(1))?;
-    let a = far_name(alloc, k)?;
-    let b = far_name(alloc, k)?;
-    Ok(Cell {
-        target,
-        width: 32,
-        form: Form::Add(a, b),
-    })
-}
-
-fn far_cells(alloc: Global, count: u32) -> Result<List<Cell>, Memory> {
-    let mut cells = List::new(alloc);
-    for k in 0..count {
-        cells.push(far_cell(alloc, k)?)?;
-    }
-    Ok(cells)
-}
-
-// A chain of so many cells.
-fn far(alloc: Global, count: u32) -> Result<Net, Memory> {
-    let name = name(alloc, "far_0")?;
-    let mut inputs = List::new(alloc);
-    inputs.push(port(alloc, "n0", 32)?)?;
-    let cells = far_cells(alloc, count)?;
-    Ok(Net {
-        name,
-        inputs,
-        cells,
-        banks: List::new(alloc),
-        outputs: List::new(alloc),
-    })
-}
-
-fn made(alloc: Global, k: u8) -> Result<Net, Memory> {
-    match k {
-        0 => sum(alloc),
-        1 => every_form(alloc, "wide_1", 1),
-        _ => every_form(alloc, "wide_128", 128),
-    }
-}
-
-// The text of a net, where it is valid.
-fn text(alloc: Global, nets: &[Net]) -> Result<Option<List<u8>>, Memory>
-    requires { length nets.now ≡ 1 }
-{
-    if !is_valid(alloc, &nets[0])? {
-        return Ok(None);
-    }
-    Ok(Some(print(alloc, nets)?))
-}
-
-fn shown(alloc: Global, k: u8) -> Result<Option<List<u8>>, Memory> {
-    let net = made(alloc, k)?;
-    text(alloc, &[net])
-}
-
-// The length of the text of a chain.
-fn far_length(alloc: Global, count: u32) -> Result<usize, Memory> {
-    let net = far(alloc, count)?;
-    match text(alloc, &[net])? {
-        Some(bytes) => Ok(bytes.len()),
-        None => Ok(0),
-    }
-}
-
-// With a number as argument, prints that many chains of so many cells, and tells their lengths.
-fn measured(rt: &HostRuntime, count: u32) -> io::Result<()> {
-    for _ in 0..64 {
-        match far_length(rt.alloc(), count) {
-            Ok(length) => println!(rt; "{length}")?,
-            Err(_) => println!(rt; "no memory")?,
-        }
-    }
-    Ok(())
 }
 
 fn main(rt: HostRuntime) -> io::Result<()> {
-    let mut words = env::args(&rt)?;
-    words.next();
-    if let Some(word) = words.next() {
-        return measured(&rt, word.parse::<u32>().unwrap_or(0));
-    }
-    for k in 0u8..3 {
-        match shown(rt.alloc(), k) {
-            Ok(Some(bytes)) => match str::from_utf8(bytes.as_slice()) {
-                Ok(text) => print!(rt; "{text}")?,
-                Err(_) => println!(rt; "no text")?,
-            },
-            Ok(None) => println!(rt; "not valid")?,
-            Err(_) => println!(rt; "no memory")?,
-        }
+    let mut bytes = Vec::new(rt.alloc());
+    rt.reader().read_to_end(&mut bytes)?;
+    for case in bytes.as_slice().split_inclusive(|byte| *byte == END) {
+        let case = case.strip_suffix(&[END]).unwrap_or(case);
+        let mut answer = String::new(rt.alloc());
+        put_answer(&mut answer, rt.alloc(), case)?;
+        print!(rt; "{answer}")?;
     }
     Ok(())
 }

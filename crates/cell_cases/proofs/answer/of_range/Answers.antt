@@ -1,5 +1,0 @@
-use Rattle.std.proofs.Common.{refl, arith}
-use Rattle.cell_cases.proofs.answer.of_range.Goals as goal
-
-pub of_one-requires-clause-typed : goal.of_one-requires-clause-typed
-of_one-requires-clause-typed c = (c.in_ok-a.a.ty, refl, record { order = omega arith; within = omega arith; bits = record { unsigned = refl; wide = refl } })

@@ -1,0 +1,11 @@
+use Rattle.std.proofs.Common.{◌≡◌, ◌≢◌, ℕ, ◌<◌, ◌≤◌, get_or}
+use Rattle.ix_diagnose.proofs.place.line_start.Given as goal
+
+abbrev pub invariant-loop-start : goal.invariant-loop-start
+invariant-loop-start l = record {
+  before : l.start ≤ l.at;
+  inside : (k : ℕ) → l.start ≤ k → k < l.at → get_or l.bytes k 0 ≢ 10;
+}
+
+abbrev pub decreases-loop-start : goal.decreases-loop-start
+decreases-loop-start l = l.start

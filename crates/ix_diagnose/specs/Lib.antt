@@ -1,0 +1,4 @@
+pub mod Findings
+pub mod Lines
+pub mod Refusals
+pub mod Shown
