@@ -1,5 +1,7 @@
-"""The cases of crates/text_cases, for the scripts that make them. Those of one word stand together, and each but
-those of `listing`, which stand last, has one line for an answer."""
+"""The cases of crates/text_cases, for the scripts that make them.
+
+Those of one word stand together. Each has one line for an answer, but those of `listing`, which
+stand last."""
 from pathlib import Path
 
 CRATE = Path(__file__).resolve().parent.parent / "crates" / "text_cases"
@@ -15,7 +17,9 @@ def write(name, text):
 
 
 def put_group(word, answered):
-    """Puts texts with the lines of their answers in place of the cases of a word. A character is a byte."""
+    """Puts texts with the lines of their answers in place of the cases of a word.
+
+    A character stands for a byte."""
     cases = read("stdin").split(END)
     lines = read("stdout").split("\n")
     places = [place for place, case in enumerate(cases) if case.startswith(word + "\n")]

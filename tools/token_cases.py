@@ -1,5 +1,7 @@
 #!/usr/bin/env python3
-"""Makes the cases `tokens` of crates/text_cases: texts, and by hand their tokens with their places, or why they have none."""
+"""Makes the cases `tokens` of crates/text_cases.
+
+They are texts, and by hand their tokens with their places, or why they have none."""
 from text_groups import put_group
 
 NAME64 = "a123456789_123456789_123456789_123456789_123456789_123456789_123"

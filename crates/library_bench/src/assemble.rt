@@ -59,8 +59,8 @@ fn words(alloc: Global, lines: &[u8]) -> Result<(u32, u32), Memory> {
     Ok((image.len(), sum))
 }
 
-/// Assembles the lines of a source, 4,096 times one behind the other, with `@` as the number of the copy. It
-/// prints how many words the image has, and the sum of the words modulo 2^32.
+/// Assembles the lines of a source, 4,096 times one behind the other, with `@` as the number of
+/// the copy. It prints how many words the image has, and the sum of the words modulo 2^32.
 pub(crate) fn run(rt: &impl Print, alloc: Global, lines: &[u8]) -> io::Result<()> {
     match words(alloc, lines) {
         Ok((count, sum)) => println!(rt; "{count} words, sum {sum}"),

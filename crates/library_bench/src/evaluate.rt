@@ -126,8 +126,8 @@ fn each(time: Duration, count: u32) -> u128 {
     time.as_nanos() / u128::from(count.max(1))
 }
 
-/// Prints the sums of what the first behaviour of a text and the same written by hand write to rd, and, where it
-/// is timed, the nanoseconds of one evaluation of both.
+/// Prints the sums of what the first behaviour of a text and the same written by hand write to
+/// rd, and, where it is timed, the nanoseconds of one evaluation of both.
 fn measure<R: Clock + Print>(
     rt: &R,
     alloc: Global,
@@ -157,9 +157,10 @@ fn measure<R: Clock + Print>(
     println!(rt; "{first} ns evaluated, {second} ns by hand")
 }
 
-/// Computes the effects of a square root and of a dot product so many times, each beside the same behaviour
-/// written by hand on numbers of 128 bits, and prints a line of the sums of what both write to rd. Where it is
-/// timed, a line of the nanoseconds of one evaluation of both stands behind each.
+/// Computes the effects of a square root and of a dot product so many times, each beside the same
+/// behaviour written by hand on numbers of 128 bits, and prints a line of the sums of what both
+/// write to rd. Where it is timed, a line of the nanoseconds of one evaluation of both stands
+/// behind each.
 pub(crate) fn run<R: Clock + Print>(
     rt: &R,
     alloc: Global,

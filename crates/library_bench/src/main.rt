@@ -1,13 +1,13 @@
 //! Benchmarks of the libraries. The first word of the command line says which one runs:
 //!
 //! - `assemble`: a large source is assembled;
-//! - `evaluate COUNT`: the effects of two behaviours are computed so many times. With the word `timed` behind it
-//!   the nanoseconds of one evaluation are printed too;
+//! - `evaluate COUNT`: the effects of two behaviours are computed so many times. With the word
+//!   `timed` behind it the nanoseconds of one evaluation are printed too;
 //! - `settle CELLS CYCLES`: a net of so many cells is settled so many times;
 //! - `all COUNT CELLS CYCLES`: all of them, one after another.
 //!
-//! The standard input has the lines of a source, the text of an extension with a square root and that of one with
-//! a dot product, each ended by a byte 30.
+//! The standard input has the lines of a source, the text of an extension with a square root and
+//! that of one with a dot product, each ended by a byte 30.
 #![tactic(auto)]
 
 mod assemble;

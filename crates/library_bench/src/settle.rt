@@ -17,7 +17,8 @@ fn name(alloc: Global, number: u32) -> Result<Name, Memory> {
     Name::from_text(alloc, text.as_str())
 }
 
-/// The cells number 1 and on read the input, which is number 0; those from 8 on read the one before, and the one seven before.
+/// The cells number 1 and on read the input, which is number 0; those from 8 on read the one
+/// before, and the one seven before.
 fn form(alloc: Global, k: u32) -> Result<Form, Memory> {
     let a = name(alloc, if k < 8 { 0 } else { k - 1 })?;
     let b = name(alloc, if k < 8 { 0 } else { k - 7 })?;
@@ -98,7 +99,8 @@ fn measure(alloc: Global, count: u32, cycles: u32) -> Result<Option<u128>, Memor
     last_output(alloc, &net, cycles)
 }
 
-/// Prepares a net of so many cells once, settles it so many times, and prints the output of the last cycle.
+/// Prepares a net of so many cells once, settles it so many times, and prints the output of the
+/// last cycle.
 pub(crate) fn run(rt: &impl Print, alloc: Global, count: u32, cycles: u32) -> io::Result<()> {
     match measure(alloc, count, cycles) {
         Ok(Some(raw)) => println!(rt; "{raw}"),

@@ -35,8 +35,8 @@ fn put_refusal(out: &mut String, error: &SheetErr) -> Result<(), AllocError> {
     writeln!(out, "refused {kind} {name}")
 }
 
-/// Puts a line of what a datasheet says, its stages, its period, the delays that are not 0 by their kind's
-/// number, and the ten windows; or the line of its refusal.
+/// Puts a line of what a datasheet says, its stages, its period, the delays that are not 0 by
+/// their kind's number, and the ten windows; or the line of its refusal.
 pub(crate) fn put_answer(out: &mut String, alloc: Global, text: &[u8]) -> Result<(), AllocError> {
     match read_sheet(alloc, text) {
         Ok(sheet) => put_sheet(out, &sheet),

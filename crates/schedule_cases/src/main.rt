@@ -1,15 +1,17 @@
-//! What becomes of datasheets, problems, reports and extensions. A case is a word, a line feed and a text, and a
-//! byte 30 ends it. The word says what is asked of the text:
+//! What becomes of datasheets, problems, reports and extensions. A case is a word, a line feed
+//! and a text, and a byte 30 ends it. The word says what is asked of the text:
 //!
-//! - `datasheet`: a line of what it says, or its refusal. The answers come from the datasheet's description;
-//! - `problems`: for each line, which is a problem, a line of the cost and the times of its schedule, or `cycle`.
-//!   The costs and the least times were enumerated in another language;
-//! - `report`: whether it prints to the same text, or the line that is refused. The answers come from the
-//!   format's description;
-//! - `certificate`: `yes`, or the line of the report that is refused and why. The answers were worked out
-//!   by hand;
-//! - `schedule`: the report of an extension's behaviours on the core of a datasheet, or the refusal, and a byte 30.
-//!   The answers come from an implementation in another language, written from the rules.
+//! - `datasheet`: a line of what it says, or its refusal. The answers come from the datasheet's
+//!   description;
+//! - `problems`: for each line, which is a problem, a line of the cost and the times of its
+//!   schedule, or `cycle`. The costs and the least times were enumerated in another language;
+//! - `report`: whether it prints to the same text, or the line that is refused. The answers come
+//!   from the format's description;
+//! - `certificate`: `yes`, or the line of the report that is refused and why. The answers were
+//!   worked out by hand;
+//! - `schedule`: the report of an extension's behaviours on the core of a datasheet, or the
+//!   refusal, and a byte 30. The answers come from an implementation in another language, written
+//!   from the rules.
 #![tactic(auto)]
 
 mod certificate;

@@ -1,4 +1,4 @@
-ghost use Rattle.std.specs.Prelude.{◌≡◌, ◌≢◌, ◌≤◌, ◌<◌, ℕ, false, length, slice_index_or, IfOk, IfSome};
+ghost use Rattle.std.specs.Prelude.{◌≡◌, ◌≢◌, ◌≤◌, ◌<◌, ℕ, false, length, slice_index_or, IfOk};
 ghost use Rattle.ix_sheet.specs.Schedules.{IsValidProblem};
 ghost use Rattle.ix_residual.specs.Residuals.{AreAugmentations};
 ghost use Rattle.ix_residual.specs.Balances.{fresh};
@@ -51,7 +51,8 @@ fn nodes(
 
 /// Whether an edge stands among edges.
 fn has_edge(edges: &[(u32, u32)], from: u32, to: u32) -> bool
-    ensures { result ≡ false → (k : ℕ) → k < length edges.now → slice_index_or edges.now k (0, 0) ≢ (from, to) }
+    ensures { result ≡ false → (k : ℕ) → k < length edges.now
+        → slice_index_or edges.now k (0, 0) ≢ (from, to) }
 {
     for edge in edges {
         if *edge == (from, to) {
@@ -200,12 +201,13 @@ fn put_schedule(out: &mut String, alloc: Global, p: &Problem) -> Result<(), Allo
     }
 }
 
-/// Puts a line for each line of a text: the cost and the times of the schedule of its problem, or `cycle` where
-/// there is none. A problem has the period, the count of operations, the delay, latency, first and last time of
-/// each, and the edges.
+/// Puts a line for each line of a text: the cost and the times of the schedule of its problem, or
+/// `cycle` where there is none. A problem has the period, the count of operations, the delay,
+/// latency, first and last time of each, and the edges.
 ///
-/// The augmentations of each schedule are replayed: a line `replay differs` follows where they do not make its
-/// flow, and `too many paths` where there are more than the positive balances sum to.
+/// The augmentations of each schedule are replayed: a line `replay differs` follows where they do
+/// not make its flow, and `too many paths` where there are more than the positive balances sum
+/// to.
 pub(crate) fn put_answer(out: &mut String, alloc: Global, text: &[u8]) -> Result<(), AllocError> {
     let Ok(text) = std::str::from_utf8(text) else {
         return out.push_str("no text\n");

@@ -3,7 +3,8 @@ ghost use Rattle.std.specs.Prelude.{◌<◌, ◌^◌, length};
 use ix_cert::{CertErr, print_report, read_report};
 use std::alloc::{AllocError, Global};
 
-/// Whether the report in a text prints to that text; or the line that is refused, 0 for want of memory.
+/// Whether the report in a text prints to that text; or the line that is refused, 0 for want of
+/// memory.
 fn is_printed(alloc: Global, text: &[u8]) -> Result<bool, u32>
     requires { length text.now < 2 ^ 32 }
 {
@@ -17,8 +18,8 @@ fn is_printed(alloc: Global, text: &[u8]) -> Result<bool, u32>
     }
 }
 
-/// Puts the line `same` where the report in a text prints to the same text, `other` where it prints to another,
-/// or `line N` with the line that is refused.
+/// Puts the line `same` where the report in a text prints to the same text, `other` where it
+/// prints to another, or `line N` with the line that is refused.
 pub(crate) fn put_answer(out: &mut String, alloc: Global, text: &[u8]) -> Result<(), AllocError>
     requires { length text.now < 2 ^ 32 }
 {

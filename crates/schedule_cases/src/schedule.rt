@@ -65,10 +65,11 @@ fn put_scheduled(
     }
 }
 
-/// Puts the report of an extension's behaviours, or the refusal, and a byte 30. The case is the text of the
-/// extension, a byte 31 and a datasheet. The lines `flow` and `cycle` are left out, since each choice of them
-/// that passes the check is as good. The report, or that after a refusal, is checked first, and
-/// `not certified` stands in its place where its check finds a fault.
+/// Puts the report of an extension's behaviours, or the refusal, and a byte 30. The case is the
+/// text of the extension, a byte 31 and a datasheet. The lines `flow` and `cycle` are left out,
+/// since each choice of them that passes the check is as good. The report, or that after a
+/// refusal, is checked first, and `not certified` stands in its place where its check finds a
+/// fault.
 pub(crate) fn put_answer(out: &mut String, alloc: Global, case: &[u8]) -> Result<(), AllocError> {
     let mut parts = case.splitn(2, |byte| *byte == MIDDLE);
     let text = parts.next().unwrap_or(&[]);

@@ -42,8 +42,8 @@ fn put_assembled(
     }
 }
 
-/// Puts the text of a source's image, or `refused Source KIND LINE`, and a byte 30. The case is the text of an
-/// extension, a byte 31 and the source.
+/// Puts the text of a source's image, or `refused Source KIND LINE`, and a byte 30. The case is
+/// the text of an extension, a byte 31 and the source.
 pub(crate) fn put_answer(out: &mut String, alloc: Global, case: &[u8]) -> Result<(), AllocError> {
     let mut parts = case.splitn(2, |byte| *byte == MIDDLE);
     let extension = parts.next().unwrap_or(&[]);

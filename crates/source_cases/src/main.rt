@@ -1,12 +1,12 @@
-//! What becomes of sources, texts of waits and images. A case is a word, a line feed and a text, and a byte 30
-//! ends it. The word says what is asked of the text:
+//! What becomes of sources, texts of waits and images. A case is a word, a line feed and a text,
+//! and a byte 30 ends it. The word says what is asked of the text:
 //!
-//! - `waits`: a line of the count of its waits, their sum and the last one, or its refusal. The answers come
-//!   from a reader in another language, written from the rules;
-//! - `image`: the text of a source's image, or the line of its refusal, and a byte 30. The answers come from
-//!   an assembler in another language, written from the language's rules;
-//! - `run`: the text of the run of an image, one instruction at a time, and a byte 30. The answers come from
-//!   an interpreter in another language, written from the rules.
+//! - `waits`: a line of the count of its waits, their sum and the last one, or its refusal. The
+//!   answers come from a reader in another language, written from the rules;
+//! - `image`: the text of a source's image, or the line of its refusal, and a byte 30. The
+//!   answers come from an assembler in another language, written from the language's rules;
+//! - `run`: the text of the run of an image, one instruction at a time, and a byte 30. The
+//!   answers come from an interpreter in another language, written from the rules.
 #![tactic(auto)]
 
 mod image;

@@ -49,8 +49,8 @@ fn put_run(
     put_text(out, sink.bytes())
 }
 
-/// Puts the text of a run, and a byte 30. The case is the text of an extension, an image and a count of steps,
-/// with a byte 31 between them. The text of the run has 1 MiB at most.
+/// Puts the text of a run, and a byte 30. The case is the text of an extension, an image and a
+/// count of steps, with a byte 31 between them. The text of the run has 1 MiB at most.
 pub(crate) fn put_answer(out: &mut String, alloc: Global, case: &[u8]) -> Result<(), AllocError> {
     let mut parts = case.split(|byte| *byte == MIDDLE);
     let text = parts.next().unwrap_or(&[]);

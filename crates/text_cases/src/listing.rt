@@ -18,9 +18,9 @@ fn lines_of(alloc: Global, bytes: &[u8]) -> Result<String, Memory>
 /// Puts the listing of a text's extension, or why it has none.
 ///
 /// A listing is `set NAME`, then `register cK NAME TYPE`, `table NAME TYPE LENGTH`,
-/// `instruction NAME mask M match M` with its `piece FIELD HI LO at BIT`, and `block NAME`, each on a line of
-/// its own, in the order of the source. A refusal is a line `refused Extension KIND ..` with a span, names or
-/// a word behind it.
+/// `instruction NAME mask M match M` with its `piece FIELD HI LO at BIT`, and `block NAME`, each
+/// on a line of its own, in the order of the source. A refusal is a line
+/// `refused Extension KIND ..` with a span, names or a word behind it.
 pub(crate) fn put_answer(out: &mut String, alloc: Global, bytes: &[u8]) -> Result<(), AllocError>
     requires { length bytes.now < 2 ^ 32 }
 {

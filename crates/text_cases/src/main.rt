@@ -1,16 +1,17 @@
-//! What becomes of CoreDSL texts. A case is a word, a line feed and a text, and a byte 30 ends it. The word says
-//! what is asked of the text:
+//! What becomes of CoreDSL texts. A case is a word, a line feed and a text, and a byte 30 ends
+//! it. The word says what is asked of the text:
 //!
-//! - `tokens`: a line of its tokens with their places, or why it has none. The answers were worked out by
-//!   hand (`tools/token_cases.py`);
-//! - `tree`: a line of its tree, or why it has none. The answers come from a parser in another language,
-//!   written from the grammar;
-//! - `unrolled`: a line of its tree without loops and the places in it, or the rule of loops that is broken.
-//!   The answers come from `tools/unroll_cases.py`, a parser and an unrolling in another language;
-//! - `typed`: `typed`, or the first refusal and its place. The answers come from a checker in another
-//!   language, written from the language's rules;
-//! - `listing`: the lines of its extension's listing, or why it has none. The answers come from an
-//!   elaborator in another language, written from the language's rules.
+//! - `tokens`: a line of its tokens with their places, or why it has none. The answers were
+//!   worked out by hand (`tools/token_cases.py`);
+//! - `tree`: a line of its tree, or why it has none. The answers come from a parser in another
+//!   language, written from the grammar;
+//! - `unrolled`: a line of its tree without loops and the places in it, or the rule of loops that
+//!   is broken. The answers come from `tools/unroll_cases.py`, a parser and an unrolling in
+//!   another language;
+//! - `typed`: `typed`, or the first refusal and its place. The answers come from a checker in
+//!   another language, written from the language's rules;
+//! - `listing`: the lines of its extension's listing, or why it has none. The answers come from
+//!   an elaborator in another language, written from the language's rules.
 #![tactic(auto)]
 
 mod listing;

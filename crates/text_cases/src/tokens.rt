@@ -29,8 +29,9 @@ fn put_tokens(out: &mut String, tokens: &[Token]) -> Result<(), AllocError> {
     Ok(())
 }
 
-/// Puts the tokens of a text with their places, as `name 0 3, sized 5 31 4 9`, or why it has none, as
-/// `BadNumber 4`. Literals have their width and their value, reserved words and symbols their numbers.
+/// Puts the tokens of a text with their places, as `name 0 3, sized 5 31 4 9`, or why it has
+/// none, as `BadNumber 4`. Literals have their width and their value, reserved words and symbols
+/// their numbers.
 pub(crate) fn put_answer(out: &mut String, alloc: Global, bytes: &[u8]) -> Result<(), AllocError>
     requires { length bytes.now < 2 ^ 32 }
 {

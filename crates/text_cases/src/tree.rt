@@ -13,7 +13,8 @@ const TOO_MANY: usize = 0x1_0000_0000;
 /// The count of tokens from which on prefixes are left out.
 const MANY: usize = 1000;
 
-/// The tree of tokens, or why they have none; more tokens than there may be are refused as `Memory`.
+/// The tree of tokens, or why they have none; more tokens than there may be are refused as
+/// `Memory`.
 pub(crate) fn tree_of(alloc: Global, tokens: &[Token]) -> Result<Tree, ParseErr> {
     if tokens.len() >= TOO_MANY {
         return Err(ParseErr::Memory);
@@ -21,12 +22,12 @@ pub(crate) fn tree_of(alloc: Global, tokens: &[Token]) -> Result<Tree, ParseErr>
     parse(alloc, tokens)
 }
 
-/// Puts the tree of a text, or why it has none. A text that has no tokens is `lex BadByte N`, `lex Unclosed N`
-/// or `lex BadNumber N`, and one that has no tree `At N` or `Deep N`.
+/// Puts the tree of a text, or why it has none. A text that has no tokens is `lex BadByte N`,
+/// `lex Unclosed N` or `lex BadNumber N`, and one that has no tree `At N` or `Deep N`.
 ///
-/// A tree is printed in the form of `tree_text`. Where it has fewer than 1,000 tokens, ` prefixes refused`
-/// says that each proper prefix of them is refused at a token of its own or at its end; else ` prefix K: ..`
-/// says what becomes of the first that is not.
+/// A tree is printed in the form of `tree_text`. Where it has fewer than 1,000 tokens,
+/// ` prefixes refused` says that each proper prefix of them is refused at a token of its own or
+/// at its end; else ` prefix K: ..` says what becomes of the first that is not.
 pub(crate) fn put_answer(out: &mut String, alloc: Global, bytes: &[u8]) -> Result<(), AllocError>
     requires { length bytes.now < 2 ^ 32 }
 {

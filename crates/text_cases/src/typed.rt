@@ -9,8 +9,9 @@ use ix_tree::{Span, Token, Tree};
 use ix_unroll::unroll;
 use std::alloc::{AllocError, Global};
 
-/// Puts `typed`, or the first refusal of a text and where it stands, as `Narrow 116 119`. The place of a byte
-/// that begins no token stands twice, and at the end of a text so does its length.
+/// Puts `typed`, or the first refusal of a text and where it stands, as `Narrow 116 119`. The
+/// place of a byte that begins no token stands twice, and at the end of a text so does its
+/// length.
 pub(crate) fn put_answer(out: &mut String, alloc: Global, bytes: &[u8]) -> Result<(), AllocError>
     requires { length bytes.now < 2 ^ 32 }
 {

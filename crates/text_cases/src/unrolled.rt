@@ -8,8 +8,8 @@ use ix_tree::{Token, Tree};
 use ix_unroll::unroll;
 use std::alloc::{AllocError, Global};
 
-/// Puts the tree of a text without loops in the form of `tree_text`, ` :`, and the places of its statements
-/// and expressions, or the first rule of loops that it breaks, as `Bound 116 119`.
+/// Puts the tree of a text without loops in the form of `tree_text`, ` :`, and the places of its
+/// statements and expressions, or the first rule of loops that it breaks, as `Bound 116 119`.
 pub(crate) fn put_answer(out: &mut String, alloc: Global, bytes: &[u8]) -> Result<(), AllocError>
     requires { length bytes.now < 2 ^ 32 }
 {

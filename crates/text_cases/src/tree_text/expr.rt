@@ -90,8 +90,8 @@ pub fn put_behind(out: &mut String, e: &Expr) -> Result<(), AllocError> {
     put_expr(out, e)
 }
 
-/// Puts a literal: the width of its type and its value, as `8'255`. Another width of the pattern stands behind a `/`, and a
-/// signed type has `s` before it; no text gives one.
+/// Puts a literal: the width of its type and its value, as `8'255`. Another width of the pattern
+/// stands behind a `/`, and a signed type has `s` before it; no text gives one.
 fn put_literal(out: &mut String, ty: Ty, bits: Bits) -> Result<(), AllocError> {
     if ty.signed {
         out.push_str("s")?;

@@ -67,7 +67,8 @@ fn put_body(out: &mut String, name: &Name, body: &Stmt) -> Result<(), AllocError
     out.push_str(")")
 }
 
-/// Puts a register with its initial value, if it has one, or a table with its length and its entries.
+/// Puts a register with its initial value, if it has one, or a table with its length and its
+/// entries.
 fn put_state(out: &mut String, state: &State) -> Result<(), AllocError> {
     match &state.kind {
         StateKind::Register(value) => {

@@ -4,7 +4,8 @@ use ix_tree::{
 };
 use std::alloc::AllocError;
 
-/// Puts ` FROM-TO` for each statement and each expression of the behaviours and always-blocks, each before those in it, behind the text.
+/// Puts ` FROM-TO` for each statement and each expression of the behaviours and always-blocks,
+/// each before those in it, behind the text.
 pub fn put_spans(out: &mut String, tree: &Tree) -> Result<(), AllocError> {
     for section in tree.sections.as_slice() {
         put_section(out, section)?;

@@ -9,5 +9,6 @@ use Rattle.library_bench.proofs.evaluate.evaluated.Given as goal
 abbrev pub invariant-loop : goal.invariant-loop
 invariant-loop l = record {
   scratch : IsScratchOf (view_extension l.ext) l.scratch;
-  custom : (r : ℕ) → IfSome (slice_get l.inputs.custom r) (λ b. b.width ≡ (get_or (map type_of_register l.ext.registers) r u1).width);
+  custom : (r : ℕ) → IfSome (slice_get l.inputs.custom r)
+      (λ b. b.width ≡ (get_or (map type_of_register l.ext.registers) r u1).width);
 }
