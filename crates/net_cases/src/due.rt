@@ -5,8 +5,8 @@ use ix_bits::{Bits, Ty, range};
 use ix_eval::Effect;
 use ix_graph::{Kind, Op, Role, kind_role};
 
-/// What is required at the outputs of an operation, one after another; nothing is required where there is
-/// none.
+/// What is required at the outputs of an operation, one after another; nothing is required where
+/// there is none.
 pub type Due = [Option<u128>; 3];
 
 fn due(value: Option<u128>) -> Due {

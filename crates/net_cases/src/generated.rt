@@ -8,7 +8,6 @@ use crate::life::served;
 use crate::module::{Why, module_of};
 use crate::put::{put_head, put_lives};
 use crate::token::tokens;
-use crate::word::{MIDDLE, TOO_MANY};
 use effect_cases::has_behaviour;
 use ix_behaviour::Which;
 use ix_elab::elaborate;
@@ -16,6 +15,12 @@ use ix_sheet::{Sheet, read_sheet};
 use ix_tree::Extension;
 use std::alloc::{AllocError, Global};
 use std::str::Split;
+
+/// The byte between the parts of a case.
+const MIDDLE: u8 = 31;
+
+/// Past the greatest count of bytes that an extension or a datasheet may have.
+const TOO_MANY: usize = 0x10_0001;
 
 /// The byte behind the lives of each module.
 const PART: &str = "\u{1d}";

@@ -113,8 +113,8 @@ fn put_reads(
     Ok(())
 }
 
-/// Whether the outputs of an operation, of which the first has this number, show what is required of a
-/// token.
+/// Whether the outputs of an operation, of which the first has this number, show what is required
+/// of a token.
 fn shows(sim: &Sim<'_>, net: &Net, op: &Op, first: usize, token: &Token) -> bool
     requires { sim.now.net ≡ net.now }
 {

@@ -1,16 +1,19 @@
 ghost use Rattle.std.specs.Prelude.{◌≡◌, ◌≤◌};
 ghost use Rattle.ix_net.specs.Valid.{IsValid};
 
-use crate::token::next;
-use crate::word::parted;
+use crate::parted;
+use crate::words::TOO_MANY;
 use ix_bits::{Bits, range};
 use ix_net::{Net, Port, is_valid};
 use ix_neteval::{Sim, prepare};
 use ix_vread::read;
 use std::alloc::{AllocError, Global};
 
-/// Past the greatest count of bytes that a text may have.
-const TOO_MANY: usize = 0x1_0000_0000;
+/// The next number of a row that looks random (Knuth's MMIX).
+fn next(seed: u64) -> u64 {
+    seed.wrapping_mul(6_364_136_223_846_793_005)
+        .wrapping_add(1_442_695_040_888_963_407)
+}
 
 /// A pattern of a width: one in eight is 0, one in eight the greatest.
 fn pattern(seed: u64, width: u8) -> Bits

@@ -1,4 +1,3 @@
-use crate::word::{MIDDLE, TOO_MANY};
 use ix_design::design;
 use ix_elab::elaborate;
 use ix_modules::modules_text;
@@ -7,6 +6,12 @@ use ix_schedules::{TextErr, name_law};
 use ix_sheet::read_sheet;
 use ix_vread::read;
 use std::alloc::{AllocError, Global};
+
+/// The byte between the text of an extension and its datasheet.
+const MIDDLE: u8 = 31;
+
+/// Past the greatest count of bytes that an extension or a datasheet may have.
+const TOO_MANY: usize = 0x10_0001;
 
 /// Past the greatest count of bytes that are read again.
 const TOO_LONG: usize = 0x1000_0000;
@@ -97,10 +102,12 @@ fn put_design(
     }
 }
 
-/// Puts the modules of an extension, or its refusal, from its text, a byte 31 and a datasheet.
+/// Puts the modules of an extension, or its refusal, from its text, a byte 31 and a datasheet; and
+/// a byte 30, since each of both may have many lines.
 pub fn put_built(out: &mut String, alloc: Global, case: &[u8]) -> Result<(), AllocError> {
     let mut parts = case.split(|byte| *byte == MIDDLE);
     let text = parts.next().unwrap_or(&[]);
     let sheet = parts.next().unwrap_or(&[]);
-    put_design(out, alloc, text, sheet)
+    put_design(out, alloc, text, sheet)?;
+    out.push_str("\u{1e}")
 }
