@@ -1,9 +1,9 @@
 -- A byte stands in one line.
-use Rattle.std.proofs.Common.{◌≡◌, ◌≢◌, ◌∙◌, sym, ap, ℕ, ◌<◌, ◌≤◌, ◌-◌, ◌⊎◌, List, length, get_or, inl, inr, arith, refl, Option, Some, None, Result, Ok, Err}
+use Rattle.std.proofs.Common.{◌≡◌, ◌≢◌, ◌∙◌, ap, ℕ, ◌<◌, ◌≤◌, ◌-◌, List, length, get_or, inl, inr, arith, refl, Option, Some, None, Result, Ok, Err}
 use Rattle.std.specs.Prelude.{IfOk, IsSomeAnd}
 use Rattle.std.proofs.lemmas.Bool.{cases_lt}
 use Rattle.ix_diagnose.specs.declared.place.Place.{Place}
-use Rattle.ix_diagnose.specs.Lines.{StartsLine, IsLine, line_number}
+use Rattle.ix_diagnose.specs.Lines.{StartsLine, line_number}
 use Rattle.ix_diagnose.specs.Shown.{TellsAt}
 use Rattle.ix_diagnose.specs.Refusals.{TellsLine}
 use Rattle.ix_diagnose.specs.Findings.{StandsIn}

@@ -1,5 +1,5 @@
 -- Words between spaces.
-use Rattle.std.proofs.Common.{rules, ◌≡◌, ◌≢◌, ◌∙◌, sym, ap, Bool, true, false, not, nat_eq, ℕ, ◌<◌, ◌^◌, List, [], ◌∷◌, ◌++◌, length, get_or, lit<, arith, decimal, codes, refl, Option, Some, None, subst}
+use Rattle.std.proofs.Common.{rules, ◌≡◌, ◌∙◌, sym, ap, Bool, true, false, not, ℕ, ◌<◌, ◌^◌, List, [], ◌∷◌, ◌++◌, arith, decimal, codes, refl, Option, Some, None}
 use Rattle.std.specs.Prelude.{◌==◌, unwrap_or}
 use lib.Pointwise.{pointwise}
 use lib.Dec.{eqb}

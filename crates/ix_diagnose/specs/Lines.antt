@@ -1,4 +1,5 @@
--- Lines and columns. A line feed ends a line, and no other byte does; the first line and the first column of a line are 1.
+-- Lines and columns. A line feed ends a line, and no other byte does; the first line and the first
+-- column of a line are 1.
 use Rattle.std.specs.Prelude.{◌≡◌, ◌≢◌, ◌+◌, ◌-◌, ◌<◌, ◌≤◌, ◌==◌, ◌⊎◌, ℕ, List, Bool, length, take, slice_index}
 use Rattle.std.specs.List.{count_by}
 

@@ -1,5 +1,5 @@
 -- Lines of refusals that tell a place, and what is told of it.
-use Rattle.std.specs.Prelude.{◌≡◌, ◌≢◌, ◌+◌, ◌<◌, ◌≤◌, ◌++◌, ◌∷◌, ◌^◌, ◌⊎◌, [], ℕ, List, length, codes, decimal, slice_index}
+use Rattle.std.specs.Prelude.{◌≡◌, ◌≢◌, ◌+◌, ◌<◌, ◌++◌, ◌∷◌, ◌^◌, ◌⊎◌, [], ℕ, List, length, codes, slice_index}
 use Rattle.std.specs.List.{count_by}
 use Rattle.ix_diagnose.specs.Lines.{is_feed, line_number}
 use Rattle.ix_diagnose.specs.Shown.{TellsAt}

@@ -1,5 +1,6 @@
--- What is written of a place of a file: where it stands and what is wrong, its line, and carets under it.
-use Rattle.std.specs.Prelude.{◌≡◌, ◌+◌, ◌-◌, ◌<◌, ◌≤◌, ◌==◌, ◌++◌, ◌&&◌, ◌||◌, ℕ, List, [], ◌∷◌, Bool, cond, length, map, min, max, codes, decimal, slice_range, nat_lt, replicate}
+-- What is written of a place of a file: where it stands and what is wrong, its line, and carets
+-- under it.
+use Rattle.std.specs.Prelude.{◌≡◌, ◌+◌, ◌-◌, ◌≤◌, ◌==◌, ◌++◌, ◌&&◌, ◌||◌, ℕ, List, cond, map, min, max, codes, decimal, slice_range, nat_lt, replicate}
 use Rattle.ix_diagnose.specs.Lines.{IsLine, line_number, column}
 
 -- a byte as it is shown: itself, if it is visible, a space or a tab, else a question mark

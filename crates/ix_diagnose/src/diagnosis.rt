@@ -1,4 +1,5 @@
-ghost use Rattle.std.specs.Prelude.{◌≡◌, ◌≤◌, ◌<◌, ℕ, List, Some, IfOk, codes, decimal, length, string_bytes};
+ghost use Rattle.std.specs.Prelude.{◌≡◌, ◌≤◌, ◌<◌, ℕ, List, Some, IfOk};
+ghost use Rattle.std.specs.Prelude.{codes, decimal, length, string_bytes};
 ghost use Rattle.ix_diagnose.specs.Refusals.{IsWord, IsTold, before, refusal_line, TellsLine, Tells};
 ghost use Rattle.ix_diagnose.specs.Shown.{TellsAt};
 ghost use Rattle.ix_diagnose.specs.Findings.{IsLineOf};
@@ -20,7 +21,8 @@ fn sentence_about(alloc: Global, sentence: &str, about: &str) -> Result<String, 
 /// Tells a finding: at its place, or of the whole file where it has none.
 fn tell(alloc: Global, name: &str, bytes: &[u8], finding: Finding<'_>) -> Result<String, AllocError>
     ensures told { IfOk result (λ text. Tells name.now bytes.now (string_bytes text)) }
-    ensures at { (from : ℕ) (to : ℕ) → finding.entry.place ≡ Some (record { from = from; to = to }) → from ≤ length bytes.now
+    ensures at { (from : ℕ) (to : ℕ) → finding.entry.place ≡ Some (record { from = from; to = to })
+        → from ≤ length bytes.now
         → IfOk result (λ text. TellsAt name.now bytes.now from to (string_bytes text)) }
 {
     let sentence = sentence_about(alloc, finding.sentence, finding.about)?;
@@ -39,23 +41,30 @@ fn tell(alloc: Global, name: &str, bytes: &[u8], finding: Finding<'_>) -> Result
     }
 }
 
-/// Tells what a line of the output refuses: at its place of the file, in one sentence with what to write in its place, and then the line of the file with carets under the
-/// place. `name` is that of the file that the refusal is of, and `bytes` are the bytes of it. The answer is empty where the line refuses nothing.
+/// Tells what a line of the output refuses: at its place of the file, in one sentence with what to
+/// write in its place, and then the line of the file with carets under the place. `name` is that of
+/// the file that the refusal is of, and `bytes` are the bytes of it. The answer is empty where the
+/// line refuses nothing.
 pub fn diagnose(alloc: Global, line: &str, name: &str, bytes: &[u8]) -> Result<String, AllocError>
     // What has a line and a column has those of a place of the file.
     ensures told { IfOk result (λ text. Tells name.now bytes.now (string_bytes text)) }
 
-    // The refusal of an extension that tells two numbers is told of the bytes from the one up to the other.
-    ensures extension { (kind : List ℕ) (from : ℕ) (to : ℕ) → IsWord kind → IsTold from → IsTold to → from ≤ length bytes.now
+    // The refusal of an extension that tells two numbers is told of the bytes from the one up to
+    // the other.
+    ensures extension { (kind : List ℕ) (from : ℕ) (to : ℕ) → IsWord kind → IsTold from → IsTold to
+        → from ≤ length bytes.now
         → line.now ≡ refusal_line (codes "Extension") (before kind (before (decimal from) (decimal to)))
         → IfOk result (λ text. TellsAt name.now bytes.now from to (string_bytes text)) }
 
     // Those that tell a line of the file are told at this line.
-    ensures image { (n : ℕ) → IsLineOf bytes.now n → line.now ≡ refusal_line (codes "Image") (decimal n)
+    ensures image { (n : ℕ) → IsLineOf bytes.now n
+        → line.now ≡ refusal_line (codes "Image") (decimal n)
         → IfOk result (λ text. TellsLine name.now bytes.now n (string_bytes text)) }
-    ensures certificate { (kind : List ℕ) (n : ℕ) → IsLineOf bytes.now n → line.now ≡ refusal_line (codes "Certificate") (before (decimal n) kind)
+    ensures certificate { (kind : List ℕ) (n : ℕ) → IsLineOf bytes.now n
+        → line.now ≡ refusal_line (codes "Certificate") (before (decimal n) kind)
         → IfOk result (λ text. TellsLine name.now bytes.now n (string_bytes text)) }
-    ensures source { (kind : List ℕ) (n : ℕ) → IsWord kind → IsLineOf bytes.now n → line.now ≡ refusal_line (codes "Source") (before kind (decimal n))
+    ensures source { (kind : List ℕ) (n : ℕ) → IsWord kind → IsLineOf bytes.now n
+        → line.now ≡ refusal_line (codes "Source") (before kind (decimal n))
         → IfOk result (λ text. TellsLine name.now bytes.now n (string_bytes text)) }
 {
     match read_refusal(line) {

@@ -3,8 +3,9 @@ use crate::subject::{Subject, subject_of};
 use ix_io::{Shelf, read_all};
 use std::alloc::Global;
 
-/// Tells what a line of the tool's output refuses, by the words of its command and the file that is refused, which is read once more. There is nothing to tell of a line that
-/// refuses nothing, nor where memory is not found or the file is not read whole.
+/// Tells what a line of the tool's output refuses, by the words of its command and the file that is
+/// refused, which is read once more. There is nothing to tell of a line that refuses nothing, nor
+/// where memory is not found or the file is not read whole.
 pub fn explain<F: Shelf>(
     alloc: Global,
     line: &str,

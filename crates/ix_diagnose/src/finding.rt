@@ -12,7 +12,8 @@ use crate::source::source_sentence;
 use crate::text::{before_blanks, behind_blanks};
 use crate::words::{Refusal, Status, cut, number, span};
 
-/// What is found of a refusal: the place, if one is told or found, what is wrong and what to write in its place, and the names that are told.
+/// What is found of a refusal: the place, if one is told or found, what is wrong and what to write
+/// in its place, and the names that are told.
 #[derive(Clone, Copy)]
 pub(crate) struct Finding<'a> {
     pub(crate) place: Option<Place>,

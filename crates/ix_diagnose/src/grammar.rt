@@ -52,7 +52,8 @@ fn missing_part(token: &str) -> Option<&'static str> {
     }
 }
 
-/// What is wrong with a token behind a name that the language lacks, or behind a word that wants something else.
+/// What is wrong with a token behind a name that the language lacks, or behind a word that wants
+/// something else.
 fn missing_before(word: &str) -> Option<&'static str> {
     match word {
         "while" | "do" => Some(

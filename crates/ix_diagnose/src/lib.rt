@@ -1,4 +1,5 @@
-//! A refusal of the tool, told at its line: where it stands in the file, what is wrong, what to write in its place, the line and carets under the place.
+//! A refusal of the tool, told at its line: where it stands in the file, what is wrong, what to
+//! write in its place, the line and carets under the place.
 #![tactic(auto)]
 
 mod diagnosis;

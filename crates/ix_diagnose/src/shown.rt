@@ -73,7 +73,8 @@ fn put_excerpt(
     out.push_str("\n")
 }
 
-/// Tells what is wrong at a place of a file: the file, the line and the column, the sentence, the line, and carets under the place.
+/// Tells what is wrong at a place of a file: the file, the line and the column, the sentence, the
+/// line, and carets under the place.
 pub fn tell_at(
     alloc: Global,
     name: &str,

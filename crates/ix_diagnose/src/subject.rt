@@ -9,7 +9,8 @@ pub(crate) enum Subject<'a> {
     Name(&'a str),
 }
 
-/// The place of the image among the words of a command: the last but one, or but two where waits stand behind it.
+/// The place of the image among the words of a command: the last but one, or but two where waits
+/// stand behind it.
 fn image_word(count: usize) -> usize {
     match count {
         4 => 2,
@@ -18,7 +19,8 @@ fn image_word(count: usize) -> usize {
     }
 }
 
-/// What the line of a refusal is of, by the words of the command; nothing where the line refuses nothing.
+/// What the line of a refusal is of, by the words of the command; nothing where the line refuses
+/// nothing.
 pub(crate) fn subject_of<'a>(line: &'a str, words: &'a [String]) -> Option<Subject<'a>> {
     let refusal = read_refusal(line)?;
     let word = match refusal.status {

@@ -61,7 +61,8 @@ impl<'a, R> KeepingSink<'a, R> {
         }
     }
 
-    /// The first line that was written, with its line feed; nothing where none was written whole, or it has more than 1,024 bytes.
+    /// The first line that was written, with its line feed; nothing where none was written whole,
+    /// or it has more than 1,024 bytes.
     pub(crate) fn first_line(&self) -> Option<&str> {
         self.first.text()
     }

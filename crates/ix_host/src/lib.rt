@@ -1,4 +1,5 @@
-//! The tool on its host: the words of the command line, the files of the host, the standard output, and on the standard error what a refusal means.
+//! The tool on its host: the words of the command line, the files of the host, the standard output,
+//! and on the standard error what a refusal means.
 #![tactic(auto)]
 
 mod first_line;
@@ -23,7 +24,8 @@ fn words<R: Env + AllocGlobal>(rt: &R) -> io::Result<Vec<String>> {
     Ok(args.collect(rt.alloc())?)
 }
 
-/// Writes to the standard error what a line of the output refuses. Where memory, the file or the standard error fails, nothing more is written.
+/// Writes to the standard error what a line of the output refuses. Where memory, the file or the
+/// standard error fails, nothing more is written.
 fn tell<R: AllocGlobal + Files + Eprint>(rt: &R, line: &str, words: &[String]) {
     if let Some(text) = explain(rt.alloc(), line, words, &mut HostShelf::new(rt)) {
         let _ = rt.eprint(text);
@@ -44,7 +46,8 @@ fn run_words<R: AllocGlobal + Files + Print + Eprint>(rt: &R, words: &[String]) 
     status
 }
 
-/// Runs the command of the words over the host's files, writes its output to the standard output and what a refusal means to the standard error, and gives the exit status.
+/// Runs the command of the words over the host's files, writes its output to the standard output
+/// and what a refusal means to the standard error, and gives the exit status.
 pub fn run<R: Env + AllocGlobal + Files + Print + Eprint>(rt: &R) -> ExitCode {
     match words(rt) {
         Ok(words) => ExitCode::from(run_words(rt, words.as_slice()).code()),

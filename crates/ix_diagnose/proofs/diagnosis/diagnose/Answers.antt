@@ -1,7 +1,7 @@
 use Rattle.std.proofs.Common.{refl, codes, decimal}
 use Rattle.std.specs.String.{string_bytes}
 use Rattle.ix_diagnose.specs.Refusals.{before}
-use Rattle.ix_diagnose.proofs.WordLemmas.{word_of, decimal_word}
+use Rattle.ix_diagnose.proofs.WordLemmas.{word_of}
 use Rattle.ix_diagnose.proofs.LineLemmas.{told_line}
 use Rattle.ix_diagnose.proofs.diagnosis.diagnose.Goals as goal
 

@@ -1,4 +1,4 @@
-use Rattle.std.proofs.Common.{◌≡◌, ◌≢◌, ℕ, ◌<◌, ◌≤◌, ◌-◌, get_or, length}
+use Rattle.std.proofs.Common.{◌≢◌, ℕ, ◌<◌, ◌≤◌, ◌-◌, get_or, length}
 use Rattle.ix_diagnose.proofs.place.line_end.Given as goal
 
 abbrev pub invariant-loop-end : goal.invariant-loop-end

@@ -1,4 +1,4 @@
-use Rattle.std.proofs.Common.{lit<, refl, sym, ◌∙◌, Some, None, codes}
+use Rattle.std.proofs.Common.{lit<, sym, ◌∙◌, Some, None, codes}
 use Rattle.std.proofs.lemmas.Str.Pattern.{strip_suffix_char}
 use Rattle.ix_diagnose.specs.Refusals.{before}
 use Rattle.ix_diagnose.proofs.WordLemmas.{body_is}
