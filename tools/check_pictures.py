@@ -1,6 +1,7 @@
 #!/usr/bin/env python3
-"""Checks SVG pictures of tools/user: check_pictures.py FILE.. ends with 0 where each one is XML, fits on a page, and has no text over another
-text or past its edge. The widths of texts are those of a fixed-width font.
+"""Checks SVG pictures of tools/user: check_pictures.py FILE.. ends with 0 where each one is XML,
+fits on a page, and has no text over another text or past its edge. The widths of texts are those of
+a fixed-width font.
 """
 import sys
 import xml.etree.ElementTree as tree

@@ -1,6 +1,7 @@
 #!/usr/bin/env python3
-"""The commands of docs/TUTORIAL.md that call the scripts of tools/user: tutorial_scripts.py files FOLDER writes the files of the page into a
-folder; tutorial_scripts.py check PROGRAM runs these commands on them, and ends with 0 where each one prints what stands behind it.
+"""The commands of docs/TUTORIAL.md that call the scripts of tools/user: tutorial_scripts.py files
+FOLDER writes the files of the page into a folder; tutorial_scripts.py check PROGRAM runs these
+commands on them, and ends with 0 where each one prints what stands behind it.
 """
 import os
 import re
@@ -49,11 +50,15 @@ def check(program):
             if "explore" in command and not shutil.which("parallel"):
                 print(f"not run, since GNU parallel is missing: {command}")
                 continue
-            done = subprocess.run(["sh", "-c", command], cwd=folder, env=around, stdout=subprocess.PIPE, check=False)
+            done = subprocess.run(
+                ["sh", "-c", command], cwd=folder, env=around, stdout=subprocess.PIPE, check=False
+            )
             count += 1
             if done.stdout.decode("utf-8", "replace") != output:
                 failed += 1
-                print(f"{command}\nprints\n{done.stdout.decode('utf-8', 'replace')}", file=sys.stderr)
+                print(
+                    f"{command}\nprints\n{done.stdout.decode('utf-8', 'replace')}", file=sys.stderr
+                )
     if not count:
         print("docs/TUTORIAL.md has no command that calls a script", file=sys.stderr)
     return int(failed > 0 or count == 0)

@@ -1,8 +1,10 @@
-"""Small SVG pictures: shapes and text in a fixed-width font, whose widths are known, so that no text comes to lie over another."""
+"""Small SVG pictures: shapes and text in a fixed-width font, whose widths are known, so that no
+text comes to lie over another."""
 from typing import NamedTuple
 from xml.sax.saxutils import escape, quoteattr
 
-# A page of paper, less its margins, in pixels of 1/96 inch: the greatest width and height of a picture that lies or stands.
+# A page of paper, less its margins, in pixels of 1/96 inch: the greatest width and height of a
+# picture that lies or stands.
 LYING = (1040, 720)
 STANDING = (720, 1040)
 
@@ -51,7 +53,8 @@ def fitted(words, size, room):
 
 
 def step_of(wide, words_wide):
-    """How many columns of a width lie from one number above them to the next, so that numbers keep apart."""
+    """How many columns of a width lie from one number above them to the next, so that numbers keep
+    apart."""
     return next((step for step in (1, 5, 10, 50, 100) if words_wide + 3 <= wide * step), 1000)
 
 
@@ -69,9 +72,17 @@ class Picture:
 
     def _add(self, name, places, tip="", **style):
         parts = [f'{key}="{number(value)}"' for key, value in places.items()]
-        parts += [f"{key.replace('_', '-')}={quoteattr(str(value))}" for key, value in style.items() if value is not None]
+        parts += [
+            f"{key.replace('_', '-')}={quoteattr(str(value))}"
+            for key, value in style.items()
+            if value is not None
+        ]
         inside = f"<title>{escape(visible(tip))}</title>" if tip else ""
-        self.shapes.append(f"<{name} {' '.join(parts)}>{inside}</{name}>" if inside else f"<{name} {' '.join(parts)}/>")
+        self.shapes.append(
+            f"<{name} {' '.join(parts)}>{inside}</{name}>"
+            if inside
+            else f"<{name} {' '.join(parts)}/>"
+        )
 
     def rectangle(self, left, top, width, height, tip="", **style):
         self._add("rect", {"x": left, "y": top, "width": width, "height": height}, tip, **style)
@@ -84,12 +95,24 @@ class Picture:
         self._add("circle", {"cx": x, "cy": y, "r": radius}, tip, **style)
 
     def polygon(self, points, tip="", **style):
-        self._add("polygon", {}, tip, points=" ".join(f"{number(x)},{number(y)}" for x, y in points), **style)
+        self._add(
+            "polygon",
+            {},
+            tip,
+            points=" ".join(f"{number(x)},{number(y)}" for x, y in points),
+            **style,
+        )
 
     def path(self, points, **style):
         """A line from point to point."""
         style.setdefault("stroke", INK)
-        self._add("polyline", {}, fill="none", points=" ".join(f"{number(x)},{number(y)}" for x, y in points), **style)
+        self._add(
+            "polyline",
+            {},
+            fill="none",
+            points=" ".join(f"{number(x)},{number(y)}" for x, y in points),
+            **style,
+        )
 
     def text(self, x, y, words, size, anchor="start", fill=INK, weight=None, turn=None):
         """Words whose base line is at y; they begin, have their middle or end at x."""
@@ -100,16 +123,28 @@ class Picture:
             parts.append(f'font-weight="{weight}"')
         if turn:
             parts.append(f'transform="rotate({number(turn)} {number(x)} {number(y)})"')
-        self.shapes.append(f'<text {" ".join(parts)} xml:space="preserve">{escape(visible(words))}</text>')
+        self.shapes.append(
+            f'<text {" ".join(parts)} xml:space="preserve">{escape(visible(words))}</text>'
+        )
 
     def whole(self, width, height):
         """The text of the picture, on white."""
         head = (
-            f'<svg xmlns="http://www.w3.org/2000/svg" width="{number(width)}" height="{number(height)}" '
+            '<svg xmlns="http://www.w3.org/2000/svg" '
+            f'width="{number(width)}" height="{number(height)}" '
             f'viewBox="0 0 {number(width)} {number(height)}" font-family="{FONT}" role="img">'
         )
         ground = f'<rect width="{number(width)}" height="{number(height)}" fill="#ffffff"/>'
-        return "\n".join([head, f"<title>{escape(visible(self.title))}</title>", ground, *self.shapes, "</svg>", ""])
+        return "\n".join(
+            [
+                head,
+                f"<title>{escape(visible(self.title))}</title>",
+                ground,
+                *self.shapes,
+                "</svg>",
+                "",
+            ]
+        )
 
 
 class Legend:

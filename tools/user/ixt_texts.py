@@ -1,7 +1,9 @@
-"""What the scripts of this folder share: reading traces, reports and sources, running the program, and refusing bad input.
+"""What the scripts of this folder share: reading traces, reports and sources, running the program,
+and refusing bad input.
 
-docs/FORMATS.md has the form of each text. A script raises BadInput with a line for the user, and `finish` turns it into a
-message on standard error and the exit status 1. The status 2 is that of a wrong command line.
+docs/FORMATS.md has the form of each text. A script raises BadInput with a line for the user, and
+`finish` turns it into a message on standard error and the exit status 1. The status 2 is that of a
+wrong command line.
 """
 import os
 import re
@@ -13,22 +15,55 @@ from typing import NamedTuple
 ROOT = Path(__file__).resolve().parents[2]
 LAUNCHER = ROOT / "ixt"
 
-# The kinds of operations: those on the core, those that are wires and no gates, and those that are gates.
-CORE_KINDS = ["RdInstr", "RdRS1", "RdRS2", "RdPC", "RdCustReg", "RdMem", "WrRD", "WrPC", "WrCustReg", "WrMem"]
+# The kinds of operations: those on the core, those that are wires and no gates, and those that are
+# gates.
+CORE_KINDS = [
+    "RdInstr",
+    "RdRS1",
+    "RdRS2",
+    "RdPC",
+    "RdCustReg",
+    "RdMem",
+    "WrRD",
+    "WrPC",
+    "WrCustReg",
+    "WrMem",
+]
 WIRE_KINDS = ["concat", "range", "cast"]
 GATE_KINDS = [
-    "add", "sub", "mul", "and", "or", "xor", "not", "neg", "shl", "shr", "eq", "ne", "lt", "le", "gt", "ge", "land", "lor",
-    "lnot", "mux", "rom",
+    "add",
+    "sub",
+    "mul",
+    "and",
+    "or",
+    "xor",
+    "not",
+    "neg",
+    "shl",
+    "shr",
+    "eq",
+    "ne",
+    "lt",
+    "le",
+    "gt",
+    "ge",
+    "land",
+    "lor",
+    "lnot",
+    "mux",
+    "rom",
 ]
 
-# Stages of a core, from the first to the last, by their count: a letter for pictures, and what happens there.
+# Stages of a core, from the first to the last, by their count: a letter for pictures, and what
+# happens there.
 STAGES = {
     3: [("F", "fetch"), ("X", "operands and execute"), ("W", "write-back")],
     4: [("F", "fetch"), ("R", "operands"), ("X", "execute"), ("W", "memory and write-back")],
     5: [("F", "fetch"), ("R", "operands"), ("X", "execute"), ("M", "memory"), ("W", "write-back")],
 }
 
-# Reasons for which an instruction stays where it is: a code of two letters for pictures, and what it waits for.
+# Reasons for which an instruction stays where it is: a code of two letters for pictures, and what
+# it waits for.
 HOLDS = {
     "Operand": ("Op", "a register that an older instruction writes"),
     "Board": ("Bo", "a register that a later write is due to"),
@@ -67,7 +102,8 @@ def finish(main):
 
 
 def lines_of(path):
-    """The lines of a text file without their line feeds, one after another; `-` is standard input."""
+    """The lines of a text file without their line feeds, one after another; `-` is standard
+    input."""
     try:
         source = sys.stdin.fileno() if path == "-" else path
         with open(source, encoding="utf-8", newline="\n", closefd=path != "-") as file:
@@ -109,14 +145,26 @@ class Answer(NamedTuple):
 def run_program(program, words):
     """Runs the program on words. A refusal is an Answer too; BadInput where no answer came."""
     try:
-        done = subprocess.run([str(program), *map(str, words)], stdout=subprocess.PIPE, stderr=subprocess.PIPE, check=False)
+        done = subprocess.run(
+            [str(program), *map(str, words)],
+            stdout=subprocess.PIPE,
+            stderr=subprocess.PIPE,
+            check=False,
+        )
     except OSError as fault:
         raise BadInput(f"the program {program} cannot be run: {fault.strerror}") from fault
     text = done.stdout.decode("utf-8", "replace")
-    if done.returncode in (3, 5, 12) or done.returncode < 0 or (done.returncode and not text.startswith("refused ")):
+    if (
+        done.returncode in (3, 5, 12)
+        or done.returncode < 0
+        or (done.returncode and not text.startswith("refused "))
+    ):
         said = done.stderr.decode("utf-8", "replace").strip().splitlines()
         why = f": {said[-1]}" if said else ""
-        raise BadInput(f"the program gave no answer to `{' '.join(map(str, words))}` (status {done.returncode}){why}")
+        raise BadInput(
+            f"the program gave no answer to `{' '.join(map(str, words))}` "
+            f"(status {done.returncode}){why}"
+        )
     return Answer(done.returncode, text)
 
 
@@ -129,7 +177,8 @@ def refusal_of(answer):
 
 
 class Cell(NamedTuple):
-    """An instruction in a stage: its serial, its address, and why it stays there, with the name alone (empty where it goes on)."""
+    """An instruction in a stage: its serial, its address, and why it stays there, with the name
+    alone (empty where it goes on)."""
 
     serial: int
     address: str
@@ -147,7 +196,8 @@ class Retirement(NamedTuple):
 
 
 class Row:
-    """One clock cycle of a trace: its number, its cells from the first stage on (None for an empty one), and its marks."""
+    """One clock cycle of a trace: its number, its cells from the first stage on (None for an empty
+    one), and its marks."""
 
     retired = None  # the serial of the instruction that retires
     late = None  # the serial of the instruction whose late write is done
@@ -173,14 +223,17 @@ ROW_LINE = re.compile(
 WRITES = r"(?: (?:x\d+|c\d+|m[0-9a-f]{8}|pc)=(?:[0-9a-f]+|later))*"
 RETIREMENT_LINE = re.compile(rf"= (\d+) ([0-9a-f]{{8}}) ([0-9a-f]{{8}})({WRITES})", re.ASCII)
 LATE_LINE = re.compile(rf"\+ \d+{WRITES}", re.ASCII)
-STATE_LINE = re.compile(r"pc [0-9a-f]{8}|[xc]\d+ [0-9a-f]+|o \d+ [xc]\d+|m [0-9a-f]{8} [0-9a-f]{8}", re.ASCII)
+STATE_LINE = re.compile(
+    r"pc [0-9a-f]{8}|[xc]\d+ [0-9a-f]+|o \d+ [xc]\d+|m [0-9a-f]{8} [0-9a-f]{8}", re.ASCII
+)
 
 
 class Trace:
-    """A trace that is read row by row, each one with the lines that belong to it: `for row in Trace(path)`.
+    """A trace that is read row by row, each one with the lines that belong to it: `for row in
+    Trace(path)`.
 
-    `stages` is the count of stages once a row was read, else 0. BadInput for the first line that does not belong
-    to a trace, with its number.
+    `stages` is the count of stages once a row was read, else 0. BadInput for the first line that
+    does not belong to a trace, with its number.
     """
 
     def __init__(self, path):
@@ -222,7 +275,11 @@ class Trace:
         fields = line[len(number) + 1 : form.start(2)].split(" ")
         if self.stages != len(fields):
             if self.stages:
-                raise self._bad(place, f"{shown(line)} has {len(fields)} stages, the rows before it have {self.stages}")
+                raise self._bad(
+                    place,
+                    f"{shown(line)} has {len(fields)} stages, "
+                    f"the rows before it have {self.stages}",
+                )
             self.stages = len(fields)
         cells = self._cells
         row = Row(count, [cells[field] for field in fields])
@@ -256,7 +313,8 @@ class Trace:
 
 
 class Cells(dict):
-    """The cells of the fields that were read last: an instruction has the same field in each stage that it passes."""
+    """The cells of the fields that were read last: an instruction has the same field in each stage
+    that it passes."""
 
     def __missing__(self, field):
         head, _, hold = field.partition("/")
@@ -297,7 +355,8 @@ def hold_parts(hold):
 
 
 def redirector_of(row):
-    """The instruction that sent the fetch elsewhere in this row: the youngest one that is not flushed in it, or None."""
+    """The instruction that sent the fetch elsewhere in this row: the youngest one that is not
+    flushed in it, or None."""
     for cell in row.cells:
         if cell is not None and cell.serial not in row.flushed:
             return cell
@@ -308,7 +367,8 @@ def redirector_of(row):
 
 
 class SourceLine(NamedTuple):
-    """The line of a source that an address has: its number from 1, its labels, its text, and its word where it is an image's."""
+    """The line of a source that an address has: its number from 1, its labels, its text, and its
+    word where it is an image's."""
 
     number: int
     labels: str
@@ -350,19 +410,28 @@ def assembly_lines(plain):
             labels.append(form[1])
             line = form[2].strip(BLANKS)
         if line:
-            found[f"{4 * len(found):08x}"] = SourceLine(number, " ".join(labels), " ".join(line.split()), "")
+            found[f"{4 * len(found):08x}"] = SourceLine(
+                number, " ".join(labels), " ".join(line.split()), ""
+            )
             labels = []
     return found
 
 
 def check_source(source, words):
-    """BadInput where the source cannot be that of a run: `words` are the run's words by address, empty for unknown ones."""
+    """BadInput where the source cannot be that of a run: `words` are the run's words by address,
+    empty for unknown ones."""
     for address, word in sorted(words.items()):
         line = source.get(address)
         if line is None:
-            raise BadInput(f"the source has no word at {address}, where the trace fetches: is it the source of this program?")
+            raise BadInput(
+                f"the source has no word at {address}, where the trace fetches: "
+                "is it the source of this program?"
+            )
         if word and line.word and word != line.word:
-            raise BadInput(f"the source has {line.word} at {address}, where the trace has {word}: is it the source of this program?")
+            raise BadInput(
+                f"the source has {line.word} at {address}, where the trace has {word}: "
+                "is it the source of this program?"
+            )
 
 
 def source_text(source, address):
@@ -387,7 +456,8 @@ class Operation:
 
 
 class Bound(NamedTuple):
-    """A bound `early`, `late`, `dep` or `chain`, with the operations that it names, and the amount of a flow or 0."""
+    """A bound `early`, `late`, `dep` or `chain`, with the operations that it names, and the amount
+    of a flow or 0."""
 
     name: str
     operations: list
@@ -416,14 +486,16 @@ class Report(NamedTuple):
 
 
 OPERATION_LINE = re.compile(
-    r"op (\d+) ([A-Za-z0-9.]+) delay (\d+) latency (\d+) early (\d+) late (\d+)(?: time (\d+))?", re.ASCII
+    r"op (\d+) ([A-Za-z0-9.]+) delay (\d+) latency (\d+) early (\d+) late (\d+)(?: time (\d+))?",
+    re.ASCII,
 )
 MODES = ["InPipeline", "Tight", "Decoupled", "Always", "none"]
 BOUND_SIZES = {"early": (1, 1), "late": (1, 1), "dep": (2, 2), "chain": (1, None)}
 
 
 def parse_report(lines, name):
-    """The report that these lines are. Its form is read and not its truth, which `ixt certify` checks."""
+    """The report that these lines are. Its form is read and not its truth, which `ixt certify`
+    checks."""
     lines = list(lines)
     start = 1 if lines and lines[0].startswith("refused ") else 0
     refusal = lines[0] if start else ""
@@ -431,7 +503,9 @@ def parse_report(lines, name):
         raise BadInput(f"{name}: there is no report, the program refused: {shown(refusal)}")
     if lines[start : start + 1] != ["longnail report 1"]:
         raise BadInput(f"{name}, line {start + 1}: a report starts with `longnail report 1`")
-    form = re.fullmatch(r"period (\d{1,7})", lines[start + 1] if len(lines) > start + 1 else "", re.ASCII)
+    form = re.fullmatch(
+        r"period (\d{1,7})", lines[start + 1] if len(lines) > start + 1 else "", re.ASCII
+    )
     if not form or int(form[1]) == 0:
         raise BadInput(f"{name}, line {start + 2}: the period must stand here")
     behaviours, open_one = [], None
@@ -467,7 +541,9 @@ def behaviour_line(behaviour, line, place, name):
         elif words[0] == "cost" and len(words) == 2:
             behaviour.cost = number_of(words[1], fault)
         elif words[0] == "flow" and len(words) > 3:
-            behaviour.flows.append(bound_of(behaviour, words[2:], number_of(words[1], fault), fault))
+            behaviour.flows.append(
+                bound_of(behaviour, words[2:], number_of(words[1], fault), fault)
+            )
         elif words[0] == "cycle" and len(words) > 2:
             behaviour.cycle.append(bound_of(behaviour, words[1:], 0, fault))
         else:
@@ -501,7 +577,11 @@ def bound_of(behaviour, words, amount, fault):
 
 
 def add_operation(behaviour, form, fault):
-    if not form or int(form[1]) != len(behaviour.operations) or (form[7] is None) != (behaviour.mode == "none"):
+    if (
+        not form
+        or int(form[1]) != len(behaviour.operations)
+        or (form[7] is None) != (behaviour.mode == "none")
+    ):
         raise fault
     numbers = [int(form[at]) if form[at] is not None else None for at in (1, 3, 4, 5, 6, 7)]
     if any(it is not None and it > 255 for it in numbers[2:]):
@@ -514,7 +594,9 @@ def add_operation(behaviour, form, fault):
 
 def whole_behaviour(behaviour, place, name):
     if behaviour.mode == "none" and not behaviour.cycle:
-        raise BadInput(f"{name}, line {place}: the behaviour {behaviour.name} has no schedule and no cycle")
+        raise BadInput(
+            f"{name}, line {place}: the behaviour {behaviour.name} has no schedule and no cycle"
+        )
     if behaviour.mode != "none" and behaviour.cost is None:
         raise BadInput(f"{name}, line {place}: the behaviour {behaviour.name} has no cost")
     return behaviour
@@ -530,11 +612,18 @@ def kind_name(kind):
 
 def add_program_option(parser):
     program = os.environ.get("IXT") or str(LAUNCHER)
-    parser.add_argument("--ixt", metavar="PATH", default=program, help="the program (else $IXT, else the launcher of this repository)")
+    parser.add_argument(
+        "--ixt",
+        metavar="PATH",
+        default=program,
+        help="the program (else $IXT, else the launcher of this repository)",
+    )
 
 
 def add_output_option(parser):
-    parser.add_argument("-o", "--output", metavar="FILE", default="-", help="where to write (else standard output)")
+    parser.add_argument(
+        "-o", "--output", metavar="FILE", default="-", help="where to write (else standard output)"
+    )
 
 
 def positive(word):
@@ -551,5 +640,3 @@ def natural(word):
     if number < 0:
         raise ValueError(word)
     return number
-
-

@@ -1,8 +1,8 @@
 #!/usr/bin/env python3
 """Names the kinds of operations that an extension uses and that a datasheet gives no delay.
 
-A kind that a datasheet does not name has delay 0, so a schedule counts its operations as done at once. That is right
-for wires, and mostly an oversight for gates.
+A kind that a datasheet does not name has delay 0, so a schedule counts its operations as done at
+once. That is right for wires, and mostly an oversight for gates.
 """
 import argparse
 import tempfile
@@ -10,8 +10,18 @@ from collections import defaultdict
 from pathlib import Path
 
 from ixt_texts import (
-    CORE_KINDS, WIRE_KINDS, BadInput, add_output_option, add_program_option, finish, kind_name, parse_report, refusal_of,
-    run_program, shown, write_output,
+    CORE_KINDS,
+    WIRE_KINDS,
+    BadInput,
+    add_output_option,
+    add_program_option,
+    finish,
+    kind_name,
+    parse_report,
+    refusal_of,
+    run_program,
+    shown,
+    write_output,
 )
 
 FOUND = 3
@@ -38,8 +48,8 @@ def read_sheet(path):
 
 
 def used_kinds(program, extension, core):
-    """The kinds of an extension's operations, and for each how many each behaviour has: they are those of any schedule on the core, and with
-    no delays there is one."""
+    """The kinds of an extension's operations, and for each how many each behaviour has: they are
+    those of any schedule on the core, and with no delays there is one."""
     with tempfile.TemporaryDirectory() as room:
         sheet = Path(room) / "no-delays.toml"
         sheet.write_text(f'core = "{core}"\nperiod = 1000000\n', encoding="utf-8")
@@ -55,7 +65,8 @@ def used_kinds(program, extension, core):
 
 
 def check_sheet(program, extension, sheet):
-    """The datasheet's tables, where the program takes it; a behaviour without a schedule on it is no matter here."""
+    """The datasheet's tables, where the program takes it; a behaviour without a schedule on it is
+    no matter here."""
     answer = run_program(program, ["schedule", extension, sheet])
     refusal = refusal_of(answer)
     if refusal and not refusal.startswith("refused NoSchedule "):
@@ -93,9 +104,10 @@ def uses_text(uses):
 
 def main():
     parser = argparse.ArgumentParser(
-        description="Names the kinds of operations that an extension uses with delay 0 on a datasheet.",
-        epilog=f"Exit status: 0 done, 1 an input is refused, 2 a wrong command line, {FOUND} a kind of gates has delay 0 since the "
-        "datasheet does not name it.",
+        description="Names the kinds of operations that an extension uses and that a datasheet "
+        "gives delay 0.",
+        epilog="Exit status: 0 done, 1 an input is refused, 2 a wrong command line, "
+        f"{FOUND} a kind of gates has delay 0 since the datasheet does not name it.",
     )
     parser.add_argument("extension", help="the extension, a CoreDSL text")
     parser.add_argument("sheet", help="the datasheet")

@@ -1,26 +1,41 @@
 #!/usr/bin/env python3
-"""A trace that `ixt run` wrote as a picture: an SVG pipeline diagram, or a Kanata 0004 log for pipeline viewers.
+"""A trace that `ixt run` wrote as a picture: an SVG pipeline diagram, or a Kanata 0004 log for
+pipeline viewers.
 
-The diagram has a line for each instruction and a column for each cycle. A filled box says in which stage the
-instruction is, an open one that it stays there and why. It shows as many cycles as fit on a page.
+The diagram has a line for each instruction and a column for each cycle. A filled box says in which
+stage the instruction is, an open one that it stays there and why. It shows as many cycles as fit on
+a page.
 """
 import argparse
 from collections import Counter
 
 from ixt_svg import ALARM, INK, LYING, PALE, SHADES, Legend, Picture, fitted, step_of, text_width
 from ixt_texts import (
-    HOLDS, STAGES, BadInput, Trace, add_output_option, check_source, finish, hold_parts, natural, positive, read_source,
-    source_text, write_output,
+    HOLDS,
+    STAGES,
+    BadInput,
+    Trace,
+    add_output_option,
+    check_source,
+    finish,
+    hold_parts,
+    natural,
+    positive,
+    read_source,
+    source_text,
+    write_output,
 )
 
 MOST_ROWS = 40
+ALL_ROWS = 10**9
 FLUSHED = "×"
 STOPPED = "■"
 LATE = "+"
 
 
 class Life:
-    """What a window of rows shows of one instruction: its cells by row, its end, and what it waited for."""
+    """What a window of rows shows of one instruction: its cells by row, its end, and what it waited
+    for."""
 
     def __init__(self, cell):
         self.serial = cell.serial
@@ -32,7 +47,8 @@ class Life:
 
 
 class Window:
-    """The rows that are shown, from `first` on, and the lives of the instructions in them by serial."""
+    """The rows that are shown, from `first` on, and the lives of the instructions in them by
+    serial."""
 
     def __init__(self, first):
         self.first = first
@@ -75,7 +91,11 @@ def take_row(lives, row, stages):
         lives[serial].flushed = row.number
     if row.retired is not None:
         life = lives[row.retired]
-        life.retired, life.word, life.writes = row.number, row.retirement.word, row.retirement.writes
+        life.retired, life.word, life.writes = (
+            row.number,
+            row.retirement.word,
+            row.retirement.writes,
+        )
     if row.late in lives:
         lives[row.late].late = row.number
     if row.stop is not None:
@@ -126,7 +146,9 @@ def name_text(life, source):
 
 
 def why_text(life):
-    return ", ".join(f"{hold} ×{count}" if count > 1 else hold for hold, count in life.holds.items())
+    return ", ".join(
+        f"{hold} ×{count}" if count > 1 else hold for hold, count in life.holds.items()
+    )
 
 
 def diagram(window, source, name):
@@ -146,7 +168,8 @@ def diagram(window, source, name):
 
 
 def draw_grid(picture, layout, window):
-    """The numbers of the cycles and fine lines below them; where they are narrow, each fifth one has its number."""
+    """The numbers of the cycles and fine lines below them; where they are narrow, each fifth one
+    has its number."""
     step = step_of(layout.cell, text_width(str(window.first + window.count), 9))
     picture.text(layout.left, layout.top - 6, "instruction", 9, fill=PALE)
     picture.text(layout.grid, layout.top - 18, "cycle", 9, fill=PALE)
@@ -162,10 +185,24 @@ def draw_grid(picture, layout, window):
 
 def draw_life(picture, layout, window, life, top, source):
     base = top + layout.line / 2 + 3.5
-    picture.text(layout.left + layout.serials, base, str(life.serial), layout.size, anchor="end", fill=PALE)
-    picture.text(layout.left + layout.serials + 8, base, fitted(name_text(life, source), layout.size, layout.names + 1), layout.size)
+    picture.text(
+        layout.left + layout.serials, base, str(life.serial), layout.size, anchor="end", fill=PALE
+    )
+    picture.text(
+        layout.left + layout.serials + 8,
+        base,
+        fitted(name_text(life, source), layout.size, layout.names + 1),
+        layout.size,
+    )
     for row, (stage, cell) in life.cells.items():
-        draw_cell(picture, layout, (layout.column(window, row), top, base), (stage, cell), end_sign(life, row), window.stages)
+        draw_cell(
+            picture,
+            layout,
+            (layout.column(window, row), top, base),
+            (stage, cell),
+            end_sign(life, row),
+            window.stages,
+        )
     if life.late is not None and life.late not in life.cells:
         middle = layout.column(window, life.late) + layout.cell / 2
         picture.text(middle, base, LATE, 10, anchor="middle", weight="bold")
@@ -180,7 +217,8 @@ def end_sign(life, row):
 
 
 def draw_cell(picture, layout, place, cell, sign, stages):
-    """A box for a stage and a cycle: filled where the instruction goes on, open where it stays, with a sign where it ends."""
+    """A box for a stage and a cycle: filled where the instruction goes on, open where it stays,
+    with a sign where it ends."""
     x, top, base = place
     stage, it = cell
     shade = shade_of(stage, stages)
@@ -215,16 +253,39 @@ def draw_legend(picture, layout, window, width):
     for stage, (letter, name) in enumerate(STAGES[window.stages]):
         shade = shade_of(stage, window.stages)
         last = ", and retires" if stage == window.stages - 1 else ""
-        legend.add(16, name + last, box_sign(picture, letter, shade.ink, fill=shade.fill, stroke=shade.edge, stroke_width=0.5))
-    for name in sorted({cell.hold_name for it in window.lives.values() for _, cell in it.cells.values() if cell.hold}):
+        legend.add(
+            16,
+            name + last,
+            box_sign(
+                picture, letter, shade.ink, fill=shade.fill, stroke=shade.edge, stroke_width=0.5
+            ),
+        )
+    for name in sorted(
+        {
+            cell.hold_name
+            for it in window.lives.values()
+            for _, cell in it.cells.values()
+            if cell.hold
+        }
+    ):
         code, text = HOLDS[name]
-        legend.add(16, f"{name}: waits for {text}", box_sign(picture, code, INK, fill="#ffffff", stroke=PALE, stroke_width=1.4))
+        legend.add(
+            16,
+            f"{name}: waits for {text}",
+            box_sign(picture, code, INK, fill="#ffffff", stroke=PALE, stroke_width=1.4),
+        )
     if any(it.flushed is not None for it in window.lives.values()):
-        legend.add(16, "flushed", box_sign(picture, FLUSHED, ALARM, fill="#ffffff", stroke=ALARM, stroke_dasharray="2 2"))
+        legend.add(
+            16,
+            "flushed",
+            box_sign(picture, FLUSHED, ALARM, fill="#ffffff", stroke=ALARM, stroke_dasharray="2 2"),
+        )
     if any(it.stopped is not None for it in window.lives.values()):
         legend.add(16, "stops the run", box_sign(picture, STOPPED, INK, fill="#ffffff", stroke=INK))
     if any(it.late is not None for it in window.lives.values()):
-        legend.add(10, "its late write is done", lambda x, y: picture.text(x, y, LATE, 10, weight="bold"))
+        legend.add(
+            10, "its late write is done", lambda x, y: picture.text(x, y, LATE, 10, weight="bold")
+        )
     return legend
 
 
@@ -240,7 +301,8 @@ def box_sign(picture, words, ink, **style):
 
 
 def kanata_lines(trace, first, most, source, words):
-    """The lines of a Kanata 0004 log of the rows of a window, one after another; `words` takes the words by address."""
+    """The lines of a Kanata 0004 log of the rows of a window, one after another; `words` takes the
+    words by address."""
     yield "Kanata\t0004"
     yield f"C=\t{first}"
     log = Log(source)
@@ -260,7 +322,8 @@ def kanata_lines(trace, first, most, source, words):
 
 
 class Log:
-    """What a log has to keep of the rows before: the numbers of instructions in it, their stages and holds, and what ends."""
+    """What a log has to keep of the rows before: the numbers of instructions in it, their stages
+    and holds, and what ends."""
 
     def __init__(self, source):
         self.source = source
@@ -302,19 +365,27 @@ class Log:
 
     def _begin(self, lines, cell):
         number = self.numbers[cell.serial] = len(self.numbers)
-        text = source_text(self.source, cell.address) if self.source is None or cell.address in self.source else ""
+        text = (
+            source_text(self.source, cell.address)
+            if self.source is None or cell.address in self.source
+            else ""
+        )
         lines.append(f"I\t{number}\t{cell.serial}\t0")
         lines.append(f"L\t{number}\t0\t{cell.address}{' ' + text if text else ''}")
 
     def _hold(self, lines, cell, held):
-        """A hold is a stage of the second lane; what it waits for is a line between both instructions."""
+        """A hold is a stage of the second lane; what it waits for is a line between both
+        instructions."""
         number = self.numbers[cell.serial]
         if held:
             lines.append(f"E\t{number}\t1\t{held}")
         if cell.hold:
             lines.append(f"S\t{number}\t1\t{cell.hold_name}")
             _, other = hold_parts(cell.hold)
-            if cell.hold_name not in ("Wait", "Tail", "UnitFull", "Behind") and other in self.numbers:
+            if (
+                cell.hold_name not in ("Wait", "Tail", "UnitFull", "Behind")
+                and other in self.numbers
+            ):
                 lines.append(f"W\t{number}\t{self.numbers[other]}\t0")
         self.holds[cell.serial] = cell.hold_name
 
@@ -325,34 +396,60 @@ class Log:
         self.holds.pop(serial, None)
 
 
-def main():
+def parse_options():
     parser = argparse.ArgumentParser(
-        description="Makes an SVG pipeline diagram of a trace, or with --kanata a Kanata 0004 log for pipeline viewers.",
+        description="Makes an SVG pipeline diagram of a trace, or with --kanata a Kanata 0004 log "
+        "for pipeline viewers.",
         epilog="Exit status: 0 done, 1 an input is refused, 2 a wrong command line. "
-        "Example: ./ixt run EXT SHEET IMAGE WAITS 40 | tools/user/trace_picture.py --source PROGRAM.s -o run.svg",
+        "Example: ./ixt run EXT SHEET IMAGE WAITS 40 | tools/user/trace_picture.py -o run.svg",
     )
     parser.add_argument("trace", nargs="?", default="-", help="the trace (else standard input)")
-    parser.add_argument("--kanata", action="store_true", help="write a Kanata log; it has all rows unless --rows is given")
-    parser.add_argument("--from", dest="first", metavar="ROW", type=natural, default=0, help="the first row that is shown (else 0)")
-    parser.add_argument("--rows", metavar="N", type=positive, help=f"how many rows are shown (in a diagram at most {MOST_ROWS})")
-    parser.add_argument("--source", metavar="FILE", help="the assembly source or the image of the program, for its lines")
-    parser.add_argument("--name", help="what the run is called in the diagram (else the file's name)")
+    parser.add_argument(
+        "--kanata",
+        action="store_true",
+        help="write a Kanata log; it has all rows unless --rows is given",
+    )
+    parser.add_argument(
+        "--from",
+        dest="first",
+        metavar="ROW",
+        type=natural,
+        default=0,
+        help="the first row that is shown (else 0)",
+    )
+    rows = f"how many rows are shown (in a diagram at most {MOST_ROWS})"
+    parser.add_argument("--rows", metavar="N", type=positive, help=rows)
+    parser.add_argument(
+        "--source",
+        metavar="FILE",
+        help="the assembly source or the image of the program, for its lines",
+    )
+    parser.add_argument(
+        "--name", help="what the run is called in the diagram (else the file's name)"
+    )
     add_output_option(parser)
     options = parser.parse_args()
     if not options.kanata and options.rows is not None and options.rows > MOST_ROWS:
         parser.error(f"a diagram shows at most {MOST_ROWS} rows")
+    if options.name is None:
+        options.name = "a run" if options.trace == "-" else options.trace.rpartition("/")[2]
+    return options
+
+
+def main():
+    options = parse_options()
     source = read_source(options.source) if options.source else None
     trace = Trace(options.trace)
     if options.kanata:
         words = {}
-        text = "\n".join(kanata_lines(trace, options.first, options.rows or 10**9, source, words)) + "\n"
+        most = options.rows or ALL_ROWS
+        lines = list(kanata_lines(trace, options.first, most, source, words))
     else:
         window = read_window(trace, options.first, options.rows or MOST_ROWS)
         words = window.words
     if source is not None:
         check_source(source, words)
-    if not options.kanata:
-        text = diagram(window, source, options.name or ("a run" if options.trace == "-" else options.trace.rpartition("/")[2]))
+    text = "\n".join(lines) + "\n" if options.kanata else diagram(window, source, options.name)
     write_output(options.output, text)
 
 

@@ -1,18 +1,28 @@
 #!/usr/bin/env python3
 """Where the cycles of a run go: a summary of a trace that `ixt run` wrote.
 
-A cycle is lost where no instruction retires in it. Its cause is why the last stage had nothing to retire: an
-instruction stayed in it, or the gap in it began earlier in the pipeline, where an instruction stayed behind an empty
-stage, was dropped behind a jump, or was not there to be fetched. So the cycles with a retirement and the lost ones of
-each cause sum to all cycles.
+A cycle is lost where no instruction retires in it. Its cause is why the last stage had nothing to
+retire: an instruction stayed in it, or the gap in it began earlier in the pipeline, where an
+instruction stayed behind an empty stage, was dropped behind a jump, or was not there to be fetched.
+So the cycles with a retirement and the lost ones of each cause sum to all cycles.
 """
 import argparse
 from collections import Counter, defaultdict
 from typing import NamedTuple
 
 from ixt_texts import (
-    HOLDS, BadInput, Trace, add_output_option, check_source, finish, hold_parts, positive, read_source, redirector_of,
-    source_text, write_output,
+    HOLDS,
+    BadInput,
+    Trace,
+    add_output_option,
+    check_source,
+    finish,
+    hold_parts,
+    positive,
+    read_source,
+    redirector_of,
+    source_text,
+    write_output,
 )
 
 # Causes of gaps that are no hold of an instruction.
@@ -27,7 +37,8 @@ GAP_TEXTS = {
 
 
 class Cause(NamedTuple):
-    """Why a cycle was lost: the name of the cause, what was waited for, and the address to which it is charged, or None."""
+    """Why a cycle was lost: the name of the cause, what was waited for, and the address to which it
+    is charged, or None."""
 
     name: str
     detail: str
@@ -35,7 +46,8 @@ class Cause(NamedTuple):
 
 
 class Account:
-    """The sums of a trace. `lost` counts lost cycles by cause, `waits` the cycles that instructions stayed by hold."""
+    """The sums of a trace. `lost` counts lost cycles by cause, `waits` the cycles that instructions
+    stayed by hold."""
 
     def __init__(self):
         self.cycles = self.retired = self.flushed = self.redirects = 0
@@ -86,7 +98,8 @@ def count_row(sums, row):
 
 
 def gaps_of(row, before, gaps, addresses):
-    """For each stage that is empty in a row the cause of it; None for the others. `gaps` is that of the row before."""
+    """For each stage that is empty in a row the cause of it; None for the others. `gaps` is that of
+    the row before."""
     found = [None] * len(row.cells)
     if None not in row.cells:
         return found
@@ -113,11 +126,14 @@ def gap_cause(row, stage, before, gaps, addresses):
     if cell.serial in before.flushed:
         redirector = redirector_of(before)
         return Cause(REDIRECT, "", redirector.address if redirector else None)
-    raise BadInput(f"row {row.number} is no row of a pipeline: the instruction {cell.serial} is gone from it")
+    raise BadInput(
+        f"row {row.number} is no row of a pipeline: the instruction {cell.serial} is gone from it"
+    )
 
 
 def charge_redirect(row, redirector, found):
-    """Where nothing could be fetched before a jump, the jump is the cause: younger instructions were not there to be dropped."""
+    """Where nothing could be fetched before a jump, the jump is the cause: younger instructions
+    were not there to be dropped."""
     for stage, cell in enumerate(row.cells):
         if cell is redirector:
             break
@@ -141,7 +157,10 @@ def lost_cause(row, gaps, addresses):
     if last is None:
         return gaps[-1]
     if not last.hold:
-        raise BadInput(f"row {row.number} is no row of a pipeline: the instruction {last.serial} neither retires nor stays")
+        raise BadInput(
+            f"row {row.number} is no row of a pipeline: "
+            f"the instruction {last.serial} neither retires nor stays"
+        )
     return hold_cause(last, addresses)
 
 
@@ -168,13 +187,25 @@ def head_lines(sums):
 
 
 def cause_lines(sums):
-    """A line for each cause: the cycles that it lost, and the cycles that instructions stayed for it."""
-    lines = ["cycles  share   stays  in cycles in which", f"{sums.retired:>6} {share(sums.retired, sums.cycles)}       -  an instruction retires"]
-    names = sorted(set(sums.lost) | set(sums.waits), key=lambda it: (-sums.lost[it], -sums.waits[it], it))
+    """A line for each cause: the cycles that it lost, and the cycles that instructions stayed for
+    it."""
+    lines = [
+        "cycles  share   stays  in cycles in which",
+        f"{sums.retired:>6} {share(sums.retired, sums.cycles)}       -  an instruction retires",
+    ]
+    names = sorted(
+        set(sums.lost) | set(sums.waits), key=lambda it: (-sums.lost[it], -sums.waits[it], it)
+    )
     for name in names:
-        text = f"{name}: an instruction waits for {HOLDS[name][1]}" if name in HOLDS else f"{name}: {GAP_TEXTS[name]}"
+        text = (
+            f"{name}: an instruction waits for {HOLDS[name][1]}"
+            if name in HOLDS
+            else f"{name}: {GAP_TEXTS[name]}"
+        )
         waits = str(sums.waits[name]) if name in HOLDS else "-"
-        lines.append(f"{sums.lost[name]:>6} {share(sums.lost[name], sums.cycles)} {waits:>7}  {text}")
+        lines.append(
+            f"{sums.lost[name]:>6} {share(sums.lost[name], sums.cycles)} {waits:>7}  {text}"
+        )
     return lines
 
 
@@ -185,10 +216,13 @@ def share(part, whole):
 def address_lines(sums, source, top):
     """A line for each address that lost most cycles, and below it what they were lost for."""
     ordered = sorted(sums.lost_at, key=lambda it: (-sum(sums.lost_at[it].values()), it))
-    lines = [f"{'address':<8} {'retired':>7} {'lost':>6}  the addresses that lost most cycles, and why"]
+    lines = [
+        f"{'address':<8} {'retired':>7} {'lost':>6}  the addresses that lost most cycles, and why"
+    ]
     for address in ordered[:top]:
         causes = sums.lost_at[address]
-        lines.append(f"{address} {sums.retired_at[address]:>7} {sum(causes.values()):>6}  {place_text(source, address)}".rstrip())
+        numbers = f"{sums.retired_at[address]:>7} {sum(causes.values()):>6}"
+        lines.append(f"{address} {numbers}  {place_text(source, address)}".rstrip())
         for cause, count in sorted(causes.items(), key=lambda it: (-it[1], it[0])):
             lines.append(f"{'':16} {count:>6}  {cause}")
     if len(ordered) > top:
@@ -202,13 +236,24 @@ def place_text(source, address):
 
 def main():
     parser = argparse.ArgumentParser(
-        description="Says where the cycles of a run go: cycles, retirements, lost cycles by cause, and the addresses that lost most.",
+        description="Says where the cycles of a run go: cycles, retirements, lost cycles by cause, "
+        "and the addresses that lost most.",
         epilog="Exit status: 0 done, 1 an input is refused, 2 a wrong command line. "
-        "Example: ./ixt run EXT SHEET IMAGE WAITS 1000 | tools/user/trace_summary.py --source PROGRAM.s",
+        "Example: ./ixt run EXT SHEET IMAGE WAITS 1000 | tools/user/trace_summary.py",
     )
     parser.add_argument("trace", nargs="?", default="-", help="the trace (else standard input)")
-    parser.add_argument("--source", metavar="FILE", help="the assembly source or the image of the program, for lines and labels")
-    parser.add_argument("--top", metavar="N", type=positive, default=10, help="how many addresses are shown (else 10)")
+    parser.add_argument(
+        "--source",
+        metavar="FILE",
+        help="the assembly source or the image of the program, for lines and labels",
+    )
+    parser.add_argument(
+        "--top",
+        metavar="N",
+        type=positive,
+        default=10,
+        help="how many addresses are shown (else 10)",
+    )
     add_output_option(parser)
     options = parser.parse_args()
     source = read_source(options.source) if options.source else None
