@@ -17,12 +17,13 @@ def pieces(text, end):
 
 
 def read(path):
-    with open(path, newline="") as file:
+    """A file, with a character for each of its bytes: some cases are no text."""
+    with open(path, newline="", encoding="latin-1") as file:
         return file.read()
 
 
 def write(path, texts):
-    with open(path, "w", newline="") as file:
+    with open(path, "w", newline="", encoding="latin-1") as file:
         file.writelines(texts)
 
 
@@ -36,9 +37,9 @@ def replace(crate, word, made, answer_end="\n", answers=lambda case: 1):
     cases = pieces(read(folder / "stdin"), END)
     due = pieces(read(folder / "stdout"), answer_end)
     places = [place for place, case in enumerate(cases) if re.split("[ \n]", case)[0] == word]
-    before, behind = (cases[:places[0]], cases[places[-1] + 1:]) if places else (cases, [])
-    made = list(made)
-    write(folder / "stdin", [*before, *(f"{word}\n{case}{END}" for case, _ in made), *behind])
-    due_before = due[:sum(map(answers, before))]
-    due_behind = due[len(due) - sum(map(answers, behind)):]
-    write(folder / "stdout", [*due_before, *(answer for _, answer in made), *due_behind])
+    first, last = (places[0], places[-1] + 1) if places else (len(cases), len(cases))
+    made = [(case.encode().decode("latin-1"), answer) for case, answer in made]
+    write(folder / "stdin", [*cases[:first], *(f"{word}\n{case}{END}" for case, _ in made), *cases[last:]])
+    before = sum(map(answers, cases[:first]))
+    behind = before + sum(map(answers, cases[first:last]))
+    write(folder / "stdout", [*due[:before], *(answer for _, answer in made), *due[behind:]])

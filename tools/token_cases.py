@@ -2,7 +2,7 @@
 """Makes the cases `tokens` of crates/text_cases.
 
 They are texts, and by hand their tokens with their places, or why they have none."""
-from text_groups import put_group
+from case_files import replace
 
 NAME64 = "a123456789_123456789_123456789_123456789_123456789_123456789_123"
 GREATEST = 2**128 - 1
@@ -59,4 +59,4 @@ REFUSED = [(text, "BadNumber 0") for text in ["5'd32", "0x", "0b", "0b2", "00", 
     (f"1 {NAME64}4", "BadByte 2"),
 ]
 
-put_group("tokens", [(text.encode().decode("latin-1"), told) for text, told in READ + REFUSED])
+replace("text_cases", "tokens", [(text, f"{line}\n") for text, line in READ + REFUSED])

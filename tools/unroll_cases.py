@@ -11,7 +11,7 @@ import pathlib
 import re
 import sys
 
-from text_groups import put_group
+from case_files import replace
 
 TOP = pathlib.Path(__file__).resolve().parent.parent
 MOST_TURNS, MOST_STATEMENTS = 128, 16384
@@ -620,7 +620,7 @@ def main():
             if isinstance(text, str) and re.search(r"\bfor\b", text) and text not in taken:
                 taken.append(text)
     answered = [(text, answer(text)) for text in taken if text.isascii()]
-    put_group("unrolled", [(text, told) for text, told in answered if told is not None and len(told) < 20_000])
+    replace("text_cases", "unrolled", [(text, f"{line}\n") for text, line in answered if line is not None and len(line) < 20_000])
 
 
 if __name__ == "__main__":
