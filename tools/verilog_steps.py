@@ -1,8 +1,8 @@
 #!/usr/bin/env python3
 """Steps the modules of a Verilog text in iverilog beside our simulator, on the same inputs, and tells each difference.
 
-Use: tools/verilog_steps.py NET_CASES FILE CYCLES
-NET_CASES is the program of the crate net_cases; `rt run` in its folder builds it.
+Use: tools/verilog_steps.py VERILOG_CASES FILE CYCLES
+VERILOG_CASES is the program of the crate verilog_cases; `rt run` in its folder builds it.
 """
 import os
 import re
@@ -60,8 +60,7 @@ def main():
     with open(path) as file:
         text = file.read()
     case = f"step {cycles}\n{text}\x1e"
-    stepped = subprocess.run([steps], input=case, capture_output=True, text=True, check=True)
-    printed = stepped.stdout.rstrip("\x1e")
+    printed = subprocess.run([steps], input=case, capture_output=True, text=True, check=True).stdout
     modules = modules_of(text)
     differences = 0
     parts = re.split(r"^module (\w+)\n", printed, flags=re.M)[1:]
