@@ -1,6 +1,6 @@
 #!/bin/sh
-# Makes the pictures of the documents again: tools/make_pictures.sh [PROGRAM [FOLDER]]. Without words it takes the launcher ./ixt and
-# writes to docs/pictures.
+# Makes the pictures of the documents again: tools/make_pictures.sh [PROGRAM [FOLDER]]. Without
+# words it takes the launcher ./ixt and writes to docs/pictures.
 root=$(CDPATH='' cd -- "$(dirname -- "$0")/.." && pwd) || exit 1
 program=${1:-$root/ixt}
 pictures=${2:-$root/docs/pictures}
@@ -19,7 +19,8 @@ python3 "$root/tools/tutorial_scripts.py" files "$room" && cd "$room" || exit 1
 printf 'core = "three"\nperiod = 1000\n[delay]\nmul = 600\nadd = 600\n' > store.toml
 failed=0
 
-# Draws the report of `schedule` on these words (a refusal has its report too) as the picture with this name.
+# Draws the report of `schedule` on these words (a refusal has its report too) as the picture with
+# this name.
 schedule_picture() {
     name=$1
     shift

@@ -1,7 +1,8 @@
 #!/bin/sh
-# Tests the scripts of tools/user over all examples, with bad inputs, and with a trace of 200,000 rows: tools/test_user.sh [PROGRAM].
-# Without a word it takes the proved program that ./prove or the gate has built. The last line is `N passed, N failed`. What
-# needs GNU parallel or Yosys is left out where they are missing, and a line says so.
+# Tests the scripts of tools/user over all examples, with bad inputs, and with a trace of 200,000
+# rows: tools/test_user.sh [PROGRAM]. Without a word it takes the proved program that ./prove or the
+# gate has built. The last line is `N passed, N failed`. What needs GNU parallel or Yosys is left
+# out where they are missing, and a line says so.
 root=$(CDPATH='' cd -- "$(dirname -- "$0")/.." && pwd) || exit 1
 program=${1:-$root/crates/ixt/out/ixt}
 case $program in
@@ -46,7 +47,8 @@ ends() {
     fi
 }
 
-# Whether the words are refused: status 1, a line that has the text, no traceback, and nothing on standard output.
+# Whether the words are refused: status 1, a line that has the text, no traceback, and nothing on
+# standard output.
 refused() {
     text=$1
     shift
@@ -101,7 +103,8 @@ done
 
 : > none.waits
 
-# Runs a program on a core with an extension, and gives its trace to all scripts. A run that is refused is refused by them.
+# Runs a program on a core with an extension, and gives its trace to all scripts. A run that is
+# refused is refused by them.
 run_all_scripts() {
     extension=$1 sheet=$2 image=$3 source=$4
     name=run-$(basename "$extension" .core_desc)-$(basename "$sheet" .toml)-$(basename "$source")
@@ -240,7 +243,7 @@ explore() {
 
 # A search path without GNU parallel, and one with another program of its name.
 mkdir bare other
-ln -s "$(command -v python3)" bare/python3
+ln -s "$(python3 -c 'import sys; print(sys.executable)')" bare/python3
 printf '#!/bin/sh\necho "parallel of another kind"\n' > other/parallel
 chmod +x other/parallel
 refused "was not found" env PATH="$room/bare" python3 "$user/explore.py" --extensions "$examples/wide-add.core_desc" \

@@ -78,6 +78,9 @@ HOLDS = {
     "Behind": ("Be", "the next stage to be free"),
 }
 
+# Of these the number in brackets counts rows or names a unit; of the others it is an instruction.
+COUNTED_HOLDS = ("Wait", "Tail", "UnitFull", "Behind")
+
 
 class BadInput(Exception):
     """What is wrong with an input, in one line for the user."""

@@ -11,6 +11,7 @@ from collections import Counter
 
 from ixt_svg import ALARM, INK, LYING, PALE, SHADES, Legend, Picture, fitted, step_of, text_width
 from ixt_texts import (
+    COUNTED_HOLDS,
     HOLDS,
     STAGES,
     BadInput,
@@ -64,10 +65,7 @@ def read_window(trace, first, most):
     window = Window(first)
     for row in trace:
         window.all_rows += 1
-        if row.cells[0] is not None:
-            window.words.setdefault(row.cells[0].address, "")
-        if row.retirement is not None:
-            window.words[row.retirement.address] = row.retirement.word
+        take_words(window.words, row)
         window.stop = row.stop
         if first <= row.number < first + most:
             window.count += 1
@@ -77,6 +75,14 @@ def read_window(trace, first, most):
     if window.count == 0:
         raise BadInput(f"the trace has {window.all_rows} rows, and none from row {first} on")
     return window
+
+
+def take_words(words, row):
+    """Adds what a row tells of the words at addresses: empty ones where no retirement was seen."""
+    if row.cells[0] is not None:
+        words.setdefault(row.cells[0].address, "")
+    if row.retirement is not None:
+        words[row.retirement.address] = row.retirement.word
 
 
 def take_row(lives, row, stages):
@@ -301,99 +307,94 @@ def box_sign(picture, words, ink, **style):
 
 
 def kanata_lines(trace, first, most, source, words):
-    """The lines of a Kanata 0004 log of the rows of a window, one after another; `words` takes the
-    words by address."""
-    yield "Kanata\t0004"
-    yield f"C=\t{first}"
+    """The lines of a Kanata 0004 log of some rows; `words` takes the words by address."""
+    lines = ["Kanata\t0004", f"C=\t{first}"]
     log = Log(source)
     for row in trace:
-        if row.cells[0] is not None:
-            words.setdefault(row.cells[0].address, "")
-        if row.retirement is not None:
-            words[row.retirement.address] = row.retirement.word
+        take_words(words, row)
         if first <= row.number < first + most:
             if row.number > first:
-                yield "C\t1"
-            yield from log.row_lines(row)
+                lines.append("C\t1")
+            log.take_row(lines, row)
     if not log.numbers:
         raise BadInput(f"the trace has no instruction from row {first} on")
-    yield "C\t1"
-    yield from log.ends
+    return lines + ["C\t1"] + log.ends
+
+
+class Shown:
+    """An instruction in a log: its number there, and the stage and the hold that were told last."""
+
+    __slots__ = ("number", "stage", "hold")
+
+    def __init__(self, number):
+        self.number = number
+        self.stage = self.hold = ""
 
 
 class Log:
-    """What a log has to keep of the rows before: the numbers of instructions in it, their stages
-    and holds, and what ends."""
+    """What a log has to keep of the rows before: the instructions in the pipeline, the numbers of
+    all, and what ends."""
 
     def __init__(self, source):
         self.source = source
         self.numbers = {}
-        self.stages = {}
-        self.holds = {}
+        self.shown = {}
         self.ends = []
         self.retired = 0
 
-    def row_lines(self, row):
-        lines, self.ends = self.ends, []
+    def take_row(self, lines, row):
+        """Adds the lines of a row, behind what ended in the row before."""
+        lines += self.ends
+        self.ends = []
         names = STAGES[len(row.cells)]
-        for stage, cell in reversed(list(enumerate(row.cells))):
+        for stage in range(len(row.cells) - 1, -1, -1):
+            cell = row.cells[stage]
             if cell is not None:
-                self._cell(lines, cell, names[stage][0])
+                shown = self.shown.get(cell.serial) or self._begin(lines, cell)
+                letter = names[stage][0]
+                if shown.stage != letter:
+                    self._enter(lines, shown, letter)
+                if shown.hold != cell.hold_name:
+                    self._hold(lines, shown, cell)
         for serial in row.flushed:
-            self._end(serial, f"R\t{self.numbers[serial]}\t{self.retired}\t1")
+            self._end(serial, 1)
         if row.retirement is not None:
-            number = self.numbers[row.retired]
-            lines.append(f"L\t{number}\t1\t{row.retirement.word} {row.retirement.writes}".rstrip())
-            self._end(row.retired, f"R\t{number}\t{self.retired}\t0")
+            number, it = self.numbers[row.retired], row.retirement
+            lines.append(f"L\t{number}\t1\t{it.word} {it.writes}".rstrip())
+            self._end(row.retired, 0)
             self.retired += 1
-        return lines
-
-    def _cell(self, lines, cell, stage):
-        serial = cell.serial
-        if serial not in self.numbers:
-            self._begin(lines, cell)
-        number = self.numbers[serial]
-        before = self.stages.get(serial)
-        if before != stage:
-            if before is not None:
-                lines.append(f"E\t{number}\t0\t{before}")
-            lines.append(f"S\t{number}\t0\t{stage}")
-            self.stages[serial] = stage
-        held = self.holds.get(serial, "")
-        if held != cell.hold_name:
-            self._hold(lines, cell, held)
 
     def _begin(self, lines, cell):
         number = self.numbers[cell.serial] = len(self.numbers)
-        text = (
-            source_text(self.source, cell.address)
-            if self.source is None or cell.address in self.source
-            else ""
-        )
+        known = self.source is None or cell.address in self.source
+        text = source_text(self.source, cell.address) if known else ""
         lines.append(f"I\t{number}\t{cell.serial}\t0")
         lines.append(f"L\t{number}\t0\t{cell.address}{' ' + text if text else ''}")
+        shown = self.shown[cell.serial] = Shown(number)
+        return shown
 
-    def _hold(self, lines, cell, held):
-        """A hold is a stage of the second lane; what it waits for is a line between both
-        instructions."""
-        number = self.numbers[cell.serial]
-        if held:
-            lines.append(f"E\t{number}\t1\t{held}")
+    def _enter(self, lines, shown, letter):
+        if shown.stage:
+            lines.append(f"E\t{shown.number}\t0\t{shown.stage}")
+        lines.append(f"S\t{shown.number}\t0\t{letter}")
+        shown.stage = letter
+
+    def _hold(self, lines, shown, cell):
+        """A hold is a stage of the second lane; what it waits for is a line between both."""
+        if shown.hold:
+            lines.append(f"E\t{shown.number}\t1\t{shown.hold}")
         if cell.hold:
-            lines.append(f"S\t{number}\t1\t{cell.hold_name}")
+            lines.append(f"S\t{shown.number}\t1\t{cell.hold_name}")
             _, other = hold_parts(cell.hold)
-            if (
-                cell.hold_name not in ("Wait", "Tail", "UnitFull", "Behind")
-                and other in self.numbers
-            ):
-                lines.append(f"W\t{number}\t{self.numbers[other]}\t0")
-        self.holds[cell.serial] = cell.hold_name
+            if cell.hold_name not in COUNTED_HOLDS and other in self.numbers:
+                lines.append(f"W\t{shown.number}\t{self.numbers[other]}\t0")
+        shown.hold = cell.hold_name
 
-    def _end(self, serial, line):
-        """What ends at the end of a row is told in the next cycle."""
-        self.ends.append(f"E\t{self.numbers[serial]}\t0\t{self.stages.pop(serial)}")
-        self.ends.append(line)
-        self.holds.pop(serial, None)
+    def _end(self, serial, kind):
+        """What ends with a row, by retirement (0) or flush (1), is told in the next cycle."""
+        shown = self.shown.pop(serial)
+        self.ends.append(f"E\t{shown.number}\t0\t{shown.stage}")
+        self.ends.append(f"R\t{shown.number}\t{self.retired}\t{kind}")
 
 
 def parse_options():
@@ -443,7 +444,7 @@ def main():
     if options.kanata:
         words = {}
         most = options.rows or ALL_ROWS
-        lines = list(kanata_lines(trace, options.first, most, source, words))
+        lines = kanata_lines(trace, options.first, most, source, words)
     else:
         window = read_window(trace, options.first, options.rows or MOST_ROWS)
         words = window.words

@@ -11,6 +11,7 @@ from collections import Counter, defaultdict
 from typing import NamedTuple
 
 from ixt_texts import (
+    COUNTED_HOLDS,
     HOLDS,
     BadInput,
     Trace,
@@ -146,7 +147,7 @@ def hold_cause(cell, addresses):
     name = cell.hold_name
     register, number = hold_parts(cell.hold)
     words = [f" {register}"] if register else []
-    if name not in ("Wait", "Tail", "UnitFull", "Behind") and number in addresses:
+    if name not in COUNTED_HOLDS and number in addresses:
         words.append(f" of {addresses[number]}")
     return Cause(name, "".join(words), cell.address)
 
