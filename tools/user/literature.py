@@ -478,6 +478,8 @@ def main():
         for case in cases:
             write_output(str(FOLDER / f"{case.program}.expected"), expected_text(case))
         return
+    # (a program that cannot be run is told of once, and not by each extension)
+    run_program(options.ixt, ["check", FOLDER / f"{cases[0].name}.core_desc"])
     with tempfile.TemporaryDirectory() as place:
         runs = run_all(options, cases, Path(place))
         rows = table_of(runs, measure_all(options, runs))
