@@ -76,11 +76,13 @@ def xorshift(count):
 
 
 def auto_increment():
+    """The squares of 1 to 16 in memory, their sum, and the address behind them."""
     squares = [number * number for number in range(1, 17)]
     return {"x10": sum(squares), "c0": MEMORY + 64} | words_in_memory(squares)
 
 
 def dot_product():
+    """Two vectors of 32 signed bytes in memory, and their dot product."""
     words = xorshift(16)
     numbers = [
         (byte ^ 0x80) - 0x80 for byte in b"".join(it.to_bytes(4, "little") for it in words)
@@ -90,6 +92,7 @@ def dot_product():
 
 
 def indirect_jump():
+    """The number whose binary digits the routines append."""
     return {"x10": 1973}
 
 
@@ -111,8 +114,9 @@ def s_box_of(byte):
 
 
 def s_box():
+    """The S-box of all bytes, and behind them a state of FIPS 197 behind its first SubBytes."""
     table = bytes(s_box_of(byte) for byte in range(256))
-    # (as FIPS 197 prints it behind its first SubBytes)
+    # (as FIPS 197 prints it)
     state = bytes.fromhex("d42711ae e0bf98f1 b8b45de5 1e415230")
     return in_memory(MEMORY, table) | in_memory(MEMORY + 256, state)
 
@@ -165,12 +169,14 @@ def sparkle_permutation(state, steps):
 
 
 def sparkle():
+    """The words of the state 0, 1, 2 .. 7 after 7 steps of Sparkle of 256 bits."""
     state = sparkle_permutation([(0, 1), (2, 3), (4, 5), (6, 7)], 7)
     words = [word for branch in state for word in branch]
     return {f"x{10 + at}": word for at, word in enumerate(words)}
 
 
 def square_root():
+    """Roots, rounded down, of 32 numbers in memory, and of four at the ends of ranges."""
     corners = [0, 2**32 - 1, 65535**2, 65535**2 - 1]
     roots = {f"x{20 + at}": math.isqrt(number) for at, number in enumerate(corners)}
     # (the first number is the seed)
@@ -179,6 +185,7 @@ def square_root():
 
 
 def zero_overhead_loop():
+    """The Fibonacci number 40, and no turns left."""
     number, following = 0, 1
     for _ in range(40):
         number, following = following, number + following
@@ -213,8 +220,9 @@ EXPECTED_LINE = re.compile(r"(x\d+|c\d+|m [0-9a-f]{8}) ([0-9a-f]{8})", re.ASCII)
 
 
 def expected_text(case):
-    """The lines of a file of expected results."""
-    return "".join(f"{place} {value:08x}\n" for place, value in case.definition().items())
+    """The text of a file of expected results."""
+    lines = [f"{place} {value:08x}\n" for place, value in case.definition().items()]
+    return f"# {case.definition.__doc__}\n{''.join(lines)}"
 
 
 def read_expected(path):
