@@ -136,6 +136,10 @@ for sheet in "$examples"/*.toml; do
     run_all_scripts "$examples/two-decoupled.core_desc" "$sheet" "$examples/first-run.hex" "$examples/first-run.hex"
 done
 
+# Extensions of the literature
+
+ends 0 "$user/literature.py" --no-yosys --check "$root/docs/LITERATURE.md"
+
 # Bad inputs
 
 "$program" run "$examples/one-wait.hex" 20 > good.trace
