@@ -4,8 +4,9 @@ of published definitions, and writes the table of docs/LITERATURE.md.
 
 Each extension is listed, its program is assembled and run one instruction at a time, and on each
 core it is scheduled (and the schedule certified), built and run, over a memory that never waits and
-over one that does. The registers and the memory at the end must be those of NAME.expected, and these must be what the
-definition gives, which stands below in Python. All states of a program must be the same.
+over one that does. The registers and the memory at the end must be those of NAME.expected, and
+these must be what the definition gives, which stands below in Python. All states of a program must
+be the same.
 """
 import argparse
 import math
