@@ -3,9 +3,10 @@
 of published definitions, and writes the table of docs/LITERATURE.md.
 
 Each extension is listed, its program is assembled and run one instruction at a time, and on each
-core it is scheduled, built and run, over a memory that never waits and over one that does. The
-registers and the memory at the end must be those of NAME.expected, and these must be what the
-definition gives, which stands below in Python. All states of a program must be the same.
+core it is scheduled (and the schedule certified), built and run, over a memory that never waits and
+over one that does. The registers and the memory at the end must be those of NAME.expected, and
+these must be what the definition gives, which stands below in Python. All states of a program must
+be the same.
 """
 import argparse
 import math
@@ -307,8 +308,11 @@ def run_on_core(options, case, core, image, steps, room):
     later, has no cycles."""
     extension, sheet = FOLDER / f"{case.name}.core_desc", ROOT / "examples" / f"{core}.toml"
     what = f"{case.name} on {core}"
-    report = answer_of(options, ["schedule", extension, sheet], what)
-    modes = modes_of(parse_report(report.splitlines(), what))
+    report = room / "schedule.report"
+    text = answer_of(options, ["schedule", extension, sheet], what)
+    report.write_text(text, encoding="utf-8")
+    answer_of(options, ["certify", report], what)
+    modes = modes_of(parse_report(text.splitlines(), what))
     built = answer_of(options, ["build", extension, sheet], what)
     modules = room / f"{case.name}-{core}.v"
     modules.write_text(built, encoding="utf-8")
