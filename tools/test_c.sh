@@ -47,7 +47,11 @@ refused() {
     text=$1
     shift
     ends 1 "$@"
-    if [ ! -s out ] && grep -qF -- "$text" err && ! grep -q Traceback err; then pass; else fail "$* does not say '$text': $(cat err)"; fi
+    if [ ! -s out ] && grep -qF -- "$text" err && ! grep -q Traceback err; then
+        pass
+    else
+        fail "$* does not say '$text': $(cat err)"
+    fi
 }
 
 for script in "$image" "$cycles"; do
@@ -60,8 +64,9 @@ ends 2 "$image" --header "$examples/wide-add.core_desc" some.c
 
 # Headers
 
-for name in auto-increment dot-product square-root square-root-apart store-product two-decoupled wide-add wide-multiply; do
-    ends 0 "$image" --header "$examples/$name.core_desc" -o "$name.h"
+for name in auto-increment dot-product square-root square-root-apart store-product two-decoupled \
+    wide-add wide-multiply; do
+    ends 0 "$image" --header "$examples/$name.core_desc" -o "made-$name.h"
 done
 refused "writes PC" "$image" --header "$examples/indirect-jump.core_desc"
 refused "block zol writes PC" "$image" --header "$examples/zero-overhead-loop.core_desc"
@@ -85,7 +90,11 @@ fi
 # Whether an image ends at its break with the result in x10, on a core with an extension.
 gives() {
     ends 0 "$IXT" seq "$2" "$3" 1000
-    if grep -qx 'stop Ebreak' out && grep -qx "x10 $1" out; then pass; else fail "$3: $(grep '^x10' out)"; fi
+    if grep -qx 'stop Ebreak' out && grep -qx "x10 $1" out; then
+        pass
+    else
+        fail "$3 does not end with $1: $(grep -E '^(stop|x10)' out | tr '\n' ' ')"
+    fi
 }
 
 ends 0 "$image" one.c -o one.hex
@@ -94,12 +103,12 @@ printf '.globl main\nmain: addi a0, zero, N\n ret\n' > main.S
 ends 0 "$image" -D N=77 main.S --elf main.elf -o main.hex
 gives 0000004d "$examples/wide-add.core_desc" main.hex
 [ -s main.elf ] || fail "--elf keeps no file"
+cp "$user/cases/encodings.core_desc" "$user/cases/encodings.c" .
 for level in 0 2 s; do
-    ends 0 "$image" -O "$level" --extension "$user/cases/encodings.core_desc" "$user/cases/encodings.c" -o encodings.hex
-    grep -q 'jump is left out: it writes PC' err || fail "no word on the jump of encodings.core_desc"
-    gives 00000bca "$user/cases/encodings.core_desc" encodings.hex
+    ends 0 "$image" -O "$level" --extension encodings.core_desc encodings.c -o encodings.hex
+    grep -q 'jump is left out: it writes PC' err || fail "no word on the jump"
+    gives 00000bca encodings.core_desc encodings.hex
 done
-cp "$user/cases/encodings.core_desc" .
 printf '#include "encodings.h"\nint main(void) { return ixt_addn(1, 4096); }\n' > range.c
 refused "n of addn is outside of its range" "$image" --extension encodings.core_desc range.c
 printf '#include "encodings.h"\nint main(void) { return ixt_split(1, 16); }\n' > absent.c
@@ -108,8 +117,13 @@ refused "h of split is outside of its range" "$image" --extension encodings.core
 echo 'int f(void) { return 1; }' > no-main.c
 echo 'int main(void) { return 1' > cut.c
 echo 'char big[1100000]; int main(int n) { return big[n]; }' > large.c
-echo 'int n; __attribute__((constructor)) void f(void) { n++; } int main(void) { return n; }' > before.c
-{ echo 'int big[] = {' && seq -s, 100000 130000 && echo '}; int main(int n) { return big[n]; }'; } > data.c
+echo 'int n; __attribute__((constructor)) void f(void) { n++; } int main(void) { return n; }' \
+    > before.c
+{
+    echo 'int big[] = {'
+    seq -s, 100000 130000
+    echo '}; int main(int n) { return big[n]; }'
+} > data.c
 : > no-object.o
 refused "undefined reference to \`main'" "$image" no-main.c
 refused "refused cut.c" "$image" cut.c
@@ -123,8 +137,11 @@ refused "No such file" "$image" one.c -o no-such-folder/file
 # Cycles
 
 printf '#include "wide-add.h"\nint main(void) { for (;;) ; }\n' > endless.c
-printf '#ifndef PLAIN\n#include "wide-add.h"\n#endif\nint main(void) { return sizeof(long); }\n' > other.c
-printf '#ifndef PLAIN\n#include "wide-add.h"\n#endif\nint main(void) { __asm__("nop"); return *(char *)3; }\n' > fault.c
+{
+    printf '#ifndef PLAIN\n#include "wide-add.h"\n#endif\n'
+    echo 'int main(void) { return sizeof(long); }'
+} > other.c
+sed 's/return sizeof(long)/__asm__("nop"); return *(volatile char *)3/' other.c > fault.c
 refused "includes the headers of 0 extensions" "$cycles" one.c
 refused "No such file" "$cycles" no-such-file.c
 refused "the host's compiler refused it" "$cycles" endless.c

@@ -79,7 +79,11 @@ def host_result(options, source):
                 raise BadInput(f"{source}: the host's compiler refused it")
         try:
             done = subprocess.run(
-                [made], stdout=subprocess.PIPE, stdin=subprocess.DEVNULL, timeout=SECONDS, check=False
+                [made],
+                stdout=subprocess.PIPE,
+                stdin=subprocess.DEVNULL,
+                timeout=SECONDS,
+                check=False,
             )
         except subprocess.TimeoutExpired as fault:
             raise BadInput(f"{source}: on the host it runs for over {SECONDS} seconds") from fault
@@ -93,7 +97,7 @@ RESULT = re.compile(r"^x10 ([0-9a-f]{8})$", re.ASCII | re.MULTILINE)
 
 
 def run_image(options, words, what):
-    """The last row's number (None for steps) and the result of a run, which must end at the break."""
+    """The last row's number (None for steps) and the result of a run, which must end at a break."""
     answer = run_program(options.ixt, words)
     if answer.status:
         raise BadInput(f"{what}: the program refused it: {shown(refusal_of(answer))}")
@@ -185,9 +189,9 @@ def check_document(path, text):
 
 def parsed():
     parser = argparse.ArgumentParser(
-        description="Compiles C programs with an extension's instructions and in plain C, runs them "
-        "on cores, compares the results with those of the host's compiler, and writes the cycles as "
-        "a table.",
+        description="Compiles C programs with an extension's instructions and in plain C, runs "
+        "them on cores, compares the results with those of the host's compiler, and writes the "
+        "cycles as a table.",
         epilog="Exit status: 0 done, 1 an input is refused or a result is wrong, 2 a wrong command "
         "line. Example: tools/user/c_cycles.py examples/c/hash.c",
     )

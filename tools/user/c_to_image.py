@@ -330,9 +330,11 @@ def segments_of(elf):
     for at in range(table, table + size * count, size):
         kind, offset, address, _, length = struct.unpack_from("<5I", data, at)
         part = data[offset : offset + length]
-        if kind == 1 and address == 0:
+        if kind != 1 or length == 0:  # (an empty segment may have any address)
+            continue
+        if address == 0:
             code = part
-        elif kind == 1 and length:
+        else:
             filled = bytes(address - MEMORY) + part
     return code, filled
 

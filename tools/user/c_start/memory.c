@@ -1,5 +1,5 @@
-/* The four functions that a compiler may call though no source names them. A program's own ones win.
-   A loop here must not become a call of the function that it stands in. */
+/* The four functions that a compiler may call though no source names them. A program's own ones
+   win. A loop here must not become a call of the function that it stands in. */
 #include <stddef.h>
 
 #pragma GCC optimize("no-tree-loop-distribute-patterns")

@@ -1,5 +1,5 @@
 /* What the start code and the linker script have to get right: initialised data of all kinds, data
-   past the reach of one store, zeros, pointers in data, a table of jumps, library calls, a stack. */
+   past the reach of one store, zeros, pointers in data, a table of jumps, library calls, stack. */
 #include <stddef.h>
 #include <stdint.h>
 
