@@ -302,6 +302,10 @@ else
     missing "delays_from_yosys.py, since Yosys is missing"
 fi
 
+# Programs in C
+
+if "$root/tools/test_c.sh" "$program"; then pass; else fail "tools/test_c.sh"; fi
+
 # The documents
 
 if "$root/tools/tutorial_scripts.py" check "$program"; then pass; else fail "commands of docs/TUTORIAL.md"; fi
