@@ -1,6 +1,6 @@
 #!/bin/sh
 # Tests the scripts for programs in C: tools/test_c.sh [PROGRAM], a part of test_user.sh. The last
-# line is `N passed, N failed`. Without the compiler only what needs none is tested.
+# line is `N passed, N failed`. Without both compilers only what needs none is tested.
 root=$(CDPATH='' cd -- "$(dirname -- "$0")/.." && pwd) || exit 1
 IXT=${1:-$root/crates/ixt/out/ixt}
 case $IXT in
@@ -80,8 +80,8 @@ echo 'int main(void) { return 1; }' > one.c
 refused "was not found" "$image" --cc no-such-compiler one.c
 refused "no such file" "$image" no-such-file.c
 refused "was not found" "$cycles" --cc no-such-compiler
-if ! command -v riscv64-unknown-elf-gcc > /dev/null; then
-    echo "not run: programs in C, since riscv64-unknown-elf-gcc is missing"
+if ! command -v riscv64-unknown-elf-gcc > /dev/null || ! command -v gcc > /dev/null; then
+    echo "not run: programs in C, since riscv64-unknown-elf-gcc or gcc is missing"
     echo "$passed passed, $failed failed"
     [ "$failed" = 0 ]
     exit
