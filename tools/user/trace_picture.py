@@ -7,6 +7,7 @@ stage the instruction is, an open one that it stays there and why. It shows as m
 a page.
 """
 import argparse
+import gc
 from collections import Counter
 
 from ixt_svg import ALARM, INK, LYING, PALE, SHADES, Legend, Picture, fitted, step_of, text_width
@@ -438,6 +439,8 @@ def parse_options():
 
 
 def main():
+    # rows make no cycles of objects, and looking for some takes a third of the time
+    gc.disable()
     options = parse_options()
     source = read_source(options.source) if options.source else None
     trace = Trace(options.trace)

@@ -7,6 +7,7 @@ instruction stayed behind an empty stage, was dropped behind a jump, or was not 
 So the cycles with a retirement and the lost ones of each cause sum to all cycles.
 """
 import argparse
+import gc
 from collections import Counter, defaultdict
 from typing import NamedTuple
 
@@ -236,6 +237,8 @@ def place_text(source, address):
 
 
 def main():
+    # rows make no cycles of objects, and looking for some takes a third of the time
+    gc.disable()
     parser = argparse.ArgumentParser(
         description="Says where the cycles of a run go: cycles, retirements, lost cycles by cause, "
         "and the addresses that lost most.",
