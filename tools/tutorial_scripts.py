@@ -26,8 +26,10 @@ def write_files(folder):
 def commands():
     """Each command of the page that calls a script, and what stands behind it."""
     page = (ROOT / "docs/TUTORIAL.md").read_text(encoding="utf-8")
-    for block in re.findall(r"^```\n(\$ .*?)^```$", page, re.MULTILINE | re.DOTALL):
-        command, _, output = block.removeprefix("$ ").partition("\n")
+    # a line that ends in a backslash goes on with the next one
+    for command, output in re.findall(
+        r"^```\n\$ ((?:[^\n]*\\\n)*[^\n]*)\n(.*?)^```$", page, re.MULTILINE | re.DOTALL
+    ):
         if "tools/user/" in command:
             yield command, output
 
