@@ -1,7 +1,10 @@
 ghost use Rattle.std.specs.Prelude.{ℕ};
 ghost use Rattle.rv_core.specs.Kinds.{IsShapeOf};
 
-use crate::{Core, Shape, shape_of};
+use crate::{Blocks, Core, Plain, Shape, shape_of};
+
+/// The address of the handler of interrupts on each core that a datasheet can name (this project's choice).
+const TRAP: u32 = 16;
 
 /// Operands, execute and memory in three stages.
 pub struct Three;
@@ -15,6 +18,13 @@ impl Core for Three {
 
     const MEM: u8 = 2;
 
+    const FORWARD: bool = false;
+
+    type Next = Plain;
+
+    const TRAP: u32 = TRAP;
+
+    ghost use Rattle.std.specs.Prelude.{false};
     ghost use Rattle.rv_core.specs.Stages.{three_lawful};
 
     ghost STAGES = { 3 };
@@ -24,6 +34,10 @@ impl Core for Three {
     ghost EX = { 1 };
 
     ghost MEM = { 2 };
+
+    ghost FORWARD = { false };
+
+    ghost TRAP = { 16 };
 
     ghost lawful = { three_lawful };
 }
@@ -40,6 +54,13 @@ impl Core for Four {
 
     const MEM: u8 = 3;
 
+    const FORWARD: bool = false;
+
+    type Next = Plain;
+
+    const TRAP: u32 = TRAP;
+
+    ghost use Rattle.std.specs.Prelude.{false};
     ghost use Rattle.rv_core.specs.Stages.{four_lawful};
 
     ghost STAGES = { 4 };
@@ -49,6 +70,10 @@ impl Core for Four {
     ghost EX = { 2 };
 
     ghost MEM = { 3 };
+
+    ghost FORWARD = { false };
+
+    ghost TRAP = { 16 };
 
     ghost lawful = { four_lawful };
 }
@@ -65,6 +90,13 @@ impl Core for Five {
 
     const MEM: u8 = 3;
 
+    const FORWARD: bool = false;
+
+    type Next = Plain;
+
+    const TRAP: u32 = TRAP;
+
+    ghost use Rattle.std.specs.Prelude.{false};
     ghost use Rattle.rv_core.specs.Stages.{five_lawful};
 
     ghost STAGES = { 5 };
@@ -75,6 +107,82 @@ impl Core for Five {
 
     ghost MEM = { 3 };
 
+    ghost FORWARD = { false };
+
+    ghost TRAP = { 16 };
+
+    ghost lawful = { five_lawful };
+}
+
+/// As `Three`, with forwarding and with blocks that guess.
+pub struct ThreeF;
+
+impl Core for ThreeF {
+    const STAGES: u8 = 3;
+
+    const RD: u8 = 1;
+
+    const EX: u8 = 1;
+
+    const MEM: u8 = 2;
+
+    const FORWARD: bool = true;
+
+    type Next = Blocks;
+
+    const TRAP: u32 = TRAP;
+
+    ghost use Rattle.std.specs.Prelude.{true};
+    ghost use Rattle.rv_core.specs.Stages.{three_lawful};
+
+    ghost STAGES = { 3 };
+
+    ghost RD = { 1 };
+
+    ghost EX = { 1 };
+
+    ghost MEM = { 2 };
+
+    ghost FORWARD = { true };
+
+    ghost TRAP = { 16 };
+
+    ghost lawful = { three_lawful };
+}
+
+/// As `Five`, with forwarding and with blocks that guess.
+pub struct FiveF;
+
+impl Core for FiveF {
+    const STAGES: u8 = 5;
+
+    const RD: u8 = 1;
+
+    const EX: u8 = 2;
+
+    const MEM: u8 = 3;
+
+    const FORWARD: bool = true;
+
+    type Next = Blocks;
+
+    const TRAP: u32 = TRAP;
+
+    ghost use Rattle.std.specs.Prelude.{true};
+    ghost use Rattle.rv_core.specs.Stages.{five_lawful};
+
+    ghost STAGES = { 5 };
+
+    ghost RD = { 1 };
+
+    ghost EX = { 2 };
+
+    ghost MEM = { 3 };
+
+    ghost FORWARD = { true };
+
+    ghost TRAP = { 16 };
+
     ghost lawful = { five_lawful };
 }
 
@@ -84,6 +192,8 @@ pub enum CoreKind {
     Three,
     Four,
     Five,
+    ThreeF,
+    FiveF,
 }
 
 impl CoreKind {
@@ -95,6 +205,8 @@ impl CoreKind {
             CoreKind::Three => shape_of::<Three>(),
             CoreKind::Four => shape_of::<Four>(),
             CoreKind::Five => shape_of::<Five>(),
+            CoreKind::ThreeF => shape_of::<ThreeF>(),
+            CoreKind::FiveF => shape_of::<FiveF>(),
         }
     }
 }
