@@ -45,11 +45,16 @@ window_in sheet InPipeline kind spawned = if spawned then (sheet.shape.stages, l
 window_in sheet Tight kind spawned =
     if spawned then (sheet.shape.stages, last_time) else ((window_of sheet kind).0, last_if_tight kind (window_of sheet kind).1)
 
+-- what it costs to keep a result for one time: as many as its bits where the sheet weighs by width; that of a write has one bit
+abbrev pub weight_by : Bool → Op → ℕ
+weight_by weighted op = if weighted then op.ty.width else 1
+
 -- an operation as a schedule sees it
 abbrev pub node_of : Sheet → Mode → Op × Bool → Node
 node_of sheet mode entry = record {
   delay = slice_index sheet.delay (place_of entry.0.kind);
   latency = latency_of sheet.shape entry.0.kind;
+  weight = weight_by sheet.weighted entry.0;
   early = (window_in sheet mode entry.0.kind entry.1).0;
   late = (window_in sheet mode entry.0.kind entry.1).1;
 }

@@ -1,5 +1,5 @@
 -- The datasheet that a text is, and why a text is none (TOML 1.1; the keys, their ranges and the order of refusals are this project's choice).
-use Rattle.std.specs.Prelude.{codes, ◌≡◌, ℕ, ◌<◌, ℤ, pos, negsuc, Bool, false, ◌&&◌, ◌||◌, nat_lt, nat_le, if◌then◌else◌, List, [], map, take, slice_index, slice_index_or, Option, Some, None, is_some, option_map, option_and_then, IsUtf8, IsSomeAnd, MatchOption, ◌⊎◌}
+use Rattle.std.specs.Prelude.{codes, ◌≡◌, ℕ, ◌<◌, ℤ, pos, negsuc, Bool, true, false, ◌&&◌, ◌||◌, nat_lt, nat_le, if◌then◌else◌, List, [], map, take, slice_index, slice_index_or, Option, Some, None, is_some, option_map, option_and_then, IsUtf8, IsSomeAnd, MatchOption, ◌⊎◌}
 use Rattle.std.specs.Char.{is_ascii_graphic}
 use Rattle.std.specs.Option.{option_or}
 use Rattle.std.specs.Ordering.{nat_cmp, is_lt}
@@ -9,7 +9,7 @@ use Rattle.toml.specs.Data.{Data, Items, no_items, item, Members, no_members, me
 use Rattle.toml.specs.Parse.{parse_document}
 use Rattle.rv_core.specs.declared.Shape.{Shape}
 use Rattle.rv_core.specs.declared.cores.CoreKind.{CoreKind}
-use Rattle.rv_core.specs.declared.cores.CoreKind.TheVariants.{Three, Four, Five}
+use Rattle.rv_core.specs.declared.cores.CoreKind.TheVariants.{Three, Four, Five, ThreeF, FiveF}
 use Rattle.rv_core.specs.Stages.{three_lawful, four_lawful, five_lawful}
 use Rattle.rv_core.specs.Kinds.{IsShapeOf}
 use Rattle.ix_graph.specs.Kinds.{kind_words, number_of}
@@ -65,10 +65,10 @@ abbrev pub natural_or_zero : Option ℤ → ℕ
 natural_or_zero None = 0
 natural_or_zero (Some z) = natural_of z
 
--- the keys at the top: `core`, `period`, and the tables `delay` and `window`
+-- the keys at the top: `core`, `period`, `lifetime`, and the tables `delay` and `window`
 abbrev pub is_top_member : List ℕ → Data → Bool
 is_top_member key value =
-    (bytes_eq key (codes "core") || bytes_eq key (codes "period"))
+    (bytes_eq key (codes "core") || bytes_eq key (codes "period") || bytes_eq key (codes "lifetime"))
     || ((bytes_eq key (codes "delay") || bytes_eq key (codes "window")) && is_some (as_table value))
 
 abbrev pub top_rule : List ℕ → Data → Option SheetErr
@@ -80,15 +80,19 @@ core_named name =
     if bytes_eq name (codes "three") then Some Three
     else if bytes_eq name (codes "four") then Some Four
     else if bytes_eq name (codes "five") then Some Five
+    else if bytes_eq name (codes "three_f") then Some ThreeF
+    else if bytes_eq name (codes "five_f") then Some FiveF
     else None
 
 abbrev pub core_of : Members → Option CoreKind
 core_of doc = option_and_then core_named (option_and_then as_str (get_member (codes "core") doc))
 
 abbrev pub shape_named : CoreKind → Shape
-shape_named Three = record { stages = 3; rd = 1; ex = 1; mem = 2; lawful = three_lawful }
-shape_named Four = record { stages = 4; rd = 1; ex = 2; mem = 3; lawful = four_lawful }
-shape_named Five = record { stages = 5; rd = 1; ex = 2; mem = 3; lawful = five_lawful }
+shape_named Three = record { stages = 3; rd = 1; ex = 1; mem = 2; forward = false; predict = false; trap = 16; lawful = three_lawful }
+shape_named Four = record { stages = 4; rd = 1; ex = 2; mem = 3; forward = false; predict = false; trap = 16; lawful = four_lawful }
+shape_named Five = record { stages = 5; rd = 1; ex = 2; mem = 3; forward = false; predict = false; trap = 16; lawful = five_lawful }
+shape_named ThreeF = record { stages = 3; rd = 1; ex = 1; mem = 2; forward = true; predict = true; trap = 16; lawful = three_lawful }
+shape_named FiveF = record { stages = 5; rd = 1; ex = 2; mem = 3; forward = true; predict = true; trap = 16; lawful = five_lawful }
 
 -- the period, 1 to 1,000,000
 abbrev pub period_of : Members → Option ℤ
@@ -96,6 +100,23 @@ period_of doc = option_and_then as_integer (get_member (codes "period") doc)
 
 abbrev pub period_refusal : Members → Option SheetErr
 period_refusal doc = if is_whole 1 1000000 (period_of doc) then None else Some (Number (codes "period"))
+
+-- whether lifetimes are weighed by width: "width" says so, "unit" or nothing that they are not
+abbrev pub lifetime_named : List ℕ → Option Bool
+lifetime_named name =
+    if bytes_eq name (codes "width") then Some true
+    else if bytes_eq name (codes "unit") then Some false
+    else None
+
+abbrev pub lifetime_given : Option Data → Option Bool
+lifetime_given None = Some false
+lifetime_given (Some value) = option_and_then lifetime_named (as_str value)
+
+abbrev pub lifetime_of : Members → Option Bool
+lifetime_of doc = lifetime_given (get_member (codes "lifetime") doc)
+
+abbrev pub lifetime_refusal : Members → Option SheetErr
+lifetime_refusal doc = if is_some (lifetime_of doc) then None else Some (Number (codes "lifetime"))
 
 -- under `delay`: a kind of operation, and a whole number from 0 to 1,000,000
 abbrev pub delay_rule : List ℕ → Data → Option SheetErr
@@ -140,11 +161,12 @@ window_of_kind natives key value (Some number) = window_refusal key (window_at n
 abbrev pub window_rule : List (ℕ × ℕ) → List ℕ → Data → Option SheetErr
 window_rule natives key value = window_of_kind natives key value (first_ten (number_of key))
 
--- the first refusal of what stands beside the core, whose native windows are given: the period, then the delays, then the windows
+-- the first refusal of what stands beside the core, whose native windows are given: the period, the lifetime, then the delays, then the windows
 abbrev pub content_refusal : List (ℕ × ℕ) → Members → Option SheetErr
 content_refusal natives doc =
     option_or (period_refusal doc)
-    (option_or (first_refusal delay_rule (section (codes "delay") doc)) (first_refusal (window_rule natives) (section (codes "window") doc)))
+    (option_or (lifetime_refusal doc)
+    (option_or (first_refusal delay_rule (section (codes "delay") doc)) (first_refusal (window_rule natives) (section (codes "window") doc))))
 
 abbrev pub refusal_with : Members → Option CoreKind → Option SheetErr
 refusal_with doc None = Some Core
@@ -169,6 +191,7 @@ window_in doc native word = window_or native (option_and_then window_given (get_
 -- the sheet has what the document gives beside the core
 pub record HasContent (doc : Members) (sheet : Sheet) : Type 0 where
   pub period : period_of doc ≡ Some (pos sheet.period)
+  pub weighted : lifetime_of doc ≡ Some sheet.weighted
   pub delay : (k : ℕ) → k < 34 → slice_index sheet.delay k ≡ delay_in doc (slice_index_or kind_words k [])
   pub window : (k : ℕ) → k < 10 → window_at sheet.window k ≡ window_in doc (window_at (native_windows_of sheet.shape) k) (slice_index_or kind_words k [])
 

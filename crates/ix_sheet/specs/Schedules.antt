@@ -6,18 +6,23 @@ use Rattle.ix_sheet.specs.declared.problem.Problem.{Problem}
 
 -- the operation of a number
 abbrev pub node_at : Problem → ℕ → Node
-node_at p k = slice_index_or p.ops k (record { delay = 0; latency = 0; early = 0; late = 0 })
+node_at p k = slice_index_or p.ops k (record { delay = 0; latency = 0; weight = 1; early = 0; late = 0 })
 
 -- what it costs to keep an operation's result for one time
 abbrev pub weight_of : Node → ℕ
-weight_of node = 1
+weight_of node = node.weight
 
 -- an edge goes from an operation to a later one
 abbrev pub IsForward : Problem → ℕ × ℕ → Type 0
 IsForward p e = (e.0 < e.1) × (e.1 < length p.ops)
 
+-- a weight is the width of a value
+abbrev pub IsWeighed : Node → Type 0
+IsWeighed node = (1 ≤ node.weight) × (node.weight ≤ 128)
+
 pub record IsValidProblem (p : Problem) : Type 0 where
   pub few : length p.ops ≤ 65536
+  pub weights : All IsWeighed p.ops
   pub forward : All (IsForward p) p.edges
   pub once : AllPairs (λ e f. e ≢ f) p.edges
 

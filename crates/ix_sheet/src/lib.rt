@@ -12,4 +12,4 @@ pub use laws::{bounds_law, chosen_law, cycle_law, flow_law, minimum_law, problem
 pub use problem::{Arc, Bound, Node, Problem, arc_of_bound};
 pub use read::read_sheet;
 pub use sheet::{Sheet, SheetErr, native_windows};
-pub use window::{latency, mode_window};
+pub use window::{latency, mode_window, weight};

@@ -11,6 +11,8 @@ pub struct Node {
     pub delay: u32,
     /// In times: how long after its own time the result is there.
     pub latency: u8,
+    /// What it costs to keep the result for one time: 1 to 128, the result's width in bits, or 1.
+    pub weight: u8,
     /// The first time that it may have.
     pub early: u8,
     /// The last time that it may have. The window is empty where this is before the first.

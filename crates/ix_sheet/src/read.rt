@@ -2,7 +2,7 @@ ghost use Rattle.std.specs.Prelude.{codes, ◌≡◌, ◌≢◌, ℕ, ◌<◌, �
 ghost use Rattle.toml.specs.Data.{as_table, get_member};
 ghost use Rattle.toml.specs.View.{view, table_view};
 ghost use Rattle.ix_graph.specs.Kinds.{kind_words};
-ghost use Rattle.ix_sheet.specs.Datasheets.{section, core_named, core_of, period_of, period_refusal, delay_rule, window_rule, window_given, first_refusal, content_refusal, document_refusal, delay_in, window_in, HasContent, HasFields, IsSheetOf, IsRefusalOf};
+ghost use Rattle.ix_sheet.specs.Datasheets.{section, core_named, core_of, period_of, period_refusal, lifetime_named, lifetime_of, lifetime_refusal, delay_rule, window_rule, window_given, first_refusal, content_refusal, document_refusal, delay_in, window_in, HasContent, HasFields, IsSheetOf, IsRefusalOf};
 ghost use Rattle.ix_sheet.specs.Reading.{rule_of};
 ghost use Rattle.ix_sheet.specs.Sheets.{native_windows_of, window_at, IsInside, IsValidSheet};
 
@@ -13,9 +13,9 @@ use rv_core::{CoreKind, Shape};
 use std::alloc::Global;
 use toml::{Table, Value};
 
-/// The datasheet that a text is: TOML 1.1 with the keys `core`, `period`, `delay` and `window`.
+/// The datasheet that a text is: TOML 1.1 with the keys `core`, `period`, `lifetime`, `delay` and `window`.
 /// A text that is none is refused for the first of these reasons: it is no UTF-8, no TOML, has a key at the top that it
-/// should not have, no core, no period, a bad delay, a bad window; within a table the keys go by their bytes.
+/// should not have, no core, no period, a bad lifetime, a bad delay, a bad window; within a table the keys go by their bytes.
 pub fn read_sheet(alloc: Global, bytes: &[u8]) -> Result<Sheet, SheetErr>
     ensures ok { IfOk result (IsSheetOf bytes.now) }
     ensures valid { IfOk result IsValidSheet }
@@ -55,11 +55,13 @@ fn read_content(alloc: Global, doc: &Table, shape: Shape) -> Result<Sheet, Sheet
     ensures err { IfErr result (λ e. e ≢ SheetErr.Memory → content_refusal (native_windows_of shape) (table_view doc.now) ≡ Some e) }
 {
     let period = read_period(alloc, doc)?;
+    let weighted = read_lifetime(alloc, doc)?;
     judge_section(alloc, Part::Delay, doc, "delay")?;
     judge_section(alloc, Part::Window(shape), doc, "window")?;
     Ok(Sheet {
         shape,
         period,
+        weighted,
         delay: read_delays(doc),
         window: read_windows(doc, shape),
     })
@@ -102,6 +104,8 @@ fn core_by_name(name: &str) -> Option<CoreKind>
         "three" => Some(CoreKind::Three),
         "four" => Some(CoreKind::Four),
         "five" => Some(CoreKind::Five),
+        "three_f" => Some(CoreKind::ThreeF),
+        "five_f" => Some(CoreKind::FiveF),
         _ => None,
     }
 }
@@ -122,6 +126,43 @@ fn read_period(alloc: Global, doc: &Table) -> Result<u32, SheetErr>
         Some(period) => Ok(period),
         None => Err(SheetErr::Number {
             name: shown_name(alloc, "period")?,
+        }),
+    }
+}
+
+// Whether the word is one for lifetimes that are weighed by width.
+fn weighs_by_width(word: &str) -> Option<bool>
+    ensures { result ≡ lifetime_named word.now }
+{
+    match word {
+        "width" => Some(true),
+        "unit" => Some(false),
+        _ => None,
+    }
+}
+
+// Whether a document weighs lifetimes by width: not where it says nothing of them.
+fn lifetime_in(doc: &Table) -> Option<bool>
+    ensures { result ≡ lifetime_of (table_view doc.now) }
+{
+    match value_at(doc, "lifetime") {
+        Some(value) => match value.as_str() {
+            Some(word) => weighs_by_width(word),
+            None => None,
+        },
+        None => Some(false),
+    }
+}
+
+fn read_lifetime(alloc: Global, doc: &Table) -> Result<bool, SheetErr>
+    ensures ok { OnOk result (lifetime_refusal (table_view doc.now) ≡ None) }
+    ensures value { IfOk result (λ weighted. lifetime_of (table_view doc.now) ≡ Some weighted) }
+    ensures err { IfErr result (λ e. e ≢ SheetErr.Memory → lifetime_refusal (table_view doc.now) ≡ Some e) }
+{
+    match lifetime_in(doc) {
+        Some(weighted) => Ok(weighted),
+        None => Err(SheetErr::Number {
+            name: shown_name(alloc, "lifetime")?,
         }),
     }
 }

@@ -44,7 +44,7 @@ fn belongs_at_top(key: &str, value: &Value) -> bool
     ensures { result ≡ is_top_member key.now (view value.now) }
 {
     match key {
-        "core" | "period" => true,
+        "core" | "period" | "lifetime" => true,
         "delay" | "window" => value.is_table(),
         _ => false,
     }

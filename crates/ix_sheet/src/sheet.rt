@@ -11,6 +11,8 @@ pub struct Sheet {
     pub shape: Shape,
     /// The longest delay within one time, 1 to 1,000,000.
     pub period: u32,
+    /// Whether a lifetime costs as many as the result has bits, or one.
+    pub weighted: bool,
     /// The delay of each kind of operation, 0 to 1,000,000, in the order of the kinds.
     pub delay: [u32; 34],
     /// The first and the last time of each of the ten first kinds, in their order.
@@ -32,7 +34,7 @@ pub enum SheetErr {
     Core,
     /// A window that is empty, or not inside the native one.
     Window { op: Name },
-    /// A number that is missing, of another type, or outside its range.
+    /// A number that is missing, of another type, or outside its range, or a lifetime that is none.
     Number { name: Name },
     /// Memory was not found.
     Memory,

@@ -1,8 +1,8 @@
 ghost use Rattle.std.specs.Prelude.{◌≡◌};
-ghost use Rattle.ix_sheet.specs.Behaviours.{latency_of, window_of, last_if_tight, window_in};
+ghost use Rattle.ix_sheet.specs.Behaviours.{latency_of, weight_by, window_of, last_if_tight, window_in};
 
 use crate::sheet::Sheet;
-use ix_graph::{Kind, Mode, kind_place};
+use ix_graph::{Kind, Mode, Op, kind_place};
 use rv_core::Shape;
 
 /// The last time that there is.
@@ -16,6 +16,14 @@ pub fn latency(shape: Shape, kind: &Kind) -> u8
         Kind::RdMem => shape.mem - shape.ex,
         _ => 0,
     }
+}
+
+/// What it costs to keep an operation's result for one time, 1 to 128: by a sheet that weighs by width as many as the result
+/// has bits, where that of a write has one; else 1.
+pub fn weight(sheet: &Sheet, op: &Op) -> u8
+    ensures { result ≡ weight_by sheet.now.weighted op.now }
+{
+    if sheet.weighted { op.ty.width } else { 1 }
 }
 
 /// The first and the last time that an operation may have in a mode; the window is empty where the last is before the first.
