@@ -12,6 +12,14 @@ impl Core for Late {
 
     const MEM: u8 = 4;
 
+    const FORWARD: bool = true;
+
+    type Next = Plain;
+
+    const TRAP: u32 = 64;
+
+    ghost use Rattle.std.specs.Prelude.{true};
+
     ghost use Rattle.rv_core.specs.Stages.{late_lawful};
 
     ghost STAGES = { 5 };
@@ -21,6 +29,10 @@ impl Core for Late {
     ghost EX = { 3 };
 
     ghost MEM = { 4 };
+
+    ghost FORWARD = { true };
+
+    ghost TRAP = { 64 };
 
     ghost lawful = { late_lawful };
 }

@@ -19,7 +19,7 @@ pub record Hand : Type 0 where
 
 -- the numbers of that core
 abbrev pub three : Shape
-three = record { stages = 3; rd = 1; ex = 1; mem = 2; lawful = three_lawful }
+three = record { stages = 3; rd = 1; ex = 1; mem = 2; forward = false; predict = false; trap = 16; lawful = three_lawful }
 
 -- what its rows are judged against, over a memory that never waits
 abbrev pub by_hand : Hand → Setting

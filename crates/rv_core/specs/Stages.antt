@@ -25,5 +25,5 @@ pub five_lawful : IsLawful 5 1 2 3 16
 five_lawful = record { reads_late = lit< tt; reads_first = lit≤ tt; reads_near = lit≤ tt; memory_late = lit< tt; memory_inside = lit≤ tt; least = lit≤ tt; most = lit≤ tt; trap_word = refl }
 
 -- so are those of a core that reads operands one stage later
-pub late_lawful : IsLawful 5 2 3 4 16
+pub late_lawful : IsLawful 5 2 3 4 64
 late_lawful = record { reads_late = lit< tt; reads_first = lit≤ tt; reads_near = lit≤ tt; memory_late = lit< tt; memory_inside = lit≤ tt; least = lit≤ tt; most = lit≤ tt; trap_word = refl }

@@ -1,4 +1,4 @@
-ghost use Rattle.std.specs.Prelude.{◌≡◌, IfOk};
+ghost use Rattle.std.specs.Prelude.{◌≡◌, false, IfOk};
 ghost use Rattle.ix_extension.specs.Extensions.{view_extension};
 ghost use Rattle.ix_sheet.specs.Sheets.{IsValidSheet};
 ghost use Rattle.rv_core.specs.Kinds.{HasNumbers};
@@ -15,12 +15,13 @@ use std::alloc::Global;
 // A datasheet of the core of three stages, whose operations take no time.
 fn plain_sheet() -> Sheet
     ensures valid { IsValidSheet result }
-    ensures shape { HasNumbers result.shape 3 1 1 2 }
+    ensures shape { HasNumbers result.shape 3 1 1 2 false }
 {
     let shape = CoreKind::Three.shape();
     Sheet {
         shape,
         period: 1,
+        weighted: false,
         delay: [0; 34],
         window: native_windows(shape),
     }
