@@ -4,7 +4,7 @@ use Rattle.std.specs.Prelude.{All, Result, OnOk}
 use Rattle.ix_cert.specs.declared.report.CertErr.{CertErr}
 use Rattle.ix_cert.specs.declared.report.CertErr.TheVariants.{Line, Dep, Window, Chain, Balance, Value, NotPositive, NotClosed, Memory}
 use Rattle.ix_cert.specs.declared.report.Report.{Report}
-use Rattle.ix_cert.specs.Layout.{lines_of, first_line, IsReportText, IsBadLine}
+use Rattle.ix_cert.specs.Layout.{is_weighted, lines_of, first_line, IsReportText, IsBadLine}
 use Rattle.ix_cert.specs.Faults.{IsFirstFault, HasNoFault, steps_of}
 use Rattle.ix_cert.specs.Checks.{Judges, lines_in, IsReadyIn}
 use Rattle.ix_cert.specs.Certificates.{IsCertifiedText, IsFaultless, IsFaulty, IsRefused, Accepts, Refuses}
@@ -45,13 +45,13 @@ module _ (bytes : List ℕ) (r : Report) (first : ℕ) (text : IsReportText byte
   room = subst (λ n. n + 2 + lines_in r.blocks < 4294967296) (sym at) (room_for_lines bytes r text small)
 
   pub ready : All (λ b. IsReadyIn b b.mode) r.blocks
-  ready = all_ready r.period r.blocks text.in_form.blocks (omega (arith, room))
+  ready = all_ready (is_weighted r.version) r.period r.blocks text.in_form.blocks (omega (arith, room))
 
   pub certified : (res : Result (Unit {0}) CertErr) → Judges (steps_of r first) res → OnOk res (IsCertifiedText bytes)
   certified (Ok done) none = record {
     report = r;
     text = text;
-    certified = all_certified r.blocks (first + 2) ready (all_positive r.period r.blocks text.in_form.blocks) none;
+    certified = all_certified r.blocks (first + 2) ready (all_positive (is_weighted r.version) r.period r.blocks text.in_form.blocks) none;
   }
   certified (Err e) fault = tt
 

@@ -4,6 +4,7 @@ use Rattle.std.specs.Prelude.{Option, sum_by}
 use Rattle.std.proofs.lemmas.List.Sums.{sum_by-cons, sum_by-append}
 use Rattle.ix_sheet.specs.declared.problem.Bound.{Bound}
 use Rattle.ix_sheet.specs.declared.problem.Problem.{Problem}
+use Rattle.ix_sheet.specs.Schedules.{node_at, weight_of}
 use Rattle.ix_sheet.specs.Bounds.{arc_of, Flow, amount_at, inflow, outflow, weight_in, weight_out}
 use Rattle.ix_cert.specs.declared.report.ReportBlock.{ReportBlock}
 use Rattle.ix_cert.specs.Faults.{IsUnbalanced}
@@ -19,7 +20,7 @@ at_place k x = if x.0 == k then x.1 else 0
 in_at : (p : Problem) (flow : Flow) (k : ℕ) → amount_at (λ x. x.0) (λ x. x.1) (parts_in p flow) k ≡ inflow p flow k + weight_out p k
 in_at p flow k =
     let into : Bound × ℕ → ℕ × ℕ = λ c. ((arc_of p c.0).to, c.1) in
-    let out : ℕ × ℕ → ℕ × ℕ = λ e. (e.0, 1) in
+    let out : ℕ × ℕ → ℕ × ℕ = λ e. (e.0, weight_of (node_at p e.0)) in
     sum_by-append (at_place k) (map into flow) (map out p.edges)
     ∙ ap (λ (n : ℕ). n + sum_by (at_place k) (map out p.edges)) (sum_mapped (at_place k) into flow)
     ∙ ap (λ (n : ℕ). inflow p flow k + n) (sum_mapped (at_place k) out p.edges)
@@ -27,7 +28,7 @@ in_at p flow k =
 out_at : (p : Problem) (flow : Flow) (k : ℕ) → amount_at (λ x. x.0) (λ x. x.1) (parts_out p flow) k ≡ outflow p flow k + weight_in p k
 out_at p flow k =
     let from : Bound × ℕ → ℕ × ℕ = λ c. ((arc_of p c.0).from, c.1) in
-    let into : ℕ × ℕ → ℕ × ℕ = λ e. (e.1, 1) in
+    let into : ℕ × ℕ → ℕ × ℕ = λ e. (e.1, weight_of (node_at p e.0)) in
     sum_by-append (at_place k) (map from flow) (map into p.edges)
     ∙ ap (λ (n : ℕ). n + sum_by (at_place k) (map into p.edges)) (sum_mapped (at_place k) from flow)
     ∙ ap (λ (n : ℕ). outflow p flow k + n) (sum_mapped (at_place k) into p.edges)

@@ -1,5 +1,5 @@
 -- No two items have the same words: what they say is read back.
-use Rattle.std.proofs.Common.{◌≡◌, ℕ, zero, suc, ◌<◌, ◌≤◌, ◌^◌, ◌==◌, List, [], ◌∷◌, refl, sym, ap, ◌∙◌, arith, lit<, Option, Some, None}
+use Rattle.std.proofs.Common.{◌≡◌, ℕ, zero, suc, ◌+◌, ◌<◌, ◌≤◌, ◌^◌, ◌==◌, List, [], ◌∷◌, refl, sym, ap, ◌∙◌, arith, lit<, Option, Some, None, Bool, true, false}
 use Rattle.std.specs.Prelude.{map, All, decimal, if◌then◌else◌}
 use Rattle.std.specs.List.{slice_split}
 use Rattle.std.specs.Str.Parse.{digits_value}
@@ -9,6 +9,7 @@ use Rattle.ix_graph.specs.declared.graph.Mode.{Mode}
 use Rattle.ix_graph.specs.declared.graph.Mode.TheVariants.{InPipeline, Tight, Decoupled, Always}
 use Rattle.ix_sheet.specs.declared.problem.Bound.{Bound}
 use Rattle.ix_sheet.specs.declared.problem.Bound.TheVariants.{Early, Late, Dep, Chain}
+use Rattle.ix_sheet.specs.declared.problem.Node.{Node}
 use Rattle.ix_cert.specs.declared.item.Item.{Item}
 use Rattle.ix_cert.specs.declared.item.Item.TheVariants.{Title, Period, Behaviour, Op, Edge, Cost, Flow, Cycle, End}
 use Rattle.ix_cert.specs.declared.item.Operation.{Operation}
@@ -86,25 +87,37 @@ time_back : (time : Option ℕ) → IsTime time → time_in (time_words time) �
 time_back None h = refl
 time_back (Some time) h = ap (λ n. Some n) (value_time time h)
 
-abbrev behind_nine : List Line → List Line
-behind_nine (a ∷ b ∷ c ∷ d ∷ e ∷ f ∷ g ∷ h ∷ i ∷ j ∷ rest) = rest
-behind_nine ws = []
+abbrev behind_ten : List Line → List Line
+behind_ten (a ∷ b ∷ c ∷ d ∷ e ∷ f ∷ g ∷ h ∷ i ∷ j ∷ rest) = rest
+behind_ten ws = []
+
+-- the window and the time from word n on, with a weight
+abbrev op_from : Bool → ℕ → ℕ → List Line → Operation
+op_from weighted weight n ws =
+    operation weighted (value (nth 0 ws)) (nth 1 ws) (record { delay = value (nth 3 ws); latency = value (nth 5 ws); weight = weight; early = value (nth n ws); late = value (nth (n + 2) ws) }) (time_in (if weighted then rest_of (rest_of (behind_ten ws)) else behind_ten ws))
 
 abbrev op_in : List Line → Operation
-op_in ws = operation (value (nth 0 ws)) (nth 1 ws) (record { delay = value (nth 3 ws); latency = value (nth 5 ws); early = value (nth 7 ws); late = value (nth 9 ws) }) (time_in (behind_nine ws))
+op_in ws = if first (nth 6 ws) == 119 then op_from true (value (nth 7 ws)) 9 ws else op_from false 1 7 ws
 
-same_op : (p p2 : ℕ) (kind : Line) (d d2 l l2 e e2 f f2 : ℕ) (t t2 : Option ℕ) → p ≡ p2 → d ≡ d2 → l ≡ l2 → e ≡ e2 → f ≡ f2 → t ≡ t2
-    → operation p kind (record { delay = d; latency = l; early = e; late = f }) t ≡ operation p2 kind (record { delay = d2; latency = l2; early = e2; late = f2 }) t2
-same_op p p2 kind d d2 l l2 e e2 f f2 t t2 a b c g h i = rw (a, b, c, g, h, i) refl
+same_op : (weighted : Bool) (p p2 : ℕ) (kind : Line) (d d2 l l2 w w2 e e2 f f2 : ℕ) (t t2 : Option ℕ) → p ≡ p2 → d ≡ d2 → l ≡ l2 → w ≡ w2 → e ≡ e2 → f ≡ f2 → t ≡ t2
+    → operation weighted p kind (record { delay = d; latency = l; weight = w; early = e; late = f }) t ≡ operation weighted p2 kind (record { delay = d2; latency = l2; weight = w2; early = e2; late = f2 }) t2
+same_op weighted p p2 kind d d2 l l2 w w2 e e2 f f2 t t2 a b c k g h i = rw (a, b, c, k, g, h, i) refl
+
+parts_back : (weighted : Bool) (place : ℕ) (kind : Line) (node : Node) (time : Option ℕ) → IsOperation (operation weighted place kind node time)
+    → op_in (op_words (operation weighted place kind node time)) ≡ operation weighted place kind node time
+parts_back false place kind node time w =
+    same_op false _ place kind _ node.delay _ node.latency _ node.weight _ node.early _ node.late _ time
+    (value_decimal place 65535 w.place (lit< tt)) (value_million node.delay w.node.delay) (value_time node.latency w.node.latency) (sym w.weight) (value_time node.early w.node.early) (value_time node.late w.node.late) (time_back time w.time)
+parts_back true place kind node time w =
+    same_op true _ place kind _ node.delay _ node.latency _ node.weight _ node.early _ node.late _ time
+    (value_decimal place 65535 w.place (lit< tt)) (value_million node.delay w.node.delay) (value_time node.latency w.node.latency) (value_decimal node.weight 128 w.weight.1 (lit< tt)) (value_time node.early w.node.early) (value_time node.late w.node.late) (time_back time w.time)
 
 op_back : (op : Operation) → IsOperation op → op_in (op_words op) ≡ op
-op_back op w =
-    same_op _ op.place op.kind _ op.node.delay _ op.node.latency _ op.node.early _ op.node.late _ op.time
-    (value_decimal op.place 65535 w.place (lit< tt)) (value_million op.node.delay w.node.delay) (value_time op.node.latency w.node.latency) (value_time op.node.early w.node.early) (value_time op.node.late w.node.late) (time_back op.time w.time)
+op_back op w = parts_back op.weighted op.place op.kind op.node op.time w
 
 abbrev item_in : List Line → Item
 item_in ws =
-    if first (nth 0 ws) == 108 then Title else
+    if first (nth 0 ws) == 108 then Title (value (nth 2 ws)) else
     if first (nth 0 ws) == 112 then Period (value (nth 1 ws)) else
     if first (nth 0 ws) == 98 then Behaviour (nth 1 ws) (mode_in (nth 2 ws)) else
     if first (nth 0 ws) == 111 then Op (op_in (rest_of ws)) else
@@ -114,7 +127,7 @@ item_in ws =
     if second (nth 0 ws) == 121 then Cycle (bound_in (rest_of ws)) else End
 
 item_back : (x : Item) → IsItem x → item_in (item_words x) ≡ x
-item_back Title w = refl
+item_back (Title version) w = ap (λ n. Title n) (value_decimal version 2 w.1 (lit< tt))
 item_back (Period period) w = ap (λ n. Period n) (value_million period w.1)
 item_back (Behaviour name mode) w = ap (λ m. Behaviour name m) (mode_back mode)
 item_back (Op op) w = ap (λ o. Op o) (op_back op w)

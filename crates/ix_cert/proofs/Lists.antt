@@ -1,8 +1,8 @@
 -- Fronts of lists, and parts of lines put one behind the other.
-use Rattle.std.proofs.Common.{◌≡◌, ℕ, zero, suc, ◌<◌, ◌≤◌, List, [], ◌∷◌, ◌++◌, length, take, get_or, refl, ap, arith}
+use Rattle.std.proofs.Common.{◌≡◌, ℕ, zero, suc, ◌<◌, ◌≤◌, List, [], ◌∷◌, ◌++◌, length, take, get_or, refl, ap, arith, Bool}
 use Rattle.std.specs.Prelude.{codes}
 use Rattle.ix_sheet.specs.declared.problem.Node.{Node}
-use Rattle.ix_cert.specs.Layout.{Line, field}
+use Rattle.ix_cert.specs.Layout.{Line, field, width_text}
 
 pub take_next : {X : Type 0} (xs : List X) (k : ℕ) (d : X) → k < length xs → take (suc k) xs ≡ take k xs ++ get_or xs k d ∷ []
 take_next [] k d l = absurd (omega (arith, l))
@@ -21,5 +21,5 @@ run_on o [] = o
 run_on o (p ∷ ps) = run_on (o ++ p) ps
 
 -- what stands behind ` delay` in an operation's line
-abbrev pub node_parts : Node → List Line → List Line
-node_parts node rest = field node.delay ∷ codes " latency" ∷ field node.latency ∷ codes " early" ∷ field node.early ∷ codes " late" ∷ field node.late ∷ rest
+abbrev pub node_parts : Bool → Node → List Line → List Line
+node_parts weighted node rest = field node.delay ∷ codes " latency" ∷ field node.latency ∷ width_text weighted node.weight ∷ codes " early" ∷ field node.early ∷ codes " late" ∷ field node.late ∷ rest

@@ -38,12 +38,12 @@ pub no_zero : (t : Bool) (n : ℕ) → t ≡ (n == 0) → t ≡ false → n ≢ 
 no_zero t n e h = eqb-false n 0 (sym e ∙ h)
 
 next_of : (found : Option Reading) (r : Reading) (x : Item) (line : Line) → IsItem x → item_line x ≡ line → ((y : Item) → IsItem y → item_line y ≡ line → y ≡ x)
-    → MatchOption found (MayFollow r.place x → ⊥) (λ more. MayFollow r.place x × (more ≡ after r x)) → MatchOption found (NoNext r line) (λ more. IsNext r line more)
-next_of None r x line w e u h = λ y v f m. h (subst (λ z. MayFollow r.place z) (u y v f) m)
+    → MatchOption found (MayFollow r.version r.place x → ⊥) (λ more. MayFollow r.version r.place x × (more ≡ after r x)) → MatchOption found (NoNext r line) (λ more. IsNext r line more)
+next_of None r x line w e u h = λ y v f m. h (subst (λ z. MayFollow r.version r.place z) (u y v f) m)
 next_of (Some more) r x line w e u h = record { item = x; good = w; is = e; may = h.0; more_is = h.1 }
 
 pub next_ok : {E : Type 0} (result : Result (Option Reading) E) (r : Reading) (x : Item) (line : Line) → IsItem x → item_line x ≡ line → ((y : Item) → IsItem y → item_line y ≡ line → y ≡ x)
-    → IfOk result (λ found. MatchOption found (MayFollow r.place x → ⊥) (λ more. MayFollow r.place x × (more ≡ after r x))) → IfOk result (λ found. MatchOption found (NoNext r line) (λ more. IsNext r line more))
+    → IfOk result (λ found. MatchOption found (MayFollow r.version r.place x → ⊥) (λ more. MayFollow r.version r.place x × (more ≡ after r x))) → IfOk result (λ found. MatchOption found (NoNext r line) (λ more. IsNext r line more))
 next_ok (Ok found) r x line w e u h = next_of found r x line w e u h
 next_ok (Err e2) r x line w e u h = tt
 
@@ -90,7 +90,7 @@ bad_end lines i first n r e l h other =
         place = omega (arith, count);
         front = subst BeginReport (sym (take_whole (texts lines) (length lines) (omega (arith, count)))) (reached_begins (texts lines) r here);
         next = λ short. absurd (omega (arith, short, count));
-        end = λ _ report f are. other (at_place r (reading report.period report.blocks place.Between) (whole_between (texts lines) r report here f are));
+        end = λ _ report f are. other (at_place r (reading report.version report.period report.blocks place.Between) (whole_between (texts lines) r report here f are));
       };
     }
 
@@ -105,8 +105,8 @@ count_bytes : (ls : List Line) → length ls ≤ bytes_in ls
 count_bytes [] = omega arith
 count_bytes (l ∷ ls) = let ih = count_bytes ls in omega (arith, ih)
 
-title_first : (x : Item) → MayFollow place.Title x → length (item_line x) ≡ 17
-title_first Title m = refl
+title_first : (x : Item) → MayFollow 0 place.Title x → 16 ≤ length (item_line x)
+title_first (Title version) m = omega arith
 title_first (Period p) m = absurd m
 title_first (Behaviour name mode) m = absurd m
 title_first (Op op) m = absurd m
@@ -116,15 +116,15 @@ title_first (Flow amount bound) m = absurd m
 title_first (Cycle bound) m = absurd m
 title_first End m = absurd m
 
-first_long : (xs : List Item) (line : Line) (rest : List Line) → AllFollow start xs → map item_line xs ≡ line ∷ rest → length line ≡ 17
+first_long : (xs : List Item) (line : Line) (rest : List Line) → AllFollow start xs → map item_line xs ≡ line ∷ rest → 16 ≤ length line
 first_long [] line rest m e = absurd cc
-first_long (x ∷ xs) line rest m e = let a : item_line x ≡ line = cc in ap length (sym a) ∙ title_first x m.0
+first_long (x ∷ xs) line rest m e = let a : item_line x ≡ line = cc in subst (λ l. 16 ≤ length l) a (title_first x m.0)
 
 pub place_fits : (lines : List Line) (i : ℕ) (r : Reading) → Reached (take i lines) r → i ≤ length lines → bytes_in lines ≤ 2 ^ 32 → i + 2 < 2 ^ 32
 place_fits lines zero r h l b = lit< tt
 place_fits [] (suc i) r h l b = absurd (omega (arith, l))
 place_fits (line ∷ lines) (suc i) r h l b =
-    let long : length line ≡ 17 = first_long h.items line (take i lines) h.follow h.are in
+    let long : 16 ≤ length line = first_long h.items line (take i lines) h.follow h.are in
     let few = count_bytes lines in
     omega (arith, long, few, l, b)
 
@@ -194,7 +194,7 @@ last_kept (v ∷ u ∷ lines) (suc n) d l e = ap (λ t. v.now ∷ t) (last_kept 
 one_report : (a b : Report) → IsInForm a → IsInForm b → report_lines a ≡ report_lines b → a ≡ b
 one_report a b f g e =
     let items : report_items a ≡ report_items b = lines_one (report_items a) (report_items b) (report_each a f) (report_each b g) (sym (report_are a) ∙ e ∙ report_are b) in
-    let same : reading a.period a.blocks place.Between ≡ reading b.period b.blocks place.Between = sym (report_leads a f).comes ∙ ap (λ l. run start l) items ∙ (report_leads b g).comes in
+    let same : reading a.version a.period a.blocks place.Between ≡ reading b.version b.period b.blocks place.Between = sym (report_leads a f).comes ∙ ap (λ l. run start l) items ∙ (report_leads b g).comes in
     ap report_of same
 
 pub same_report : (bytes : List ℕ) (lines : List Line) (a b : Report) → lines ≡ behind_refusal (lines_of bytes) → IsInForm a → report_lines a ≡ lines → IsReportText bytes b → a ≡ b

@@ -1,5 +1,5 @@
 -- Words without spaces, and lines of them.
-use Rattle.std.proofs.Common.{◌≡◌, ◌≢◌, ℕ, ◌+◌, ◌%◌, ◌<◌, ◌≤◌, ◌^◌, ◌==◌, inl, inr, List, [], ◌∷◌, ◌++◌, get_or, refl, sym, ap, ◌∙◌, subst, arith, lit<, Option, Some, None, true, false}
+use Rattle.std.proofs.Common.{◌≡◌, ◌≢◌, ℕ, ◌+◌, ◌%◌, ◌<◌, ◌≤◌, ◌^◌, ◌==◌, inl, inr, List, [], ◌∷◌, ◌++◌, get_or, refl, sym, ap, ◌∙◌, subst, arith, lit<, Option, Some, None, Bool, true, false}
 use Rattle.std.specs.Prelude.{map, All, codes, decimal, nat_lt, Result, Ok, Err, IfOk}
 use Rattle.std.specs.List.{list_all, slice_split, join_with_byte}
 use Rattle.std.proofs.lemmas.Bool.{and_parts, agree_below, agree_below_at}
@@ -15,8 +15,8 @@ use Rattle.ix_sheet.specs.declared.problem.Bound.TheVariants.{Early, Late, Dep, 
 use Rattle.ix_cert.specs.declared.item.Item.{Item}
 use Rattle.ix_cert.specs.declared.item.Item.TheVariants.{Title, Period, Behaviour, Op, Edge, Cost, Flow, Cycle, End}
 use Rattle.ix_cert.specs.declared.item.Operation.{Operation}
-use Rattle.ix_cert.specs.Layout.{Line, mode_text, IsName, IsKindName, is_letter, is_name_byte}
-use Rattle.ix_cert.specs.Items.{IsReading, IsItem, IsOperation, IsBound, IsWide, IsTime, item_words, item_line, bound_words, time_words, op_words}
+use Rattle.ix_cert.specs.Layout.{Line, mode_text, IsWeight, IsName, IsKindName, is_letter, is_name_byte}
+use Rattle.ix_cert.specs.Items.{IsReading, IsItem, IsOperation, IsBound, IsWide, IsTime, item_words, item_line, bound_words, time_words, width_words, op_words}
 use Rattle.ix_cert.proofs.KindNames.{kind_form, reads, writes}
 
 -- each byte is one that is shown, none a space
@@ -108,12 +108,34 @@ shown_time : (time : Option ℕ) → IsTime time → AllShown (time_words time)
 shown_time None h = tt
 shown_time (Some time) h = (label (codes "time") refl, (time_number time h, tt))
 
+shown_width : (weighted : Bool) (weight : ℕ) (rest : List Line) → IsWeight weighted weight → AllShown rest → AllShown (width_words weighted weight rest)
+shown_width false weight rest w r = r
+shown_width true weight rest w r = (label (codes "width") refl, (shown_decimal weight (small_wide weight 128 w.1 (lit< tt)), r))
+
 shown_op : (op : Operation) → IsOperation op → AllShown (op_words op)
-shown_op op w =
-    (shown_decimal op.place (small_wide op.place 65535 w.place (lit< tt)), (shown_kind op.kind w.kind, (label (codes "delay") refl, (million_number op.node.delay w.node.delay, (label (codes "latency") refl, (time_number op.node.latency w.node.latency, (label (codes "early") refl, (time_number op.node.early w.node.early, (label (codes "late") refl, (time_number op.node.late w.node.late, shown_time op.time w.time))))))))))
+shown_op op w = (
+  shown_decimal op.place (small_wide op.place 65535 w.place (lit< tt)),
+  (
+    shown_kind op.kind w.kind,
+    (
+      label (codes "delay") refl,
+      (
+        million_number op.node.delay w.node.delay,
+        (
+          label (codes "latency") refl,
+          (
+            time_number op.node.latency w.node.latency,
+            shown_width op.weighted op.node.weight _ w.weight
+                (label (codes "early") refl, (time_number op.node.early w.node.early, (label (codes "late") refl, (time_number op.node.late w.node.late, shown_time op.time w.time)))),
+          ),
+        ),
+      ),
+    ),
+  ),
+)
 
 pub shown_item : (x : Item) → IsItem x → AllShown (item_words x)
-shown_item Title w = (label (codes "longnail") refl, (label (codes "report") refl, (label (codes "1") refl, tt)))
+shown_item (Title version) w = (label (codes "longnail") refl, (label (codes "report") refl, (shown_decimal version (small_wide version 2 w.1 (lit< tt)), tt)))
 shown_item (Period period) w = (label (codes "period") refl, (million_number period w.1, tt))
 shown_item (Behaviour name mode) w = (label (codes "behaviour") refl, (shown_name name w, (shown_mode mode, tt)))
 shown_item (Op op) w = (label (codes "op") refl, shown_op op w)
@@ -140,7 +162,7 @@ cut_words [] n s = absurd (n refl)
 cut_words (w ∷ ws) n s = cut_joined w ws s
 
 some_words : (x : Item) → item_words x ≢ []
-some_words Title = λ e. grind (arith, e)
+some_words (Title version) = λ e. grind (arith, e)
 some_words (Period period) = λ e. grind (arith, e)
 some_words (Behaviour name mode) = λ e. grind (arith, e)
 some_words (Op op) = λ e. grind (arith, e)

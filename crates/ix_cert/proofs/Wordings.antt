@@ -19,7 +19,7 @@ no_dep ws h (Dep i j) w e = let t : decimal i ∷ decimal j ∷ [] ≡ ws = cc i
 no_dep ws h (Chain path) w e = grind (arith, e)
 
 pub no_edge : (ws : List Line) → ((x : ℕ × ℕ) → AreWide x → pair_words x ≡ ws → ⊥) → (x : Item) → IsItem x → item_words x ≡ codes "edge" ∷ ws → ⊥
-no_edge ws h Title w e = grind (arith, e)
+no_edge ws h (Title version) w e = grind (arith, e)
 no_edge ws h (Period period) w e = grind (arith, e)
 no_edge ws h (Behaviour name mode) w e = grind (arith, e)
 no_edge ws h (Op op) w e = grind (arith, e)
@@ -37,8 +37,32 @@ no_zero p n all ps bs z h w e f =
       lit : 0 < 2 ^ 64
       lit = lit< tt
 
+pub no_title : (n : ℕ) (ws rest : List Line) → n ≡ 0 → codes "report" ∷ decimal n ∷ rest ≡ ws → (x : Item) → IsItem x → item_words x ≡ codes "longnail" ∷ ws → ⊥
+no_title n ws rest z f (Title version) w e =
+    let t : codes "report" ∷ decimal version ∷ [] ≡ codes "report" ∷ decimal n ∷ rest = cc in
+    let u : decimal version ∷ [] ≡ decimal n ∷ rest = cc in
+    no_zero version n (decimal n ∷ rest) [] rest z w.0 (omega (arith, w.1, wide)) u refl where
+      wide : 2 < 2 ^ 64
+      wide = lit< tt
+no_title n ws rest z f (Period period) w e = grind (arith, e)
+no_title n ws rest z f (Behaviour name mode) w e = grind (arith, e)
+no_title n ws rest z f (Op op) w e = grind (arith, e)
+no_title n ws rest z f (Edge i j) w e = grind (arith, e)
+no_title n ws rest z f (Cost cost) w e = grind (arith, e)
+no_title n ws rest z f (Flow amount bound) w e = grind (arith, e)
+no_title n ws rest z f (Cycle bound) w e = grind (arith, e)
+no_title n ws rest z f End w e = grind (arith, e)
+
+-- a weight is not 0
+pub no_width : (n : ℕ) (ws rest : List Line) → n ≡ 0 → codes "width" ∷ decimal n ∷ rest ≡ ws → (m : ℕ) (more : List Line) → 1 ≤ m → m ≤ 128 → codes "width" ∷ decimal m ∷ more ≡ ws → ⊥
+no_width n ws rest z f m more some most e =
+    let u : decimal m ∷ more ≡ decimal n ∷ rest = cc in
+    no_zero m n (decimal n ∷ rest) more rest z some (omega (arith, most, wide)) u refl where
+      wide : 128 < 2 ^ 64
+      wide = lit< tt
+
 pub no_period : (n : ℕ) (ws rest : List Line) → n ≡ 0 → decimal n ∷ rest ≡ ws → (x : Item) → IsItem x → item_words x ≡ codes "period" ∷ ws → ⊥
-no_period n ws rest z f Title w e = grind (arith, e)
+no_period n ws rest z f (Title version) w e = grind (arith, e)
 no_period n ws rest z f (Period period) w e =
     let t : decimal period ∷ [] ≡ ws = cc in
     no_zero period n ws [] rest z w.0 (omega (arith, w.1, wide)) t f where
@@ -53,7 +77,7 @@ no_period n ws rest z f (Cycle bound) w e = grind (arith, e)
 no_period n ws rest z f End w e = grind (arith, e)
 
 pub no_flow : (n : ℕ) (ws rest : List Line) → n ≡ 0 → decimal n ∷ rest ≡ ws → (x : Item) → IsItem x → item_words x ≡ codes "flow" ∷ ws → ⊥
-no_flow n ws rest z f Title w e = grind (arith, e)
+no_flow n ws rest z f (Title version) w e = grind (arith, e)
 no_flow n ws rest z f (Period period) w e = grind (arith, e)
 no_flow n ws rest z f (Behaviour name mode) w e = grind (arith, e)
 no_flow n ws rest z f (Op op) w e = grind (arith, e)

@@ -12,7 +12,7 @@ use Rattle.ix_cert.specs.declared.item.Item.TheVariants.{Title, Period, Behaviou
 use Rattle.ix_cert.specs.declared.item.Operation.{Operation}
 use Rattle.ix_cert.specs.declared.report.Report.{Report}
 use Rattle.ix_cert.specs.declared.report.ReportBlock.{ReportBlock}
-use Rattle.ix_cert.specs.Layout.{Line, mode_text, IsName, IsKindName, IsNodeInForm}
+use Rattle.ix_cert.specs.Layout.{Line, is_weighted, mode_text, IsName, IsKindName, IsNodeInForm, IsWeight, HasWeight}
 
 -- What was found has this form and these words; or nothing that has this form has these words.
 abbrev pub IsReading : {X Y : Type 0} → (X → Type 0) → (X → Y) → Y → Option X → Type 0
@@ -31,10 +31,16 @@ Tells false P = P → ⊥
 abbrev pub texts : List (Bor Line) → List Line
 texts words = map (λ (word : Bor Line). word.now) words
 
-abbrev pub node_words : Node → List Line
-node_words node =
+-- the words of a weight, where weights are told, before others
+abbrev pub width_words : Bool → ℕ → List Line → List Line
+width_words false weight rest = rest
+width_words true weight rest = codes "width" ∷ decimal weight ∷ rest
+
+-- the words of the numbers of an operation, before others
+abbrev pub node_words : Bool → Node → List Line → List Line
+node_words weighted node rest =
     codes "delay" ∷ decimal node.delay ∷ codes "latency" ∷ decimal node.latency
-    ∷ codes "early" ∷ decimal node.early ∷ codes "late" ∷ decimal node.late ∷ []
+    ∷ width_words weighted node.weight (codes "early" ∷ decimal node.early ∷ codes "late" ∷ decimal node.late ∷ rest)
 
 abbrev pub time_words : Option ℕ → List Line
 time_words None = []
@@ -42,7 +48,7 @@ time_words (Some time) = codes "time" ∷ decimal time ∷ []
 
 -- the words behind `op`
 abbrev pub op_words : Operation → List Line
-op_words op = decimal op.place ∷ op.kind ∷ (node_words op.node ++ time_words op.time)
+op_words op = decimal op.place ∷ op.kind ∷ node_words op.weighted op.node (time_words op.time)
 
 abbrev pub bound_words : Bound → List Line
 bound_words (Early k) = codes "early" ∷ decimal k ∷ []
@@ -51,7 +57,7 @@ bound_words (Dep i j) = codes "dep" ∷ decimal i ∷ decimal j ∷ []
 bound_words (Chain path) = codes "chain" ∷ map decimal path
 
 abbrev pub item_words : Item → List Line
-item_words Title = codes "longnail" ∷ codes "report" ∷ codes "1" ∷ []
+item_words (Title version) = codes "longnail" ∷ codes "report" ∷ decimal version ∷ []
 item_words (Period period) = codes "period" ∷ decimal period ∷ []
 item_words (Behaviour name mode) = codes "behaviour" ∷ name ∷ mode_text mode ∷ []
 item_words (Op op) = codes "op" ∷ op_words op
@@ -74,6 +80,7 @@ pub record IsOperation (op : Operation) : Type 0 where
   pub place : op.place ≤ 65535
   pub kind : IsKindName op.kind
   pub node : IsNodeInForm op.node
+  pub weight : HasWeight op.weighted op.node
   pub time : IsTime op.time
 
 abbrev pub IsWide : ℕ → Type 0
@@ -86,7 +93,7 @@ IsBound (Dep i j) = IsWide i × IsWide j
 IsBound (Chain path) = (path ≢ []) × All IsWide path
 
 abbrev pub IsItem : Item → Type 0
-IsItem Title = Unit {0}
+IsItem (Title version) = (1 ≤ version) × (version ≤ 2)
 IsItem (Period period) = (1 ≤ period) × (period ≤ 1000000)
 IsItem (Behaviour name mode) = IsName name
 IsItem (Op op) = IsOperation op
@@ -97,20 +104,21 @@ IsItem (Cycle bound) = IsBound bound
 IsItem End = Unit {0}
 
 -- ---- the items of a report
-abbrev pub operation : ℕ → Line → Node → Option ℕ → Operation
-operation place kind node time = record { place = place; kind = kind; node = node; time = time }
+abbrev pub operation : Bool → ℕ → Line → Node → Option ℕ → Operation
+operation weighted place kind node time = record { weighted = weighted; place = place; kind = kind; node = node; time = time }
 
-abbrev pub timed_items : ℕ → List Line → List Node → List ℕ → List Item
-timed_items k (kind ∷ kinds) (node ∷ nodes) (time ∷ times) = Op (operation k kind node (Some time)) ∷ timed_items (k + 1) kinds nodes times
-timed_items k _ _ _ = []
+abbrev pub timed_items : Bool → ℕ → List Line → List Node → List ℕ → List Item
+timed_items weighted k (kind ∷ kinds) (node ∷ nodes) (time ∷ times) =
+    Op (operation weighted k kind node (Some time)) ∷ timed_items weighted (k + 1) kinds nodes times
+timed_items weighted k _ _ _ = []
 
-abbrev pub untimed_items : ℕ → List Line → List Node → List Item
-untimed_items k (kind ∷ kinds) (node ∷ nodes) = Op (operation k kind node None) ∷ untimed_items (k + 1) kinds nodes
-untimed_items k _ _ = []
+abbrev pub untimed_items : Bool → ℕ → List Line → List Node → List Item
+untimed_items weighted k (kind ∷ kinds) (node ∷ nodes) = Op (operation weighted k kind node None) ∷ untimed_items weighted (k + 1) kinds nodes
+untimed_items weighted k _ _ = []
 
-abbrev pub op_items : ReportBlock → Option Mode → List Item
-op_items b None = untimed_items 0 b.kinds b.problem.ops
-op_items b (Some mode) = timed_items 0 b.kinds b.problem.ops b.times
+abbrev pub op_items : Bool → ReportBlock → Option Mode → List Item
+op_items weighted b None = untimed_items weighted 0 b.kinds b.problem.ops
+op_items weighted b (Some mode) = timed_items weighted 0 b.kinds b.problem.ops b.times
 
 abbrev pub edge_item : ℕ × ℕ → Item
 edge_item e = Edge e.0 e.1
@@ -122,11 +130,11 @@ abbrev pub certificate_items : ReportBlock → Option Mode → List Item
 certificate_items b None = map Cycle b.cycle
 certificate_items b (Some mode) = Cost b.cost ∷ map flow_item b.flow
 
-abbrev pub block_items : ReportBlock → List Item
-block_items b = Behaviour b.name b.mode ∷ (op_items b b.mode ++ (map edge_item b.problem.edges ++ (certificate_items b b.mode ++ End ∷ [])))
+abbrev pub block_items : Bool → ReportBlock → List Item
+block_items weighted b = Behaviour b.name b.mode ∷ (op_items weighted b b.mode ++ (map edge_item b.problem.edges ++ (certificate_items b b.mode ++ End ∷ [])))
 
 abbrev pub report_items : Report → List Item
-report_items r = Title ∷ Period r.period ∷ flat_map block_items r.blocks
+report_items r = Title r.version ∷ Period r.period ∷ flat_map (block_items (is_weighted r.version)) r.blocks
 
 -- ---- words
 pub record IsRegister (word : Line) : Type 0 where
@@ -159,11 +167,24 @@ IsLabelled label most words found =
     MatchOption found ((n : ℕ) (rest : List Line) → n ≤ most → label ∷ decimal n ∷ rest ≡ words → ⊥)
     (λ x. (x.0 ≤ most) × (label ∷ decimal x.0 ∷ texts x.1.now ≡ words))
 
--- the numbers of an operation, and the words behind them
-abbrev pub IsNodeRead : List Line → Option (Node × Bor (List (Bor Line))) → Type 0
+-- a weight from 1 to 128 behind its label, and the words behind it
+abbrev pub IsWidthRead : List Line → Option (ℕ × Bor (List (Bor Line))) → Type 0
+IsWidthRead words found =
+    MatchOption found ((n : ℕ) (rest : List Line) → 1 ≤ n → n ≤ 128 → codes "width" ∷ decimal n ∷ rest ≡ words → ⊥)
+    (λ x. (1 ≤ x.0) × (x.0 ≤ 128) × (codes "width" ∷ decimal x.0 ∷ texts x.1.now ≡ words))
+
+-- whether a weight is told, the weight, and the words behind it, which are the only ones that begin with `early`
+pub record IsWeightRead (words : List Line) (found : Bool × ℕ × Bor (List (Bor Line))) : Type 0 where
+  pub weight : IsWeight found.0 found.1
+  pub is : width_words found.0 found.1 (texts found.2.now) ≡ words
+  pub only : (weighted : Bool) (weight : ℕ) (rest : List Line) → IsWeight weighted weight → width_words weighted weight (codes "early" ∷ rest) ≡ words
+      → codes "early" ∷ rest ≡ texts found.2.now
+
+-- the numbers of an operation, whether its weight is told, and the words behind them
+abbrev pub IsNodeRead : List Line → Option (Bool × Node × Bor (List (Bor Line))) → Type 0
 IsNodeRead words found =
-    MatchOption found ((node : Node) (rest : List Line) → IsNodeInForm node → node_words node ++ rest ≡ words → ⊥)
-    (λ x. IsNodeInForm x.0 × (node_words x.0 ++ texts x.1.now ≡ words))
+    MatchOption found ((weighted : Bool) (node : Node) (rest : List Line) → IsNodeInForm node → HasWeight weighted node → node_words weighted node rest ≡ words → ⊥)
+    (λ x. IsNodeInForm x.1 × HasWeight x.0 x.1 × (node_words x.0 x.1 (texts x.2.now) ≡ words))
 
 abbrev pub pair_words : ℕ × ℕ → List Line
 pair_words p = decimal p.0 ∷ decimal p.1 ∷ []

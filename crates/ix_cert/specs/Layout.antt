@@ -33,24 +33,34 @@ bound_text (Late k) = codes "late" ++ field k
 bound_text (Dep i j) = codes "dep" ++ field i ++ field j
 bound_text (Chain path) = codes "chain" ++ flat_map field path
 
--- an operation with its kind and, where there is one, its time
-abbrev pub op_line : ℕ → Line → Node → Line → Line
-op_line k kind node time =
+-- version 2 tells weights
+abbrev pub is_weighted : ℕ → Bool
+is_weighted version = version == 2
+
+-- the weight of an operation, where weights are told
+abbrev pub width_text : Bool → ℕ → Line
+width_text false weight = []
+width_text true weight = codes " width" ++ field weight
+
+-- an operation with its kind, its weight where weights are told, and its time where there is one
+abbrev pub op_line : Bool → ℕ → Line → Node → Line → Line
+op_line weighted k kind node time =
     codes "op" ++ field k ++ codes " " ++ kind ++ codes " delay" ++ field node.delay ++ codes " latency" ++ field node.latency
-    ++ codes " early" ++ field node.early ++ codes " late" ++ field node.late ++ time
+    ++ width_text weighted node.weight ++ codes " early" ++ field node.early ++ codes " late" ++ field node.late ++ time
 
 abbrev pub time_text : ℕ → Line
 time_text time = codes " time" ++ field time
 
 -- the operations from number k on, with their times
-abbrev pub timed_lines : ℕ → List Line → List Node → List ℕ → List Line
-timed_lines k (kind ∷ kinds) (node ∷ nodes) (time ∷ times) = op_line k kind node (time_text time) ∷ timed_lines (k + 1) kinds nodes times
-timed_lines k _ _ _ = []
+abbrev pub timed_lines : Bool → ℕ → List Line → List Node → List ℕ → List Line
+timed_lines weighted k (kind ∷ kinds) (node ∷ nodes) (time ∷ times) =
+    op_line weighted k kind node (time_text time) ∷ timed_lines weighted (k + 1) kinds nodes times
+timed_lines weighted k _ _ _ = []
 
 -- and without times
-abbrev pub untimed_lines : ℕ → List Line → List Node → List Line
-untimed_lines k (kind ∷ kinds) (node ∷ nodes) = op_line k kind node [] ∷ untimed_lines (k + 1) kinds nodes
-untimed_lines k _ _ = []
+abbrev pub untimed_lines : Bool → ℕ → List Line → List Node → List Line
+untimed_lines weighted k (kind ∷ kinds) (node ∷ nodes) = op_line weighted k kind node [] ∷ untimed_lines weighted (k + 1) kinds nodes
+untimed_lines weighted k _ _ = []
 
 abbrev pub edge_line : ℕ × ℕ → Line
 edge_line e = codes "edge" ++ field e.0 ++ field e.1
@@ -61,22 +71,22 @@ flow_line c = codes "flow" ++ field c.1 ++ codes " " ++ bound_text c.0
 abbrev pub cycle_line : Bound → Line
 cycle_line bound = codes "cycle " ++ bound_text bound
 
-abbrev pub op_lines : ReportBlock → Option Mode → List Line
-op_lines b None = untimed_lines 0 b.kinds b.problem.ops
-op_lines b (Some mode) = timed_lines 0 b.kinds b.problem.ops b.times
+abbrev pub op_lines : Bool → ReportBlock → Option Mode → List Line
+op_lines weighted b None = untimed_lines weighted 0 b.kinds b.problem.ops
+op_lines weighted b (Some mode) = timed_lines weighted 0 b.kinds b.problem.ops b.times
 
 -- the cost and the flow, or the cycle
 abbrev pub certificate_lines : ReportBlock → Option Mode → List Line
 certificate_lines b None = map cycle_line b.cycle
 certificate_lines b (Some mode) = (codes "cost" ++ field b.cost) ∷ map flow_line b.flow
 
-abbrev pub block_lines : ReportBlock → List Line
-block_lines b =
+abbrev pub block_lines : Bool → ReportBlock → List Line
+block_lines weighted b =
     (codes "behaviour " ++ b.name ++ codes " " ++ mode_text b.mode)
-    ∷ (op_lines b b.mode ++ (map edge_line b.problem.edges ++ (certificate_lines b b.mode ++ codes "end" ∷ [])))
+    ∷ (op_lines weighted b b.mode ++ (map edge_line b.problem.edges ++ (certificate_lines b b.mode ++ codes "end" ∷ [])))
 
 abbrev pub report_lines : Report → List Line
-report_lines r = codes "longnail report 1" ∷ (codes "period" ++ field r.period) ∷ flat_map block_lines r.blocks
+report_lines r = (codes "longnail report" ++ field r.version) ∷ (codes "period" ++ field r.period) ∷ flat_map (block_lines (is_weighted r.version)) r.blocks
 
 -- ---- reports in the range of the form
 abbrev pub is_digit : ℕ → Bool
@@ -118,6 +128,14 @@ pub record IsNodeInForm (node : Node) : Type 0 where
 abbrev pub AreBelow : ℕ → List ℕ → Type 0
 AreBelow n path = All (λ k. k < n) path
 
+-- a weight is from 1 to 128, and 1 where weights are not told
+abbrev pub IsWeight : Bool → ℕ → Type 0
+IsWeight false weight = weight ≡ 1
+IsWeight true weight = (1 ≤ weight) × (weight ≤ 128)
+
+abbrev pub HasWeight : Bool → Node → Type 0
+HasWeight weighted node = IsWeight weighted node.weight
+
 -- the bound names operations that there are
 abbrev pub IsBoundInForm : ℕ → Bound → Type 0
 IsBoundInForm n (Early k) = k < n
@@ -145,21 +163,24 @@ HasCertificate b (Some mode) =
 HasCertificate b None =
     (b.times ≡ []) × (b.cost ≡ 0) × (b.flow ≡ []) × All (IsBoundInForm (length b.problem.ops)) b.cycle × (b.cycle ≢ [])
 
-pub record IsBlockInForm (period : ℕ) (b : ReportBlock) : Type 0 where
+pub record IsBlockInForm (weighted : Bool) (period : ℕ) (b : ReportBlock) : Type 0 where
   pub named : IsName b.name
   pub few : length b.problem.ops ≤ 65536
   pub count : length b.kinds ≡ length b.problem.ops
   pub kinds : All IsKindName b.kinds
   pub nodes : All IsNodeInForm b.problem.ops
+  pub weights : All (HasWeight weighted) b.problem.ops
   pub edges : All (IsEdgeInForm (length b.problem.ops)) b.problem.edges
   pub ordered : AllPairs IsBefore b.problem.edges
   pub period_is : b.problem.period ≡ period
   pub certificate : HasCertificate b b.mode
 
 pub record IsInForm (r : Report) : Type 0 where
+  pub some_version : 1 ≤ r.version
+  pub most_version : r.version ≤ 2
   pub some_period : 1 ≤ r.period
   pub most_period : r.period ≤ 1000000
-  pub blocks : All (IsBlockInForm r.period) r.blocks
+  pub blocks : All (IsBlockInForm (is_weighted r.version) r.period) r.blocks
 
 -- ---- texts
 -- the lines without what is behind a line feed at the end

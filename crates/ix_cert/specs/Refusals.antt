@@ -14,12 +14,12 @@ pub record IsNext (r : Reading) (line : Line) (more : Reading) : Type 0 where
   pub item : Item
   pub good : IsItem item
   pub is : item_line item ≡ line
-  pub may : MayFollow r.place item
+  pub may : MayFollow r.version r.place item
   pub more_is : more ≡ after r item
 
 -- this line may not stand next
 abbrev pub NoNext : Reading → Line → Type 0
-NoNext r line = (item : Item) → IsItem item → item_line item ≡ line → MayFollow r.place item → ⊥
+NoNext r line = (item : Item) → IsItem item → item_line item ≡ line → MayFollow r.version r.place item → ⊥
 
 -- so many lines begin a report, and with the next they begin none, or there is no next and they are none
 pub record IsBadPlace (lines : List Line) (before : ℕ) : Type 0 where
@@ -46,4 +46,4 @@ bytes_in (line ∷ rest) = length line + 1 + bytes_in rest
 
 -- what was read, as a report
 abbrev pub report_of : Reading → Report
-report_of r = record { period = r.period; blocks = r.blocks }
+report_of r = record { version = r.version; period = r.period; blocks = r.blocks }

@@ -10,7 +10,7 @@ use Rattle.ix_cert.specs.declared.report.ReportBlock.{ReportBlock}
 use Rattle.ix_cert.specs.declared.state.Place.{Place}
 use Rattle.ix_cert.specs.declared.state.Place.TheVariants as place
 use Rattle.ix_cert.specs.declared.state.Reading.{Reading}
-use Rattle.ix_cert.specs.Layout.{Line, IsBoundInForm, IsBefore}
+use Rattle.ix_cert.specs.Layout.{Line, is_weighted, IsBoundInForm, IsBefore}
 
 -- ---- what may stand next
 -- a time is told exactly where there is a mode
@@ -32,7 +32,8 @@ IsBehind (Some f) e = IsBefore f e
 abbrev pub last_edge : List (ℕ × ℕ) → Option (ℕ × ℕ)
 last_edge edges = slice_get edges (length edges - 1)
 
-pub record MayBeOp (b : ReportBlock) (costed : Bool) (op : Operation) : Type 0 where
+pub record MayBeOp (version : ℕ) (b : ReportBlock) (costed : Bool) (op : Operation) : Type 0 where
+  pub form : op.weighted ≡ is_weighted version
   pub open_cost : costed ≡ false
   pub place : op.place ≡ length b.problem.ops
   pub no_edges : b.problem.edges ≡ []
@@ -46,25 +47,26 @@ pub record MayBeEdge (b : ReportBlock) (costed : Bool) (e : ℕ × ℕ) : Type 0
   pub there : e.1 < length b.problem.ops
   pub behind : IsBehind (last_edge b.problem.edges) e
 
-abbrev pub MayStand : ReportBlock → Bool → Item → Type 0
-MayStand b costed Title = ⊥
-MayStand b costed (Period period) = ⊥
-MayStand b costed (Behaviour name mode) = ⊥
-MayStand b costed (Op op) = MayBeOp b costed op
-MayStand b costed (Edge i j) = MayBeEdge b costed (i, j)
-MayStand b costed (Cost cost) = (costed ≡ false) × HasMode b.mode
-MayStand b costed (Flow amount bound) = (costed ≡ true) × IsBoundInForm (length b.problem.ops) bound
-MayStand b costed (Cycle bound) = (b.mode ≡ None) × IsBoundInForm (length b.problem.ops) bound
-MayStand b costed End = costed ≡ false → b.cycle ≢ []
+abbrev pub MayStand : ℕ → ReportBlock → Bool → Item → Type 0
+MayStand version b costed (Title given) = ⊥
+MayStand version b costed (Period period) = ⊥
+MayStand version b costed (Behaviour name mode) = ⊥
+MayStand version b costed (Op op) = MayBeOp version b costed op
+MayStand version b costed (Edge i j) = MayBeEdge b costed (i, j)
+MayStand version b costed (Cost cost) = (costed ≡ false) × HasMode b.mode
+MayStand version b costed (Flow amount bound) = (costed ≡ true) × IsBoundInForm (length b.problem.ops) bound
+MayStand version b costed (Cycle bound) = (b.mode ≡ None) × IsBoundInForm (length b.problem.ops) bound
+MayStand version b costed End = costed ≡ false → b.cycle ≢ []
 
-abbrev pub MayFollow : Place → Item → Type 0
-MayFollow place.Title Title = Unit {0}
-MayFollow place.Title item = ⊥
-MayFollow place.Period (Period period) = Unit {0}
-MayFollow place.Period item = ⊥
-MayFollow place.Between (Behaviour name mode) = Unit {0}
-MayFollow place.Between item = ⊥
-MayFollow (place.Inside b costed) item = MayStand b costed item
+-- behind a title of this version
+abbrev pub MayFollow : ℕ → Place → Item → Type 0
+MayFollow version place.Title (Title given) = Unit {0}
+MayFollow version place.Title item = ⊥
+MayFollow version place.Period (Period period) = Unit {0}
+MayFollow version place.Period item = ⊥
+MayFollow version place.Between (Behaviour name mode) = Unit {0}
+MayFollow version place.Between item = ⊥
+MayFollow version (place.Inside b costed) item = MayStand version b costed item
 
 -- ---- what was read
 abbrev pub block_of : Line → Option Mode → ℕ → List Line → List Node → List (ℕ × ℕ) → List ℕ → ℕ → List (Bound × ℕ) → List Bound → ReportBlock
@@ -110,23 +112,24 @@ inside b costed (Flow amount bound) = place.Inside (with_flow b (bound, amount))
 inside b costed (Cycle bound) = place.Inside (with_cycle b bound) costed
 inside b costed item = place.Inside b costed
 
-abbrev pub reading : ℕ → List ReportBlock → Place → Reading
-reading period blocks at = record { period = period; blocks = blocks; place = at }
+abbrev pub reading : ℕ → ℕ → List ReportBlock → Place → Reading
+reading version period blocks at = record { version = version; period = period; blocks = blocks; place = at }
 
-abbrev pub after_at : ℕ → List ReportBlock → Place → Item → Reading
-after_at period blocks place.Title item = reading period blocks place.Period
-after_at period blocks place.Period (Period given) = reading given blocks place.Between
-after_at period blocks place.Period item = reading period blocks place.Period
-after_at period blocks place.Between (Behaviour name mode) = reading period blocks (place.Inside (begun name mode period) false)
-after_at period blocks place.Between item = reading period blocks place.Between
-after_at period blocks (place.Inside b costed) End = reading period (blocks ++ b ∷ []) place.Between
-after_at period blocks (place.Inside b costed) item = reading period blocks (inside b costed item)
+abbrev pub after_at : ℕ → ℕ → List ReportBlock → Place → Item → Reading
+after_at version period blocks place.Title (Title given) = reading given period blocks place.Period
+after_at version period blocks place.Title item = reading version period blocks place.Period
+after_at version period blocks place.Period (Period given) = reading version given blocks place.Between
+after_at version period blocks place.Period item = reading version period blocks place.Period
+after_at version period blocks place.Between (Behaviour name mode) = reading version period blocks (place.Inside (begun name mode period) false)
+after_at version period blocks place.Between item = reading version period blocks place.Between
+after_at version period blocks (place.Inside b costed) End = reading version period (blocks ++ b ∷ []) place.Between
+after_at version period blocks (place.Inside b costed) item = reading version period blocks (inside b costed item)
 
 abbrev pub after : Reading → Item → Reading
-after r item = after_at r.period r.blocks r.place item
+after r item = after_at r.version r.period r.blocks r.place item
 
 abbrev pub start : Reading
-start = reading 0 [] place.Title
+start = reading 0 0 [] place.Title
 
 -- what was read after these items, and that each may stand in its place
 abbrev pub run : Reading → List Item → Reading
@@ -135,4 +138,4 @@ run r (item ∷ items) = run (after r item) items
 
 abbrev pub AllFollow : Reading → List Item → Type 0
 AllFollow r [] = Unit {0}
-AllFollow r (item ∷ items) = MayFollow r.place item × AllFollow (after r item) items
+AllFollow r (item ∷ items) = MayFollow r.version r.place item × AllFollow (after r item) items

@@ -1,5 +1,5 @@
 ghost use Rattle.std.specs.Prelude.{◌≡◌, ℕ, ◌≤◌, [], ◌∷◌, map, decimal, codes, All, IfOk};
-ghost use Rattle.ix_cert.specs.Items.{IsReading, IsParted, IsCounted, IsLabelled, IsNodeRead, IsTime, IsWide, AreWide, IsBound, IsItem, IsOperation, Tells, texts, time_words, op_words, bound_words, item_words, pair_words};
+ghost use Rattle.ix_cert.specs.Items.{IsReading, IsParted, IsCounted, IsLabelled, IsWidthRead, IsWeightRead, IsNodeRead, IsTime, IsWide, AreWide, IsBound, IsItem, IsOperation, Tells, texts, time_words, op_words, bound_words, item_words, pair_words};
 
 use crate::item::{Item, Operation};
 use crate::word::{is_kind, is_label, is_name, mode, name, number};
@@ -40,7 +40,11 @@ pub fn counted<'a, 'b>(words: &'a [&'b [u8]], most: u64) -> Option<(u64, &'a [&'
 }
 
 /// The number behind a label, at most `most`, and the words behind it.
-fn labelled<'a, 'b>(words: &'a [&'b [u8]], label: &[u8], most: u64) -> Option<(u64, &'a [&'b [u8]])>
+pub fn labelled<'a, 'b>(
+    words: &'a [&'b [u8]],
+    label: &[u8],
+    most: u64,
+) -> Option<(u64, &'a [&'b [u8]])>
     ensures { IsLabelled label.now most (texts words.now) result }
 {
     let Some((first, rest)) = parted(words) else {
@@ -52,8 +56,31 @@ fn labelled<'a, 'b>(words: &'a [&'b [u8]], label: &[u8], most: u64) -> Option<(u
     counted(rest, most)
 }
 
-/// The numbers of an operation, and the words behind them.
-fn node<'a, 'b>(words: &'a [&'b [u8]]) -> Option<(Node, &'a [&'b [u8]])>
+/// The weight behind `width`, from 1 to 128, and the words behind it.
+fn width<'a, 'b>(words: &'a [&'b [u8]]) -> Option<(u8, &'a [&'b [u8]])>
+    ensures { IsWidthRead (texts words.now) result }
+{
+    let Some((weight, rest)) = labelled(words, b"width", 128) else {
+        return None;
+    };
+    if weight == 0 {
+        return None;
+    }
+    Some((weight as u8, rest))
+}
+
+/// Whether a weight is told, the weight, and the words behind it.
+fn weight<'a, 'b>(words: &'a [&'b [u8]]) -> (bool, u8, &'a [&'b [u8]])
+    ensures { IsWeightRead (texts words.now) result }
+{
+    match width(words) {
+        Some((weight, rest)) => (true, weight, rest),
+        None => (false, 1, words),
+    }
+}
+
+/// The numbers of an operation, whether its weight is told, and the words behind them.
+fn node<'a, 'b>(words: &'a [&'b [u8]]) -> Option<(bool, Node, &'a [&'b [u8]])>
     ensures { IsNodeRead (texts words.now) result }
 {
     let Some((delay, behind_delay)) = labelled(words, b"delay", 1_000_000) else {
@@ -62,7 +89,8 @@ fn node<'a, 'b>(words: &'a [&'b [u8]]) -> Option<(Node, &'a [&'b [u8]])>
     let Some((latency, behind_latency)) = labelled(behind_delay, b"latency", 255) else {
         return None;
     };
-    let Some((early, behind_early)) = labelled(behind_latency, b"early", 255) else {
+    let (weighted, weight, behind_weight) = weight(behind_latency);
+    let Some((early, behind_early)) = labelled(behind_weight, b"early", 255) else {
         return None;
     };
     let Some((late, rest)) = labelled(behind_early, b"late", 255) else {
@@ -71,10 +99,11 @@ fn node<'a, 'b>(words: &'a [&'b [u8]]) -> Option<(Node, &'a [&'b [u8]])>
     let node = Node {
         delay: delay as u32,
         latency: latency as u8,
+        weight,
         early: early as u8,
         late: late as u8,
     };
-    Some((node, rest))
+    Some((weighted, node, rest))
 }
 
 /// The time at the end of an operation's line, if it has one there.
@@ -107,13 +136,14 @@ pub fn operation(alloc: Global, words: &[&[u8]]) -> Result<Option<Operation>, Me
     if !is_kind(kind) {
         return Ok(None);
     }
-    let Some((node, rest)) = node(behind_kind) else {
+    let Some((weighted, node, rest)) = node(behind_kind) else {
         return Ok(None);
     };
     let Some(time) = time(rest) else {
         return Ok(None);
     };
     Ok(Some(Operation {
+        weighted,
         place: place as u32,
         kind: name(alloc, kind)?,
         node,

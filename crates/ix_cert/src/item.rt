@@ -5,6 +5,8 @@ use ix_sheet::{Bound, Node};
 /// An operation as its line tells it.
 #[derive(Drop)]
 pub struct Operation {
+    /// Whether its line tells its weight, which is 1 where it does not.
+    pub weighted: bool,
     pub place: u32,
     /// The printed kind.
     pub kind: Name,
@@ -16,7 +18,8 @@ pub struct Operation {
 /// What a line of a report says.
 #[derive(Drop)]
 pub enum Item {
-    Title,
+    /// The version, 1 or 2.
+    Title(u8),
     Period(u32),
     Behaviour(Name, Option<Mode>),
     Op(Operation),

@@ -1,7 +1,7 @@
 ghost use Rattle.std.specs.Prelude.{◌≡◌, [], ◌∷◌, codes, IfOk};
 ghost use Rattle.ix_cert.specs.Items.{IsReading, IsItem, item_words, texts};
 
-use crate::fields::{bound, counted, is_end, operation, parted, two};
+use crate::fields::{bound, counted, is_end, labelled, operation, parted, two};
 use crate::item::Item;
 use crate::word::{is_label, is_name, mode, name};
 use ix_bits::Memory;
@@ -13,14 +13,14 @@ const LEAST_AMOUNT: u64 = 1;
 fn title(words: &[&[u8]]) -> Option<Item>
     ensures { IsReading IsItem item_words (codes "longnail" ∷ texts words.now) result }
 {
-    let Some((first, behind_first)) = parted(words) else {
+    let Some((version, rest)) = labelled(words, b"report", 2) else {
         return None;
     };
-    let Some((second, rest)) = parted(behind_first) else {
+    if version == 0 {
         return None;
-    };
-    if is_label(first, b"report") && is_label(second, b"1") && is_end(rest) {
-        Some(Item::Title)
+    }
+    if is_end(rest) {
+        Some(Item::Title(version as u8))
     } else {
         None
     }

@@ -1,9 +1,10 @@
 ghost use Rattle.std.specs.Prelude.{◌≡◌, ◌++◌, [], ◌∷◌, map, length, codes, decimal, IfOk, OnOk, Some, None};
 ghost use Rattle.std.specs.List.{flat_map};
-ghost use Rattle.ix_cert.specs.Layout.{mode_text, field, bound_text, op_line, edge_line, flow_line, cycle_line, block_lines, report_lines, op_lines, certificate_lines, IsInForm, IsBlockInForm, IsReportText};
+ghost use Rattle.ix_cert.specs.Layout.{mode_text, field, width_text, bound_text, op_line, edge_line, flow_line, cycle_line, block_lines, report_lines, op_lines, certificate_lines, IsInForm, IsBlockInForm, IsReportText};
 ghost use Rattle.ix_cert.specs.Printing.{text_of, time_field, time_at as specified_time_at, IsWithin, IsPrintable, ArePrintable};
 
 use crate::report::{Report, ReportBlock};
+use crate::state::is_weighted;
 use itoa::Buffer;
 use ix_bits::{List, Memory};
 use ix_graph::Mode;
@@ -73,12 +74,24 @@ fn put_bound(out: &mut Vec<u8>, bound: &Bound) -> Result<(), Memory>
     }
 }
 
+/// Appends a weight, where weights are told.
+fn put_width(out: &mut Vec<u8>, weighted: bool, weight: u8) -> Result<(), Memory>
+    ensures { OnOk result (out.new.items ≡ out.old.items ++ width_text weighted weight) }
+{
+    if weighted {
+        put_labelled(out, " width", u64::from(weight))
+    } else {
+        Ok(())
+    }
+}
+
 /// Appends the numbers of an operation.
-fn put_node(out: &mut Vec<u8>, node: &Node) -> Result<(), Memory>
-    ensures { OnOk result (out.new.items ≡ out.old.items ++ (codes " delay" ++ field node.now.delay ++ codes " latency" ++ field node.now.latency ++ codes " early" ++ field node.now.early ++ codes " late" ++ field node.now.late)) }
+fn put_node(out: &mut Vec<u8>, weighted: bool, node: &Node) -> Result<(), Memory>
+    ensures { OnOk result (out.new.items ≡ out.old.items ++ (codes " delay" ++ field node.now.delay ++ codes " latency" ++ field node.now.latency ++ width_text weighted node.now.weight ++ codes " early" ++ field node.now.early ++ codes " late" ++ field node.now.late)) }
 {
     put_labelled(out, " delay", u64::from(node.delay))?;
     put_labelled(out, " latency", u64::from(node.latency))?;
+    put_width(out, weighted, node.weight)?;
     put_labelled(out, " early", u64::from(node.early))?;
     put_labelled(out, " late", u64::from(node.late))
 }
@@ -94,17 +107,18 @@ fn put_time(out: &mut Vec<u8>, time: Option<u8>) -> Result<(), Memory>
 
 fn put_op(
     out: &mut Vec<u8>,
+    weighted: bool,
     place: u64,
     kind: &str,
     node: &Node,
     time: Option<u8>,
 ) -> Result<(), Memory>
-    ensures { OnOk result (out.new.items ≡ out.old.items ++ (op_line place kind.now node.now (time_field time) ++ 10 ∷ [])) }
+    ensures { OnOk result (out.new.items ≡ out.old.items ++ (op_line weighted place kind.now node.now (time_field time) ++ 10 ∷ [])) }
 {
     put_labelled(out, "op", place)?;
     put(out, " ")?;
     put(out, kind)?;
-    put_node(out, node)?;
+    put_node(out, weighted, node)?;
     put_time(out, time)?;
     put(out, "\n")
 }
@@ -119,15 +133,22 @@ fn time_at(mode: Option<Mode>, times: &[u8], place: usize) -> Option<u8>
     }
 }
 
-fn put_ops(out: &mut Vec<u8>, block: &ReportBlock) -> Result<(), Memory>
+fn put_ops(out: &mut Vec<u8>, weighted: bool, block: &ReportBlock) -> Result<(), Memory>
     requires { IsPrintable block.now }
-    ensures { OnOk result (out.new.items ≡ out.old.items ++ text_of (op_lines block.now block.now.mode)) }
+    ensures { OnOk result (out.new.items ≡ out.old.items ++ text_of (op_lines weighted block.now block.now.mode)) }
 {
     let kinds = block.kinds.as_slice();
     let times = block.times.as_slice();
     for (place, node) in block.problem.ops.as_slice().iter().enumerate() {
         let time = time_at(block.mode, times, place);
-        put_op(out, place as u64, kinds[place].as_str(), node, time)?;
+        put_op(
+            out,
+            weighted,
+            place as u64,
+            kinds[place].as_str(),
+            node,
+            time,
+        )?;
     }
     Ok(())
 }
@@ -189,23 +210,23 @@ fn put_head(out: &mut Vec<u8>, name: &str, mode: Option<Mode>) -> Result<(), Mem
     put(out, "\n")
 }
 
-fn put_block(out: &mut Vec<u8>, block: &ReportBlock) -> Result<(), Memory>
+fn put_block(out: &mut Vec<u8>, weighted: bool, block: &ReportBlock) -> Result<(), Memory>
     requires { IsPrintable block.now }
-    ensures { OnOk result (out.new.items ≡ out.old.items ++ text_of (block_lines block.now)) }
+    ensures { OnOk result (out.new.items ≡ out.old.items ++ text_of (block_lines weighted block.now)) }
 {
     put_head(out, block.name.as_str(), block.mode)?;
-    put_ops(out, block)?;
+    put_ops(out, weighted, block)?;
     put_edges(out, block.problem.edges.as_slice())?;
     put_certificate(out, block)?;
     put(out, "end\n")
 }
 
-fn put_blocks(out: &mut Vec<u8>, blocks: &[ReportBlock]) -> Result<(), Memory>
+fn put_blocks(out: &mut Vec<u8>, weighted: bool, blocks: &[ReportBlock]) -> Result<(), Memory>
     requires { ArePrintable blocks.now }
-    ensures { OnOk result (out.new.items ≡ out.old.items ++ text_of (flat_map block_lines blocks.now)) }
+    ensures { OnOk result (out.new.items ≡ out.old.items ++ text_of (flat_map (block_lines weighted) blocks.now)) }
 {
     for block in blocks {
-        put_block(out, block)?;
+        put_block(out, weighted, block)?;
     }
     Ok(())
 }
@@ -214,10 +235,11 @@ fn put_report(out: &mut Vec<u8>, report: &Report) -> Result<(), Memory>
     requires { ArePrintable report.now.blocks }
     ensures { OnOk result (out.new.items ≡ out.old.items ++ text_of (report_lines report.now)) }
 {
-    put(out, "longnail report 1\n")?;
+    put_labelled(out, "longnail report", u64::from(report.version))?;
+    put(out, "\n")?;
     put_labelled(out, "period", u64::from(report.period))?;
     put(out, "\n")?;
-    put_blocks(out, report.blocks.as_slice())
+    put_blocks(out, is_weighted(report.version), report.blocks.as_slice())
 }
 
 /// The text of a report in the range of its form: each line with a line feed behind it.

@@ -51,9 +51,9 @@ fn next(alloc: Global, reading: Reading, line: &[u8]) -> Result<Option<Reading>,
 
 fn with_item(alloc: Global, reading: Reading, item: Item) -> Result<Option<Reading>, Memory>
     requires { IsItem item }
-    ensures { IfOk result (λ found. MatchOption found (MayFollow reading.place item → ⊥) (λ more. MayFollow reading.place item × (more ≡ specified_after reading item))) }
+    ensures { IfOk result (λ found. MatchOption found (MayFollow reading.version reading.place item → ⊥) (λ more. MayFollow reading.version reading.place item × (more ≡ specified_after reading item))) }
 {
-    if !may_follow(&reading.place, &item) {
+    if !may_follow(reading.version, &reading.place, &item) {
         drop(reading);
         drop(item);
         return Ok(None);
@@ -69,12 +69,17 @@ fn ended(reading: Reading) -> Option<Report>
     ensures { MatchOption result (reading.place ≢ at.Between) (λ report. (reading.place ≡ at.Between) × (report ≡ report_of reading)) }
 {
     let Reading {
+        version,
         period,
         blocks,
         place,
     } = reading;
     match place {
-        Place::Between => Some(Report { period, blocks }),
+        Place::Between => Some(Report {
+            version,
+            period,
+            blocks,
+        }),
         other => {
             drop(other);
             drop(blocks);
@@ -124,6 +129,7 @@ fn read_lines(alloc: Global, lines: &[&[u8]], first: u32) -> Result<Report, Cert
     ensures refused { IfErr result (TellsLine (texts lines.now) first) }
 {
     let mut reading = Reading {
+        version: 0,
         period: 0,
         blocks: List::new(alloc),
         place: Place::Title,

@@ -5,6 +5,8 @@ use ix_sheet::{Bound, Problem};
 /// What a report says of the behaviours of an extension.
 #[derive(Debug, Drop)]
 pub struct Report {
+    /// 1 or 2. The text of a report of version 1 has no weights, and each weight is 1; that of version 2 has them.
+    pub version: u8,
     /// The longest delay within one time, 1 to 1,000,000.
     pub period: u32,
     /// The behaviours, in order.

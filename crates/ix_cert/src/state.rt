@@ -1,5 +1,5 @@
 ghost use Rattle.std.specs.Prelude.{◌≡◌, ℕ, ◌≤◌, [], length, IfOk, OnOk};
-ghost use Rattle.ix_cert.specs.Layout.{IsBoundInForm};
+ghost use Rattle.ix_cert.specs.Layout.{is_weighted as specified_is_weighted, IsBoundInForm};
 ghost use Rattle.ix_cert.specs.Items.{Tells, IsBound, IsItem};
 ghost use Rattle.ix_cert.specs.Steps.{IsTimed, IsBehind, last_edge, MayBeOp, MayBeEdge, MayStand, MayFollow, begun as specified_begun, with_op, inside, after_at, after as specified_after};
 ghost use Rattle.ix_cert.specs.declared.state.Place.TheVariants as at;
@@ -23,10 +23,19 @@ pub enum Place {
 /// The lines of a report that were read.
 #[derive(Drop)]
 pub struct Reading {
+    /// The version, where the title was read.
+    pub version: u8,
     pub period: u32,
     /// The behaviours that have ended.
     pub blocks: List<ReportBlock>,
     pub place: Place,
+}
+
+/// Whether a report of this version tells weights.
+pub fn is_weighted(version: u8) -> bool
+    ensures { result ≡ specified_is_weighted version }
+{
+    version == 2
 }
 
 fn is_bound(count: usize, bound: &Bound) -> bool
@@ -46,10 +55,11 @@ fn is_timed(mode: Option<Mode>, time: Option<u8>) -> bool
     mode.is_some() == time.is_some()
 }
 
-fn may_be_op(block: &ReportBlock, costed: bool, op: &Operation) -> bool
-    ensures { Tells result (MayBeOp block.now costed op.now) }
+fn may_be_op(version: u8, block: &ReportBlock, costed: bool, op: &Operation) -> bool
+    ensures { Tells result (MayBeOp version block.now costed op.now) }
 {
     !costed
+        && op.weighted == is_weighted(version)
         && op.place as usize == block.problem.ops.len()
         && block.problem.edges.is_empty()
         && block.cycle.is_empty()
@@ -76,32 +86,32 @@ fn may_be_edge(block: &ReportBlock, costed: bool, from: u32, to: u32) -> bool
         && is_behind(block.problem.edges.as_slice(), from, to)
 }
 
-fn may_stand(block: &ReportBlock, costed: bool, item: &Item) -> bool
+fn may_stand(version: u8, block: &ReportBlock, costed: bool, item: &Item) -> bool
     requires { IsItem item.now }
-    ensures { Tells result (MayStand block.now costed item.now) }
+    ensures { Tells result (MayStand version block.now costed item.now) }
 {
     let count = block.problem.ops.len();
     match item {
-        Item::Op(op) => may_be_op(block, costed, op),
+        Item::Op(op) => may_be_op(version, block, costed, op),
         Item::Edge(from, to) => may_be_edge(block, costed, *from, *to),
         Item::Cost(_) => !costed && block.mode.is_some(),
         Item::Flow(_, bound) => costed && is_bound(count, bound),
         Item::Cycle(bound) => block.mode.is_none() && is_bound(count, bound),
         Item::End => costed || !block.cycle.is_empty(),
-        Item::Title | Item::Period(_) | Item::Behaviour(_, _) => false,
+        Item::Title(_) | Item::Period(_) | Item::Behaviour(_, _) => false,
     }
 }
 
-/// Whether a line may stand next.
-pub fn may_follow(place: &Place, item: &Item) -> bool
+/// Whether a line may stand next, behind a title of this version.
+pub fn may_follow(version: u8, place: &Place, item: &Item) -> bool
     requires { IsItem item.now }
-    ensures { Tells result (MayFollow place.now item.now) }
+    ensures { Tells result (MayFollow version place.now item.now) }
 {
     match place {
-        Place::Title => matches!(item, Item::Title),
+        Place::Title => matches!(item, Item::Title(_)),
         Place::Period => matches!(item, Item::Period(_)),
         Place::Between => matches!(item, Item::Behaviour(_, _)),
-        Place::Inside(block, costed) => may_stand(block, *costed, item),
+        Place::Inside(block, costed) => may_stand(version, block, *costed, item),
     }
 }
 
@@ -163,13 +173,14 @@ fn put_item(block: &mut ReportBlock, costed: &mut bool, item: Item) -> Result<()
 
 /// What was read with one more line, where a behaviour goes on.
 fn after_inside(
+    version: u8,
     period: u32,
     blocks: List<ReportBlock>,
     block: ReportBlock,
     costed: bool,
     item: Item,
 ) -> Result<Reading, Memory>
-    ensures { IfOk result (λ more. more ≡ after_at period blocks (at.Inside block costed) item) }
+    ensures { IfOk result (λ more. more ≡ after_at version period blocks (at.Inside block costed) item) }
 {
     let mut blocks = blocks;
     let mut block = block;
@@ -180,6 +191,7 @@ fn after_inside(
             return Err(Memory);
         };
         return Ok(Reading {
+            version,
             period,
             blocks,
             place: Place::Between,
@@ -191,18 +203,43 @@ fn after_inside(
         return Err(Memory);
     };
     Ok(Reading {
+        version,
         period,
         blocks,
         place: Place::Inside(block, costed),
     })
 }
 
+/// What was read with the first line.
+fn after_start(version: u8, period: u32, blocks: List<ReportBlock>, item: Item) -> Reading
+    ensures { result ≡ after_at version period blocks at.Title item }
+{
+    match item {
+        Item::Title(version) => Reading {
+            version,
+            period,
+            blocks,
+            place: Place::Period,
+        },
+        other => {
+            drop(other);
+            Reading {
+                version,
+                period,
+                blocks,
+                place: Place::Period,
+            }
+        }
+    }
+}
+
 /// What was read with one more line, which is behind the title.
-fn after_title(period: u32, blocks: List<ReportBlock>, item: Item) -> Reading
-    ensures { result ≡ after_at period blocks at.Period item }
+fn after_title(version: u8, period: u32, blocks: List<ReportBlock>, item: Item) -> Reading
+    ensures { result ≡ after_at version period blocks at.Period item }
 {
     match item {
         Item::Period(period) => Reading {
+            version,
             period,
             blocks,
             place: Place::Between,
@@ -210,6 +247,7 @@ fn after_title(period: u32, blocks: List<ReportBlock>, item: Item) -> Reading
         other => {
             drop(other);
             Reading {
+                version,
                 period,
                 blocks,
                 place: Place::Period,
@@ -219,11 +257,18 @@ fn after_title(period: u32, blocks: List<ReportBlock>, item: Item) -> Reading
 }
 
 /// What was read with one more line, where a behaviour may begin.
-fn after_end(alloc: Global, period: u32, blocks: List<ReportBlock>, item: Item) -> Reading
-    ensures { result ≡ after_at period blocks at.Between item }
+fn after_end(
+    alloc: Global,
+    version: u8,
+    period: u32,
+    blocks: List<ReportBlock>,
+    item: Item,
+) -> Reading
+    ensures { result ≡ after_at version period blocks at.Between item }
 {
     match item {
         Item::Behaviour(name, mode) => Reading {
+            version,
             period,
             blocks,
             place: Place::Inside(begun(alloc, name, mode, period), false),
@@ -231,6 +276,7 @@ fn after_end(alloc: Global, period: u32, blocks: List<ReportBlock>, item: Item) 
         other => {
             drop(other);
             Reading {
+                version,
                 period,
                 blocks,
                 place: Place::Between,
@@ -244,21 +290,15 @@ pub fn after(alloc: Global, reading: Reading, item: Item) -> Result<Reading, Mem
     ensures { IfOk result (λ more. more ≡ specified_after reading item) }
 {
     let Reading {
+        version,
         period,
         blocks,
         place,
     } = reading;
     match place {
-        Place::Title => {
-            drop(item);
-            Ok(Reading {
-                period,
-                blocks,
-                place: Place::Period,
-            })
-        }
-        Place::Period => Ok(after_title(period, blocks, item)),
-        Place::Between => Ok(after_end(alloc, period, blocks, item)),
-        Place::Inside(block, costed) => after_inside(period, blocks, block, costed, item),
+        Place::Title => Ok(after_start(version, period, blocks, item)),
+        Place::Period => Ok(after_title(version, period, blocks, item)),
+        Place::Between => Ok(after_end(alloc, version, period, blocks, item)),
+        Place::Inside(block, costed) => after_inside(version, period, blocks, block, costed, item),
     }
 }

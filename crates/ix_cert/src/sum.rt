@@ -7,7 +7,7 @@ ghost use Rattle.ix_cert.specs.Checks.{Tells, AreAmounts, parts_in, parts_out, h
 
 use crate::report::ReportBlock;
 use ix_bits::Memory;
-use ix_sheet::{Bound, Node, Problem, arc_of_bound};
+use ix_sheet::{Bound, Problem, arc_of_bound};
 use std::alloc::Global;
 
 // The sum of the times.
@@ -22,19 +22,12 @@ fn sum_of_times(times: &[u8]) -> u128
     sum
 }
 
-// The weight of an operation's result in the cost: for how long a cycle of keeping it counts. It is 1 for all.
-fn weight(_node: Node) -> u64
-    ensures { result ≡ weight_of _node }
-{
-    1
-}
-
 // The weight of the result that an edge carries.
-fn weight_along(p: &Problem, edge: (u32, u32)) -> u64
+fn weight_along(p: &Problem, edge: (u32, u32)) -> u8
     requires { edge.0 < length p.now.ops }
     ensures { result ≡ weight_of (node_at p.now edge.0) }
 {
-    weight(p.ops.as_slice()[edge.0 as usize])
+    p.ops.as_slice()[edge.0 as usize].weight
 }
 
 // For how many cycles the result of an edge's start is kept for its end, by its weight.
@@ -44,7 +37,7 @@ fn kept(b: &ReportBlock, edge: (u32, u32)) -> u128
     requires times { length b.now.times ≡ length b.now.problem.ops }
     requires after { IsAfter b.now.problem (times_of b.now) edge }
     ensures is { result ≡ kept_along b.now.problem (times_of b.now) edge }
-    ensures small { result ≤ 255 }
+    ensures small { result ≤ 65025 }
 {
     let times = b.times.as_slice();
     let latency = b.problem.ops.as_slice()[edge.0 as usize].latency;
@@ -103,7 +96,7 @@ fn parts_in(alloc: Global, b: &ReportBlock) -> Result<Vec<(u32, u64)>, Memory>
         parts.push((arc_of_bound(&b.problem, &part.0).to, part.1))?;
     }
     'edges: for edge in b.problem.edges.as_slice() {
-        parts.push((edge.0, weight_along(&b.problem, *edge)))?;
+        parts.push((edge.0, u64::from(weight_along(&b.problem, *edge))))?;
     }
     Ok(parts)
 }
@@ -119,7 +112,7 @@ fn parts_out(alloc: Global, b: &ReportBlock) -> Result<Vec<(u32, u64)>, Memory>
         parts.push((arc_of_bound(&b.problem, &part.0).from, part.1))?;
     }
     'edges: for edge in b.problem.edges.as_slice() {
-        parts.push((edge.1, weight_along(&b.problem, *edge)))?;
+        parts.push((edge.1, u64::from(weight_along(&b.problem, *edge))))?;
     }
     Ok(parts)
 }
@@ -182,17 +175,25 @@ fn downs(b: &ReportBlock) -> u128
     sum
 }
 
+// The latency of an edge, by the weight of the result that it carries.
+fn latency_along(p: &Problem, edge: (u32, u32)) -> u128
+    requires { edge.0 < length p.now.ops }
+    ensures is { result ≡ weight_of (node_at p.now edge.0) * (node_at p.now edge.0).latency }
+    ensures small { result ≤ 65025 }
+{
+    let latency = p.ops.as_slice()[edge.0 as usize].latency;
+    u128::from(weight_along(p, edge)) * u128::from(latency)
+}
+
 // The latencies of the edges.
 fn sum_of_latencies(p: &Problem) -> u128
     requires valid { IsValidProblem p.now }
     ensures is { result ≡ sum_by (λ e. weight_of (node_at p.now e.0) * (node_at p.now e.0).latency) p.now.edges }
     ensures small { result < 20282409603651670423947251286016 }
 {
-    let ops = p.ops.as_slice();
     let mut sum = 0;
     'edges: for edge in p.edges.as_slice() {
-        let latency = ops[edge.0 as usize].latency;
-        sum += u128::from(weight_along(p, *edge)) * u128::from(latency);
+        sum += latency_along(p, *edge);
     }
     sum
 }
