@@ -65,7 +65,7 @@ pub begun : (p : Problem) (t : ℕ → ℕ) (reach : List ℕ) → reach ≡ map
 begun p t reach e =
     let count : length reach ≡ length p.ops = ap (λ (xs : List ℕ). length xs) e ∙ length-map p.ops (λ (node : Node). node.delay) in
     let at : (k : ℕ) → k < length p.ops → get_or reach k 0 ≡ delay_at p k =
-    λ k h. ap (λ (xs : List ℕ). get_or xs k 0) e ∙ get_or-map (λ (node : Node). node.delay) p.ops k (record { delay = 0; latency = 0; weight = 1; early = 0; late = 0 }) 0 h
+    λ k h. ap (λ (xs : List ℕ). get_or xs k 0) e ∙ get_or-map (λ (node : Node). node.delay) p.ops k (record { delay = 0; latency = 0; weight = 0; early = 0; late = 0 }) 0 h
     in
     record {
       count = count;

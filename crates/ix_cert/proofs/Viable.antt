@@ -44,7 +44,7 @@ unfolding kind_words
 add_is = record { kind = Add; register = tt; name = refl }
 
 abbrev no_delay : Node
-no_delay = record { delay = 0; latency = 0; weight = 1; early = 0; late = 0 }
+no_delay = record { delay = 0; latency = 0; weight = 0; early = 0; late = 0 }
 
 abbrev first_op : Item
 first_op = Op (operation 0 (codes "add") no_delay None)

@@ -39,7 +39,7 @@ times_in_form p times s nodes =
     All-from_get_or (λ t. t ≤ 255) times 0
     (λ k h. (let count = s.count in
     let here : k < length p.ops = omega arith in
-    early_time (slice_index times k) (node_at p k).late (s.legal.windows k here).1 (All-get_or IsNodeInForm p.ops k (record { delay = 0; latency = 0; early = 0; late = 0 }) here nodes).late))
+    early_time (slice_index times k) (node_at p k).late (s.legal.windows k here).1 (All-get_or IsNodeInForm p.ops k (record { delay = 0; latency = 0; weight = 0; early = 0; late = 0 }) here nodes).late))
 
 few_ops : (n m : ℕ) → n ≡ m → m ≤ 256 → n ≤ 65536
 few_ops n m e h = omega arith

@@ -8,7 +8,7 @@ abbrev none_name : List ℕ
 none_name = []
 
 abbrev none_node : Node
-none_node = record { delay = 0; latency = 0; weight = 1; early = 0; late = 0 }
+none_node = record { delay = 0; latency = 0; weight = 0; early = 0; late = 0 }
 
 pub loop-place-preserved : goal.loop-place-preserved
 loop-place-preserved c = record {
