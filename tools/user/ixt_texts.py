@@ -449,13 +449,15 @@ def source_text(source, address):
 
 
 class Operation:
-    """An operation of a behaviour; `time` is None where the behaviour has no schedule."""
+    """An operation of a behaviour; `time` is None where the behaviour has no schedule, and
+    `weight` is what it costs to keep the result for one time: 1, or its width in bits."""
 
-    __slots__ = ("number", "kind", "delay", "latency", "early", "late", "time")
+    __slots__ = ("number", "kind", "delay", "latency", "weight", "early", "late", "time")
 
     def __init__(self, numbers, kind):
         self.kind = kind
-        self.number, self.delay, self.latency, self.early, self.late, self.time = numbers
+        self.number, self.delay, self.latency, self.weight, *times = numbers
+        self.early, self.late, self.time = times
 
 
 class Bound(NamedTuple):
@@ -468,11 +470,12 @@ class Bound(NamedTuple):
 
 
 class Behaviour:
-    """A behaviour of a report."""
+    """A behaviour of a report; `weighted` says whether its operations have widths."""
 
-    def __init__(self, name, mode):
+    def __init__(self, name, mode, weighted):
         self.name = name
         self.mode = mode
+        self.weighted = weighted
         self.operations = []
         self.edges = []
         self.cost = None
@@ -489,9 +492,11 @@ class Report(NamedTuple):
 
 
 OPERATION_LINE = re.compile(
-    r"op (\d+) ([A-Za-z0-9.]+) delay (\d+) latency (\d+) early (\d+) late (\d+)(?: time (\d+))?",
+    r"op (\d+) ([A-Za-z0-9.]+) delay (\d+) latency (\d+)(?: width (\d+))?"
+    r" early (\d+) late (\d+)(?: time (\d+))?",
     re.ASCII,
 )
+HEADS = ["longnail report 1", "longnail report 2"]
 MODES = ["InPipeline", "Tight", "Decoupled", "Always", "none"]
 BOUND_SIZES = {"early": (1, 1), "late": (1, 1), "dep": (2, 2), "chain": (1, None)}
 
@@ -504,8 +509,9 @@ def parse_report(lines, name):
     refusal = lines[0] if start else ""
     if refusal and len(lines) == 1:
         raise BadInput(f"{name}: there is no report, the program refused: {shown(refusal)}")
-    if lines[start : start + 1] != ["longnail report 1"]:
-        raise BadInput(f"{name}, line {start + 1}: a report starts with `longnail report 1`")
+    if len(lines) <= start or lines[start] not in HEADS:
+        raise BadInput(f"{name}, line {start + 1}: a report starts with `{HEADS[0]}` or `.. 2`")
+    weighted = lines[start] == HEADS[1]
     form = re.fullmatch(
         r"period (\d{1,7})", lines[start + 1] if len(lines) > start + 1 else "", re.ASCII
     )
@@ -514,7 +520,7 @@ def parse_report(lines, name):
     behaviours, open_one = [], None
     for place, line in enumerate(lines[start + 2 :], start + 3):
         if open_one is None:
-            open_one = behaviour_head(line, place, name)
+            open_one = behaviour_head(line, weighted, place, name)
         elif line == "end":
             behaviours.append(whole_behaviour(open_one, place, name))
             open_one = None
@@ -525,11 +531,11 @@ def parse_report(lines, name):
     return Report(int(form[1]), behaviours, refusal)
 
 
-def behaviour_head(line, place, name):
+def behaviour_head(line, weighted, place, name):
     words = line.split(" ")
     if len(words) != 3 or words[0] != "behaviour" or words[2] not in MODES:
         raise BadInput(f"{name}, line {place}: {shown(line)} starts no behaviour")
-    return Behaviour(words[1], words[2])
+    return Behaviour(words[1], words[2], weighted)
 
 
 def behaviour_line(behaviour, line, place, name):
@@ -583,11 +589,15 @@ def add_operation(behaviour, form, fault):
     if (
         not form
         or int(form[1]) != len(behaviour.operations)
-        or (form[7] is None) != (behaviour.mode == "none")
+        or (form[5] is not None) != behaviour.weighted
+        or (form[8] is None) != (behaviour.mode == "none")
     ):
         raise fault
-    numbers = [int(form[at]) if form[at] is not None else None for at in (1, 3, 4, 5, 6, 7)]
+    numbers = [int(form[at]) if form[at] is not None else None for at in (1, 3, 4, 5, 6, 7, 8)]
     if any(it is not None and it > 255 for it in numbers[2:]):
+        raise fault
+    numbers[3] = 1 if numbers[3] is None else numbers[3]
+    if not 1 <= numbers[3] <= 128:
         raise fault
     kind = form[2]
     if kind.partition(".")[0] not in CORE_KINDS + WIRE_KINDS + GATE_KINDS:

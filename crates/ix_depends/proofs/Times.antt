@@ -117,7 +117,7 @@ module _ (g : Graph) (sheet : Sheet) (mode : Mode) (valid : IsValidGraph g) (rig
   node_is k op l =
       let both = length-zip g.ops g.spawned in
       let flags = valid.flags in
-      get_or-map (node_of sheet mode) (zip g.ops g.spawned) k (op, true) (record { delay = 0; latency = 0; weight = 1; early = 0; late = 0 }) (omega arith)
+      get_or-map (node_of sheet mode) (zip g.ops g.spawned) k (op, true) (record { delay = 0; latency = 0; weight = 0; early = 0; late = 0 }) (omega arith)
       ∙ ap (node_of sheet mode) (get_or-zip g.ops g.spawned k (op, true) l (omega arith))
 
   node_of_op : (k : ℕ) (o : Op) → slice_get g.ops k ≡ Some o → node_at (problem_of g sheet mode) k ≡ node_of sheet mode (o, get_or g.spawned k true)

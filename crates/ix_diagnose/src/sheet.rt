@@ -6,12 +6,16 @@ pub(crate) fn sheet_sentence(kind: &str, name: &str) -> &'static str {
             "the file is no TOML: write a line `KEY = VALUE` for each key, once, texts in quotes, and the headers `[delay]` and `[window]`"
         }
         "Key" => {
-            "no such key stands at the top: write `core`, `period` and the tables `[delay]` and `[window]` alone"
+            "no such key stands at the top: write `core`, `period`, `lifetime` and the tables `[delay]` and `[window]` alone"
         }
-        "Core" =>
-            "no known core is named: write `core = \"three\"`, `core = \"four\"` or `core = \"five\"`",
+        "Core" => {
+            "no core that this command has is named: write `core = \"three\"`, `core = \"four\"` or `core = \"five\"`; `schedule` and `build` take `\"three_f\"` and `\"five_f\"` too"
+        }
         "Number" if name == "period" => {
             "there is no period, or it is not a whole number from 1 to 1000000: write one, as `period = 1000`"
+        }
+        "Number" if name == "lifetime" => {
+            "no such way to count lifetimes: write `lifetime = \"unit\"` or `lifetime = \"width\"`"
         }
         "Number" => {
             "this value is of the wrong form: write a whole number from 0 to 1000000 under `[delay]`, and two, as `[2, 4]`, under `[window]`"

@@ -110,7 +110,7 @@ problem_wider g sheet valid = record {
   edges_are = refl;
   period_is = refl;
   count_is = length-map (zip g.ops g.spawned) (node_of sheet Tight) ∙ sym (length-map (zip g.ops g.spawned) (node_of sheet InPipeline));
-  nodes = λ k. nodes_wider sheet (zip g.ops g.spawned) k (record { delay = 0; latency = 0; early = 0; late = 0 }) valid;
+  nodes = λ k. nodes_wider sheet (zip g.ops g.spawned) k (record { delay = 0; latency = 0; weight = 0; early = 0; late = 0 }) valid;
 }
 
 -- what has a schedule in the pipeline has one that waits

@@ -6,10 +6,10 @@ ghost use Rattle.ix_sheet.specs.Behaviours.{node_of, names_op, edges_into, edges
 
 use ix_bits::{List, Memory};
 use ix_graph::{Arg, Graph, Mode, Op, kind_place};
-use ix_sheet::{Node, Problem, Sheet, latency, mode_window};
+use ix_sheet::{Node, Problem, Sheet, latency, mode_window, weight};
 use std::alloc::Global;
 
-/// The problem of a valid graph in a mode, by a datasheet: each operation has the sheet's delay, its latency (in times) and the
+/// The problem of a valid graph in a mode, by a datasheet: each operation has the sheet's delay, its latency (in times), its weight and the
 /// window of the mode, which may be empty; there is an edge (from, to) exactly where `from` is an argument of `to`, by their
 /// end and then by their start.
 pub fn problem_of(
@@ -37,6 +37,7 @@ fn node_for(sheet: &Sheet, mode: Mode, op: &Op, spawned: bool) -> Node
     Node {
         delay: sheet.delay[kind_place(&op.kind) as usize],
         latency: latency(sheet.shape, &op.kind),
+        weight: weight(sheet, op),
         early,
         late,
     }

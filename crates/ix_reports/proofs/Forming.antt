@@ -24,8 +24,8 @@ use Rattle.ix_sheet.specs.declared.problem.Problem.{Problem}
 use Rattle.ix_sheet.specs.Sheets.{IsValidSheet, IsInside, window_at, native_windows_of}
 use Rattle.ix_sheet.specs.Schedules.{IsValidProblem, IsForward, Runs, IsFreePath}
 use Rattle.ix_sheet.specs.Bounds.{IsBoundOf}
-use Rattle.ix_sheet.specs.Behaviours.{latency_of, window_of, last_if_tight, window_in, node_of, problem_of}
-use Rattle.ix_cert.specs.Layout.{IsBoundInForm, AreBelow, IsNodeInForm, IsSmallRegister, IsKindName}
+use Rattle.ix_sheet.specs.Behaviours.{latency_of, window_of, last_if_tight, weight_by, window_in, node_of, problem_of}
+use Rattle.ix_cert.specs.Layout.{IsBoundInForm, AreBelow, IsNodeInForm, IsWeight, HasWeight, IsSmallRegister, IsKindName}
 use Rattle.ix_reports.specs.Blocks.{kind_text}
 
 -- ---- bounds
@@ -162,6 +162,17 @@ unfolding problem_of
 nodes_in_form g sheet mode valid =
     All-map IsNodeInForm (node_of sheet mode) (zip g.ops g.spawned)
     (all_of (λ e. IsNodeInForm (node_of sheet mode e)) (λ e. node_in_form sheet mode e valid) (zip g.ops g.spawned))
+
+-- a weight is a width, or 1
+weight_in_form : (weighted : Bool) (op : Op) → IsWeight weighted (weight_by weighted op)
+weight_in_form true op = (op.ty.some_width, op.ty.most_width)
+weight_in_form false op = refl
+
+pub weights_in_form : (g : Graph) (sheet : Sheet) (mode : Mode) → All (HasWeight sheet.weighted) (problem_of g sheet mode).ops
+unfolding problem_of
+weights_in_form g sheet mode =
+    All-map (HasWeight sheet.weighted) (node_of sheet mode) (zip g.ops g.spawned)
+    (all_of (λ e. HasWeight sheet.weighted (node_of sheet mode e)) (λ e. weight_in_form sheet.weighted e.0) (zip g.ops g.spawned))
 
 pub count_of_nodes : (g : Graph) (sheet : Sheet) (mode : Mode) → IsValidGraph g → length (problem_of g sheet mode).ops ≡ length g.ops
 unfolding problem_of

@@ -21,7 +21,7 @@ use Rattle.ix_cert.specs.declared.report.ReportBlock.{ReportBlock}
 use Rattle.ix_cert.specs.Layout.{IsName, IsNodeInForm, IsBoundInForm, IsPartInForm, HasCertificate, IsBlockInForm}
 use Rattle.ix_reports.specs.Blocks.{kind_text, IsSound}
 use Rattle.ix_reports.proofs.Faultless.{schedule_faultless, cycle_faultless}
-use Rattle.ix_reports.proofs.Forming.{bound_in_form, nodes_in_form, count_of_nodes, period_of_problem, kinds_in_form}
+use Rattle.ix_reports.proofs.Forming.{bound_in_form, nodes_in_form, weights_in_form, count_of_nodes, period_of_problem, kinds_in_form}
 
 parts_in_form : (p : Problem) (flow : Flow) → IsValidProblem p → All (λ c. IsBoundOf p c.0) flow → All (λ c. 0 < c.1) flow → AreWords flow
     → All (IsPartInForm (length p.ops)) flow
@@ -39,14 +39,14 @@ times_in_form p times s nodes =
     All-from_get_or (λ t. t ≤ 255) times 0
     (λ k h. (let count = s.count in
     let here : k < length p.ops = omega arith in
-    early_time (slice_index times k) (node_at p k).late (s.legal.windows k here).1 (All-get_or IsNodeInForm p.ops k (record { delay = 0; latency = 0; early = 0; late = 0 }) here nodes).late))
+    early_time (slice_index times k) (node_at p k).late (s.legal.windows k here).1 (All-get_or IsNodeInForm p.ops k (record { delay = 0; latency = 0; weight = 0; early = 0; late = 0 }) here nodes).late))
 
 few_ops : (n m : ℕ) → n ≡ m → m ≤ 256 → n ≤ 65536
 few_ops n m e h = omega arith
 
 -- a block over the problem of a behaviour, with a certificate in form
 form_over : (g : Graph) (sheet : Sheet) (mode : Mode) (p : Problem) (b : ReportBlock) → ProblemLaw → IsValidGraph g → IsValidSheet sheet → p ≡ problem_of g sheet mode
-    → AreEdges g.ops p.edges → b.problem ≡ p → IsName b.name → b.kinds ≡ map kind_text g.ops → HasCertificate b b.mode → IsBlockInForm sheet.period b
+    → AreEdges g.ops p.edges → b.problem ≡ p → IsName b.name → b.kinds ≡ map kind_text g.ops → HasCertificate b b.mode → IsBlockInForm sheet.weighted sheet.period b
 form_over g sheet mode p b law valid good problem_is edges_are is named kinds_are certificate =
     let all : b.problem ≡ problem_of g sheet mode = is ∙ problem_is in
     let sound : IsValidProblem (problem_of g sheet mode) = law g sheet mode valid in
@@ -58,6 +58,7 @@ form_over g sheet mode p b law valid good problem_is edges_are is named kinds_ar
       count = ap length kinds_are ∙ length-map g.ops kind_text ∙ sym here;
       kinds = rw kinds_are (kinds_in_form g valid);
       nodes = rw all (nodes_in_form g sheet mode good);
+      weights = rw all (weights_in_form g sheet mode);
       edges = rw all sound.forward;
       ordered = rw is edges_are.order;
       period_is = ap (λ (q : Problem). q.period) all ∙ period_of_problem g sheet mode;
@@ -66,7 +67,7 @@ form_over g sheet mode p b law valid good problem_is edges_are is named kinds_ar
 
 pub sound_schedule : (g : Graph) (sheet : Sheet) (block : Bool) (s : Scheduled) (kinds : List (List ℕ)) (name : List ℕ) → ProblemLaw → IsValidGraph g → IsValidSheet sheet
     → IsScheduled g sheet block s → IsName name → kinds ≡ map kind_text g.ops → s.cost < 2 ^ 64
-    → IsSound sheet.period (record { name = name; mode = Some s.mode; kinds = kinds; problem = s.problem; times = s.times; cost = s.cost; flow = s.flow; cycle = [] })
+    → IsSound sheet.weighted sheet.period (record { name = name; mode = Some s.mode; kinds = kinds; problem = s.problem; times = s.times; cost = s.cost; flow = s.flow; cycle = [] })
 sound_schedule g sheet block s kinds name law valid good h named kinds_are cost_small =
     let sound : IsValidProblem (problem_of g sheet s.mode) = law g sheet s.mode valid in
     let here : IsValidProblem s.problem = rw h.problem_is sound in
@@ -86,7 +87,7 @@ some_bounds p cycle h e =
 
 pub sound_cycle : (g : Graph) (sheet : Sheet) (block : Bool) (p : Problem) (cycle : List Bound) (kinds : List (List ℕ)) (name : List ℕ) → ProblemLaw → IsValidGraph g → IsValidSheet sheet
     → IsUnschedulable g sheet block p cycle → IsName name → kinds ≡ map kind_text g.ops
-    → IsSound sheet.period (record { name = name; mode = None; kinds = kinds; problem = p; times = []; cost = 0; flow = []; cycle = cycle })
+    → IsSound sheet.weighted sheet.period (record { name = name; mode = None; kinds = kinds; problem = p; times = []; cost = 0; flow = []; cycle = cycle })
 sound_cycle g sheet block p cycle kinds name law valid good h named kinds_are =
     let sound : IsValidProblem (problem_of g sheet h.widest) = law g sheet h.widest valid in
     let here : IsValidProblem p = rw h.problem_is sound in

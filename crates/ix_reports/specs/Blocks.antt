@@ -1,5 +1,5 @@
 -- What a report says of a behaviour (this project's choice).
-use Rattle.std.specs.Prelude.{◌≡◌, ℕ, List, [], map, Some, None}
+use Rattle.std.specs.Prelude.{◌≡◌, ℕ, Bool, if◌then◌else◌, List, [], map, Some, None}
 use Rattle.ix_graph.specs.declared.graph.Graph.{Graph}
 use Rattle.ix_graph.specs.declared.graph.Op.{Op}
 use Rattle.ix_graph.specs.Kinds.{printed_name}
@@ -36,7 +36,11 @@ pub record SaysNone (name : List ℕ) (g : Graph) (p : Problem) (cycle : List Bo
   pub no_flow : b.flow ≡ []
   pub cycle_is : b.cycle ≡ cycle
 
--- it has the form of a report over this period, and the check of a report finds no fault in it, wherever it stands
-pub record IsSound (period : ℕ) (b : ReportBlock) : Type 0 where
-  pub in_form : IsBlockInForm period b
+-- the version of reports: 2 where lifetimes are weighed by width, else 1
+abbrev pub version_by : Bool → ℕ
+version_by weighted = if weighted then 2 else 1
+
+-- it has the form of a report over this period whose operations have weights or have none, and the check of a report finds no fault in it, wherever it stands
+pub record IsSound (weighted : Bool) (period : ℕ) (b : ReportBlock) : Type 0 where
+  pub in_form : IsBlockInForm weighted period b
   pub faultless : (first : ℕ) → HasNoFault (steps_in b.mode b first)

@@ -3,7 +3,7 @@ ghost use Rattle.ix_graph.specs.Graphs.{IsValidGraph};
 ghost use Rattle.ix_sheet.specs.Sheets.{IsValidSheet};
 ghost use Rattle.ix_modes.specs.Modes.{IsScheduled, IsUnschedulable};
 ghost use Rattle.ix_cert.specs.Layout.{IsName};
-ghost use Rattle.ix_reports.specs.Blocks.{kind_text, SaysSchedule, SaysNone, IsSound};
+ghost use Rattle.ix_reports.specs.Blocks.{kind_text, version_by, SaysSchedule, SaysNone, IsSound};
 
 use ix_bits::{List, Memory, Name};
 use ix_cert::ReportBlock;
@@ -11,6 +11,13 @@ use ix_graph::{Graph, Op, kind_name};
 use ix_modes::Scheduled;
 use ix_sheet::{Bound, Problem, Sheet, problem_law};
 use std::alloc::Global;
+
+/// The version of the reports by a datasheet: 2 where it weighs lifetimes by width, so that operations have weights, else 1.
+pub fn version(sheet: &Sheet) -> u8
+    ensures { result ≡ version_by sheet.now.weighted }
+{
+    if sheet.weighted { 2 } else { 1 }
+}
 
 // The printed kinds of operations.
 fn kinds_of(alloc: Global, ops: &[Op]) -> Result<List<Name>, Memory>
@@ -38,7 +45,7 @@ pub fn scheduled_block(
     requires sheet { IsValidSheet sheet.now }
     requires scheduled { IsScheduled graph.now sheet.now block scheduled }
     ensures says { IfOk result (SaysSchedule name graph.now scheduled) }
-    ensures sound { IfOk result (IsSound sheet.now.period) }
+    ensures sound { IfOk result (IsSound sheet.now.weighted sheet.now.period) }
 {
     problem_law();
     let kinds = kinds_of(alloc, graph.ops.as_slice())?;
@@ -77,7 +84,7 @@ pub fn unscheduled_block(
     requires sheet { IsValidSheet sheet.now }
     requires unschedulable { IsUnschedulable graph.now sheet.now block problem cycle }
     ensures says { IfOk result (SaysNone name graph.now problem cycle) }
-    ensures sound { IfOk result (IsSound sheet.now.period) }
+    ensures sound { IfOk result (IsSound sheet.now.weighted sheet.now.period) }
 {
     problem_law();
     let kinds = kinds_of(alloc, graph.ops.as_slice())?;

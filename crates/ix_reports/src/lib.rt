@@ -3,4 +3,4 @@
 
 mod block;
 
-pub use block::{scheduled_block, unscheduled_block};
+pub use block::{scheduled_block, unscheduled_block, version};

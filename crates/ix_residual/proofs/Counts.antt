@@ -1,18 +1,19 @@
 -- The balances of a problem, counted edge by edge, and how many edges there are.
-use Rattle.std.proofs.Common.{◌≡◌, ℕ, ℤ, pos, neg_ℤ, ◌+ℤ◌, ◌-ℤ◌, ◌≢◌, ◌+◌, ◌*◌, ◌≤◌, ◌<◌, ◌==◌, cond, true, false, List, [], ◌∷◌, ◌++◌, length, map, get_or, set, take, refl, sym, ◌∙◌, ap, arith, ◌⊎◌, inl, inr, length-set, FitsSigned, w64, to_z, of_z}
+use Rattle.std.proofs.Common.{◌≡◌, ℕ, zero, suc, ℤ, pos, neg_ℤ, ◌+ℤ◌, ◌-ℤ◌, ◌≢◌, ◌+◌, ◌*◌, ◌≤◌, ◌<◌, ◌==◌, cond, true, false, List, [], ◌∷◌, ◌++◌, length, map, get_or, set, take, refl, sym, ◌∙◌, ap, arith, ◌⊎◌, inl, inr, length-set, FitsSigned, w64, to_z, of_z}
 use Rattle.std.specs.Prelude.{All, AllPairs, sum_by}
 use Rattle.std.specs.List.{range_with_len}
 use Rattle.std.proofs.lemmas.Int.{ints}
 use Rattle.std.proofs.lemmas.Bool.Decides.{nat_tests, Decides-eqb}
 use Rattle.std.proofs.lemmas.List.{get_or-set_same, get_or-set_other, get_or-map, length-map, take_all, ext_get_or, get_or_append_left, get_or_push, length_push}
-use Rattle.std.proofs.lemmas.List.Elements.{All-contains, All-map}
+use Rattle.std.proofs.lemmas.List.Elements.{All-contains, All-head, All-map, All-tail}
 use Rattle.std.proofs.lemmas.List.FromFn.{get_or-map-range_with_len, length-map-range_with_len}
 use Rattle.std.proofs.lemmas.List.Sums.{sum_by_more}
 use Rattle.std.proofs.lemmas.Map.Made.{IsDistinct-from_AllPairs}
 use Rattle.std.proofs.lemmas.Map.Steps.{length-le_from_distinct_below}
 use Rattle.std.proofs.lemmas.Map.Views.{Contains-from_any}
+use Rattle.ix_sheet.specs.declared.problem.Node.{Node}
 use Rattle.ix_sheet.specs.declared.problem.Problem.{Problem}
-use Rattle.ix_sheet.specs.Schedules.{node_at, weight_of, IsValidProblem}
+use Rattle.ix_sheet.specs.Schedules.{node_at, weight_of, IsWeighed, IsValidProblem}
 use Rattle.ix_sheet.specs.Bounds.{weight_in, weight_out}
 use Rattle.ix_residual.specs.Balances.{balance, balances}
 use Rattle.ix_residual.specs.Counts.{need_to, spare_to, IsCountedTo}
@@ -81,9 +82,14 @@ spare_more : (p : Problem) (i v : ℕ) → i < length p.edges →
     spare_to p (i + 1) v ≡ spare_to p i v + cond ((get_or p.edges i (0, 0)).0 == v) (weight_of (node_at p (get_or p.edges i (0, 0)).0)) 0
 spare_more p i v b = sum_by_more (λ e. cond (e.0 == v) (weight_of (node_at p e.0)) 0) p.edges i (0, 0) b
 
+node_low : (ops : List Node) → All IsWeighed ops → (k : ℕ) → (get_or ops k (record { delay = 0; latency = 0; weight = 0; early = 0; late = 0 })).weight ≤ 128
+node_low [] h k = omega arith
+node_low (x ∷ xs) h zero = (All-head IsWeighed x xs h).1
+node_low (x ∷ xs) h (suc k) = node_low xs (All-tail IsWeighed x xs h) k
+
 -- no weight is above 128
-pub weight_low : (p : Problem) (k : ℕ) → weight_of (node_at p k) ≤ 128
-weight_low p k = omega arith
+pub weight_low : (p : Problem) → IsValidProblem p → (k : ℕ) → weight_of (node_at p k) ≤ 128
+weight_low p valid k = node_low p.ops valid.weights k
 
 part_low : (c : ℕ) (v x : ℕ) → x ≤ 128 → cond (c == v) x 0 ≤ 128
 part_low c v x b =
@@ -115,7 +121,7 @@ counted_more p i old new w valid h b ew en =
     let from : e.0 < length up = omega (arith, h.len) in
     let apart : e.0 ≢ e.1 = omega arith in
     let read : get_or up e.0 (pos 0) ≡ get_or old e.0 (pos 0) = get_or-set_other old e.1 e.0 (get_or old e.1 (pos 0) +ℤ pos w) (pos 0) apart in
-    let low = weight_low p e.0 in
+    let low = weight_low p valid e.0 in
     let at : (v : ℕ) → get_or new v (pos 0) ≡ (get_or old v (pos 0) +ℤ pos (cond (e.1 == v) w 0)) -ℤ pos (cond (e.0 == v) w 0)
     = λ v. rw (en, ← read, taken_off up e.0 v w from, added old e.1 v w to) refl in
     record {

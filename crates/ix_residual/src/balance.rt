@@ -10,10 +10,10 @@ use ix_sheet::{Node, Problem};
 use std::alloc::Global;
 
 /// What it costs to keep an operation's result for one time.
-pub fn weight(_node: Node) -> u64
-    ensures { result ≡ weight_of _node }
+pub fn weight(node: Node) -> u64
+    ensures { result ≡ weight_of node }
 {
-    1
+    u64::from(node.weight)
 }
 
 // each operation needs one, for its own time; the root has these to spare

@@ -1,5 +1,5 @@
 -- The check of a report finds no fault in the text of a report whose parts have none, also behind a line of a refusal.
-use Rattle.std.proofs.Common.{◌≡◌, ◌∙◌, sym, ap, refl, ℕ, ◌+◌, ◌==◌, List, [], ◌∷◌, ◌++◌, append_assoc, true, false, arith}
+use Rattle.std.proofs.Common.{◌≡◌, ◌∙◌, sym, ap, refl, ℕ, suc, ◌+◌, ◌≤◌, ◌==◌, lit≤, Bool, List, [], ◌∷◌, ◌++◌, append_assoc, true, false, arith}
 use Rattle.std.specs.Prelude.{All, codes, nat_lt}
 use Rattle.std.specs.List.{list_all, flat_map, slice_split}
 use Rattle.std.proofs.lemmas.Bool.{and_parts}
@@ -12,12 +12,12 @@ use Rattle.ix_sheet.specs.declared.sheet.Sheet.{Sheet}
 use Rattle.ix_sheet.specs.Sheets.{IsValidSheet}
 use Rattle.ix_cert.specs.declared.report.Report.{Report}
 use Rattle.ix_cert.specs.declared.report.ReportBlock.{ReportBlock}
-use Rattle.ix_cert.specs.Layout.{Line, IsName, is_letter, is_name_byte, field, block_lines, lines_of, without_last_empty, first_line, behind_refusal, is_refusal, report_lines, IsBlockInForm, IsInForm, IsReportText}
+use Rattle.ix_cert.specs.Layout.{Line, is_weighted, IsName, is_letter, is_name_byte, field, block_lines, lines_of, without_last_empty, first_line, behind_refusal, is_refusal, report_lines, IsBlockInForm, IsInForm, IsReportText}
 use Rattle.ix_cert.specs.Printing.{text_of}
 use Rattle.ix_cert.specs.Faults.{Step, HasNoFault, block_count, steps_in, steps_from}
 use Rattle.ix_cert.specs.Certificates.{IsFaultless}
 use Rattle.ix_cert.proofs.Outcomes.{printed}
-use Rattle.ix_reports.specs.Blocks.{IsSound}
+use Rattle.ix_reports.specs.Blocks.{version_by, IsSound}
 use Rattle.ix_schedules.specs.Scheduling.{behaviours_of, AreReported, IsReport}
 use Rattle.ix_schedules.specs.ScheduleText.{no_schedule_line, alone}
 
@@ -26,43 +26,53 @@ no_fault_join : (xs ys : List Step) → HasNoFault xs → HasNoFault ys → HasN
 no_fault_join [] ys a b = b
 no_fault_join (x ∷ xs) ys a b = (a.0, no_fault_join xs ys a.1 b)
 
-no_fault_from : (period : ℕ) (bs : List ReportBlock) (first : ℕ) → All (IsSound period) bs → HasNoFault (steps_from bs first)
-no_fault_from period [] first a = tt
-no_fault_from period (b ∷ bs) first a =
-    no_fault_join (steps_in b.mode b first) (steps_from bs (first + block_count b)) ((All-head (IsSound period) b bs a).faultless first) (no_fault_from period bs (first + block_count b) (All-tail (IsSound period) b bs a))
+no_fault_from : (weighted : Bool) (period : ℕ) (bs : List ReportBlock) (first : ℕ) → All (IsSound weighted period) bs → HasNoFault (steps_from bs first)
+no_fault_from weighted period [] first a = tt
+no_fault_from weighted period (b ∷ bs) first a =
+    no_fault_join (steps_in b.mode b first) (steps_from bs (first + block_count b)) ((All-head (IsSound weighted period) b bs a).faultless first) (no_fault_from weighted period bs (first + block_count b) (All-tail (IsSound weighted period) b bs a))
 
-in_form : (period : ℕ) (bs : List ReportBlock) → All (IsSound period) bs → All (IsBlockInForm period) bs
-in_form period [] a = All-nil (IsBlockInForm period)
-in_form period (b ∷ bs) a = All-cons (IsBlockInForm period) b bs (All-head (IsSound period) b bs a).in_form (in_form period bs (All-tail (IsSound period) b bs a))
+in_form : (weighted : Bool) (period : ℕ) (bs : List ReportBlock) → All (IsSound weighted period) bs → All (IsBlockInForm weighted period) bs
+in_form weighted period [] a = All-nil (IsBlockInForm weighted period)
+in_form weighted period (b ∷ bs) a = All-cons (IsBlockInForm weighted period) b bs (All-head (IsSound weighted period) b bs a).in_form (in_form weighted period bs (All-tail (IsSound weighted period) b bs a))
 
-sound_each : (x : ExtensionTree) (sheet : Sheet) (ws : List Which) (bs : List ReportBlock) → AreReported x sheet ws bs → All (IsSound sheet.period) bs
-sound_each x sheet [] [] r = All-nil (IsSound sheet.period)
+sound_each : (x : ExtensionTree) (sheet : Sheet) (ws : List Which) (bs : List ReportBlock) → AreReported x sheet ws bs → All (IsSound sheet.weighted sheet.period) bs
+sound_each x sheet [] [] r = All-nil (IsSound sheet.weighted sheet.period)
 sound_each x sheet [] (b ∷ bs) r = absurd r
 sound_each x sheet (w ∷ ws) [] r = absurd r
-sound_each x sheet (w ∷ ws) (b ∷ bs) r = All-cons (IsSound sheet.period) b bs r.0.said.sound (sound_each x sheet ws bs r.1)
+sound_each x sheet (w ∷ ws) (b ∷ bs) r = All-cons (IsSound sheet.weighted sheet.period) b bs r.0.said.sound (sound_each x sheet ws bs r.1)
 
-report_form : (sheet : Sheet) (r : Report) → IsValidSheet sheet → r.period ≡ sheet.period → All (IsSound sheet.period) r.blocks → IsInForm r
-report_form sheet r good e a = record {
+version_low : (weighted : Bool) → (1 ≤ version_by weighted) × (version_by weighted ≤ 2)
+version_low true = (lit≤ tt, lit≤ tt)
+version_low false = (lit≤ tt, lit≤ tt)
+
+version_tells : (weighted : Bool) → is_weighted (version_by weighted) ≡ weighted
+version_tells true = refl
+version_tells false = refl
+
+report_form : (sheet : Sheet) (r : Report) → IsValidSheet sheet → r.version ≡ version_by sheet.weighted → r.period ≡ sheet.period → All (IsSound sheet.weighted sheet.period) r.blocks → IsInForm r
+report_form sheet r good v e a = record {
+  some_version = rw v (version_low sheet.weighted).0;
+  most_version = rw v (version_low sheet.weighted).1;
   some_period = rw e good.some_period;
   most_period = rw e good.most_period;
-  blocks = rw e (in_form sheet.period r.blocks a);
+  blocks = rw (v, e, version_tells sheet.weighted) (in_form sheet.weighted sheet.period r.blocks a);
 }
 
 pub report_in_form : (x : ExtensionTree) (sheet : Sheet) (r : Report) → IsValidSheet sheet → IsReport x sheet r → IsInForm r
-report_in_form x sheet r good h = report_form sheet r good h.period_is (sound_each x sheet (behaviours_of x) r.blocks h.reported)
+report_in_form x sheet r good h = report_form sheet r good h.version_is h.period_is (sound_each x sheet (behaviours_of x) r.blocks h.reported)
 
 pub report_faultless : (x : ExtensionTree) (sheet : Sheet) (r : Report) (text : List ℕ) → IsReport x sheet r → IsReportText text r → IsFaultless text
 report_faultless x sheet r text h t = record {
   report = r;
   text = t;
-  faultless = no_fault_from sheet.period r.blocks (first_line (lines_of text) + 2) (sound_each x sheet (behaviours_of x) r.blocks h.reported);
+  faultless = no_fault_from sheet.weighted sheet.period r.blocks (first_line (lines_of text) + 2) (sound_each x sheet (behaviours_of x) r.blocks h.reported);
 }
 
-one_sound : (sheet : Sheet) (b : ReportBlock) → IsSound sheet.period b → All (IsSound sheet.period) (b ∷ [])
-one_sound sheet b s = All-cons (IsSound sheet.period) b [] s (All-nil (IsSound sheet.period))
+one_sound : (sheet : Sheet) (b : ReportBlock) → IsSound sheet.weighted sheet.period b → All (IsSound sheet.weighted sheet.period) (b ∷ [])
+one_sound sheet b s = All-cons (IsSound sheet.weighted sheet.period) b [] s (All-nil (IsSound sheet.weighted sheet.period))
 
-pub alone_in_form : (sheet : Sheet) (b : ReportBlock) → IsValidSheet sheet → IsSound sheet.period b → IsInForm (alone sheet b)
-alone_in_form sheet b good s = report_form sheet (alone sheet b) good refl (one_sound sheet b s)
+pub alone_in_form : (sheet : Sheet) (b : ReportBlock) → IsValidSheet sheet → IsSound sheet.weighted sheet.period b → IsInForm (alone sheet b)
+alone_in_form sheet b good s = report_form sheet (alone sheet b) good refl refl (one_sound sheet b s)
 
 -- ---- behind a line of a refusal
 no_feed_byte : (b : ℕ) → nat_lt 10 b ≡ true → (b == 10) ≡ false
@@ -105,20 +115,26 @@ lines_behind n text h =
     ∙ ap without_last_empty (slice_split_at (λ b. b == 10) l 10 text (no_feed l (line_plain n h)) refl)
     ∙ some_line n (slice_split (λ b. b == 10) text)
 
-abbrev title : Line
-title = codes "longnail report 1"
+abbrev title : ℕ → Line
+title version = codes "longnail report" ++ field version
 
-first_is_title : (rest : List ℕ) → lines_of ((title ++ 10 ∷ []) ++ rest) ≡ title ∷ without_last_empty (slice_split (λ b. b == 10) rest)
-first_is_title rest =
-    ap lines_of (append_assoc title (10 ∷ []) rest)
-    ∙ ap without_last_empty (slice_split_at (λ b. b == 10) title 10 rest (no_feed title refl) refl)
+title_plain : (version : ℕ) → 1 ≤ version → version ≤ 2 → list_all (nat_lt 10) (title version) ≡ true
+title_plain 0 a b = absurd (omega arith)
+title_plain 1 a b = refl
+title_plain 2 a b = refl
+title_plain (suc (suc (suc n))) a b = absurd (omega arith)
+
+first_is_title : (version : ℕ) (rest : List ℕ) → 1 ≤ version → version ≤ 2 → lines_of ((title version ++ 10 ∷ []) ++ rest) ≡ title version ∷ without_last_empty (slice_split (λ b. b == 10) rest)
+first_is_title version rest a b =
+    ap lines_of (append_assoc (title version) (10 ∷ []) rest)
+    ∙ ap without_last_empty (slice_split_at (λ b. b == 10) (title version) 10 rest (no_feed (title version) (title_plain version a b)) refl)
 
 -- the lines of a report's text are those of the report
 lines_are : (r : Report) → IsInForm r → lines_of (text_of (report_lines r)) ≡ report_lines r
 lines_are r f =
-    let rest = text_of ((codes "period" ++ field r.period) ∷ flat_map block_lines r.blocks) in
+    let rest = text_of ((codes "period" ++ field r.period) ∷ flat_map (block_lines (is_weighted r.version)) r.blocks) in
     let t = printed (text_of (report_lines r)) r f refl in
-    let first : lines_of (text_of (report_lines r)) ≡ title ∷ without_last_empty (slice_split (λ b. b == 10) rest) = first_is_title rest in
+    let first : lines_of (text_of (report_lines r)) ≡ title r.version ∷ without_last_empty (slice_split (λ b. b == 10) rest) = first_is_title r.version rest f.some_version f.most_version in
     first ∙ ap behind_refusal (sym first) ∙ t.lines
 
 refusal_behind : (l : Line) (ls : List Line) → is_refusal l ≡ true → behind_refusal (l ∷ ls) ≡ ls
@@ -131,11 +147,11 @@ report_behind n r h f = record {
   in_form = f;
 }
 
-pub behind_faultless : (sheet : Sheet) (b : ReportBlock) (text : List ℕ) → IsValidSheet sheet → IsSound sheet.period b → text ≡ (no_schedule_line b.name ++ 10 ∷ []) ++ text_of (report_lines (alone sheet b)) → IsFaultless text
+pub behind_faultless : (sheet : Sheet) (b : ReportBlock) (text : List ℕ) → IsValidSheet sheet → IsSound sheet.weighted sheet.period b → text ≡ (no_schedule_line b.name ++ 10 ∷ []) ++ text_of (report_lines (alone sheet b)) → IsFaultless text
 behind_faultless sheet b text good s e = rw e (record {
   report = alone sheet b;
   text = report_behind b.name (alone sheet b) s.in_form.named (alone_in_form sheet b good s);
-  faultless = no_fault_from sheet.period (b ∷ []) (first_line (lines_of ((no_schedule_line b.name ++ 10 ∷ []) ++ text_of (report_lines (alone sheet b)))) + 2) (one_sound sheet b s);
+  faultless = no_fault_from sheet.weighted sheet.period (b ∷ []) (first_line (lines_of ((no_schedule_line b.name ++ 10 ∷ []) ++ text_of (report_lines (alone sheet b)))) + 2) (one_sound sheet b s);
 })
 
 -- the line with the report behind it, by their parts

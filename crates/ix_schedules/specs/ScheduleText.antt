@@ -8,6 +8,7 @@ use Rattle.ix_cert.specs.declared.report.ReportBlock.{ReportBlock}
 use Rattle.ix_cert.specs.Layout.{report_lines}
 use Rattle.ix_cert.specs.Printing.{text_of}
 use Rattle.ix_cert.specs.Certificates.{IsFaultless}
+use Rattle.ix_reports.specs.Blocks.{version_by}
 use Rattle.ix_schedules.specs.Scheduling.{behaviours_of, name_at, IsReport, IsTooLarge, IsSchedulable, IsWithout, AtFirst}
 use Rattle.ix_schedules.specs.declared.text.TextErr.{TextErr}
 use Rattle.ix_schedules.specs.declared.text.TextErr.TheVariants.{TooManyOps, NoSchedule, Memory}
@@ -32,7 +33,7 @@ pub record IsTooManyText (x : ExtensionTree) (text : List ℕ) (w : Which) : Typ
   pub printed : text ≡ too_many_line (name_at x w) ++ 10 ∷ []
 
 abbrev pub alone : Sheet → ReportBlock → Report
-alone sheet b = record { period = sheet.period; blocks = b ∷ [] }
+alone sheet b = record { version = version_by sheet.weighted; period = sheet.period; blocks = b ∷ [] }
 
 -- the behaviour has no legal schedule in its widest windows; the text is the line that names it, and the report of it alone, in whose
 -- cycle the check of a report finds no fault

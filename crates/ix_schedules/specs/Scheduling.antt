@@ -15,7 +15,7 @@ use Rattle.ix_modes.specs.Modes.{IsScheduled, FitsWidest, IsUnschedulable}
 use Rattle.ix_cert.specs.declared.report.Report.{Report}
 use Rattle.ix_cert.specs.declared.report.ReportBlock.{ReportBlock}
 use Rattle.ix_cert.specs.Layout.{IsName}
-use Rattle.ix_reports.specs.Blocks.{SaysSchedule, SaysNone, IsSound}
+use Rattle.ix_reports.specs.Blocks.{version_by, SaysSchedule, SaysNone, IsSound}
 use Rattle.ix_schedules.specs.declared.scheduling.ScheduleErr.{ScheduleErr}
 use Rattle.ix_schedules.specs.declared.scheduling.ScheduleErr.TheVariants.{TooManyOps, NoSchedule, Memory}
 
@@ -32,7 +32,7 @@ pub record IsReportedBy (name : List ℕ) (g : Graph) (sheet : Sheet) (block : B
   pub schedule : IsScheduled g sheet block scheduled
   pub fits : FitsWidest g sheet block
   pub says : SaysSchedule name g scheduled b
-  pub sound : IsSound sheet.period b
+  pub sound : IsSound sheet.weighted sheet.period b
 
 -- no legal schedule is in the widest windows, which the cycle that is said shows
 pub record IsWithoutBy (name : List ℕ) (g : Graph) (sheet : Sheet) (block : Bool) (b : ReportBlock) : Type 0 where
@@ -40,7 +40,7 @@ pub record IsWithoutBy (name : List ℕ) (g : Graph) (sheet : Sheet) (block : Bo
   pub cycle : List Bound
   pub none : IsUnschedulable g sheet block problem cycle
   pub says : SaysNone name g problem cycle b
-  pub sound : IsSound sheet.period b
+  pub sound : IsSound sheet.weighted sheet.period b
 
 -- ---- what becomes of one behaviour of an extension
 pub record IsReported (x : ExtensionTree) (sheet : Sheet) (w : Which) (b : ReportBlock) : Type 0 where
@@ -75,8 +75,9 @@ abbrev pub AtFirst : (Which → Type 0) → (Which → Type 0) → List Which �
 AtFirst Before Here [] = ⊥
 AtFirst Before Here (w ∷ ws) = Here w ⊎ (Before w × AtFirst Before Here ws)
 
--- the report of an extension: what is said of each of its behaviours
+-- the report of an extension, of the version that its sheet's lifetimes have: what is said of each of its behaviours
 pub record IsReport (x : ExtensionTree) (sheet : Sheet) (r : Report) : Type 0 where
+  pub version_is : r.version ≡ version_by sheet.weighted
   pub period_is : r.period ≡ sheet.period
   pub reported : AreReported x sheet (behaviours_of x) r.blocks
 

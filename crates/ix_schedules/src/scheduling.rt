@@ -16,7 +16,7 @@ use ix_flow::FlowErr;
 use ix_graph::Graph;
 use ix_graphs::graph_of;
 use ix_modes::{ModeErr, schedule_of};
-use ix_reports::{scheduled_block, unscheduled_block};
+use ix_reports::{scheduled_block, unscheduled_block, version};
 use ix_sheet::Sheet;
 use ix_tree::Extension;
 use std::alloc::Global;
@@ -157,6 +157,7 @@ pub fn schedule(alloc: Global, ext: &Extension, sheet: &Sheet) -> Result<Report,
     let list = behaviours_in(alloc, ext)?;
     match blocks_of(alloc, ext, sheet, list.as_slice()) {
         Ok(blocks) => Ok(Report {
+            version: version(sheet),
             period: sheet.period,
             blocks,
         }),

@@ -12,6 +12,7 @@ ghost use Rattle.ix_schedules.specs.ScheduleText.{IsScheduleText, IsRefusedText,
 use crate::scheduling::{ScheduleErr, schedule};
 use ix_bits::{List, Memory, Name};
 use ix_cert::{Report, ReportBlock, print_report};
+use ix_reports::version;
 use ix_sheet::Sheet;
 use ix_tree::Extension;
 use std::alloc::Global;
@@ -78,6 +79,7 @@ fn report_alone(alloc: Global, sheet: &Sheet, block: ReportBlock) -> Result<Repo
     let mut blocks = List::new(alloc);
     blocks.push(block)?;
     Ok(Report {
+        version: version(sheet),
         period: sheet.period,
         blocks,
     })
@@ -86,7 +88,7 @@ fn report_alone(alloc: Global, sheet: &Sheet, block: ReportBlock) -> Result<Repo
 // The refusal of a behaviour that has no schedule.
 fn refuse_block(alloc: Global, sheet: &Sheet, block: ReportBlock) -> Result<List<u8>, Memory>
     requires sheet { IsValidSheet sheet.now }
-    requires sound { IsSound sheet.now.period block }
+    requires sound { IsSound sheet.now.weighted sheet.now.period block }
     ensures text { IfOk result (λ text. text ≡ text_of (no_schedule_line block.name ∷ report_lines (alone sheet.now block))) }
     ensures faultless { IfOk result IsFaultless }
 {

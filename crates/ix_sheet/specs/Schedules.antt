@@ -6,7 +6,7 @@ use Rattle.ix_sheet.specs.declared.problem.Problem.{Problem}
 
 -- the operation of a number
 abbrev pub node_at : Problem → ℕ → Node
-node_at p k = slice_index_or p.ops k (record { delay = 0; latency = 0; weight = 1; early = 0; late = 0 })
+node_at p k = slice_index_or p.ops k (record { delay = 0; latency = 0; weight = 0; early = 0; late = 0 })
 
 -- what it costs to keep an operation's result for one time
 abbrev pub weight_of : Node → ℕ

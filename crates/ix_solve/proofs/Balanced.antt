@@ -169,7 +169,7 @@ even_balances p valid =
     let ins : sum_below (weight_in p) n ≡ sum_by (λ (e : ℕ × ℕ). weight_of (node_at p e.0)) p.edges = below-amounts (λ (e : ℕ × ℕ). e.1) (λ (e : ℕ × ℕ). weight_of (node_at p e.0)) n p.edges (λ k d b. (valid.forward k d b).1) in
     let outs : sum_below (weight_out p) n ≡ sum_by (λ (e : ℕ × ℕ). weight_of (node_at p e.0)) p.edges
     = below-amounts (λ (e : ℕ × ℕ). e.0) (λ (e : ℕ × ℕ). weight_of (node_at p e.0)) n p.edges (λ k d b. (let f = valid.forward k d b in omega arith)) in
-    let total = sum_by-le (λ (e : ℕ × ℕ). weight_of (node_at p e.0)) 128 p.edges (λ k d b. weight_low p (get_or p.edges k d).0) in
+    let total = sum_by-le (λ (e : ℕ × ℕ). weight_of (node_at p e.0)) 128 p.edges (λ k d b. weight_low p valid (get_or p.edges k d).0) in
     let few = few_edges p valid in
     let few_ops = valid.few in
     let ones = below-ones n in

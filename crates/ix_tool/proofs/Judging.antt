@@ -1,5 +1,5 @@
 -- What the refusal of a file's text says.
-use Rattle.std.proofs.Common.{◌≡◌, ◌≢◌, ℕ, ◌<◌, List, [], ◌∷◌, ◌++◌, ◌∙◌, append_assoc, length, Option, Some, inl, inr, refl, sym, subst, Result, Ok, Err}
+use Rattle.std.proofs.Common.{◌≡◌, ◌≢◌, ℕ, ◌<◌, true, List, [], ◌∷◌, ◌++◌, ◌∙◌, append_assoc, length, Option, Some, inl, inr, refl, sym, subst, Result, Ok, Err}
 use Rattle.std.specs.Prelude.{IfSome, codes, string_bytes, String}
 use Rattle.std.specs.declared.alloc.Global.{Global}
 use Rattle.ix_io.specs.Limits.{most_bytes}
@@ -7,7 +7,7 @@ use Rattle.ix_io.specs.Shelf.{NamedFiles, told_file}
 use Rattle.ix_tool.specs.declared.status.Status.{Status}
 use Rattle.ix_tool.specs.declared.status.Status.TheVariants.{ReadFault, TooLong, Certificate, Extension as extension_status, Sheet as sheet_status}
 use Rattle.ix_tool.specs.declared.command.FileKind.{FileKind}
-use Rattle.ix_tool.specs.declared.command.FileKind.TheVariants.{Report, Extension, InOrder, Sheet}
+use Rattle.ix_tool.specs.declared.command.FileKind.TheVariants.{Report, Extension, InOrder, Sheet, PlainSheet}
 use Rattle.ix_cert.specs.declared.report.CertErr.{CertErr}
 use Rattle.ix_cert.specs.declared.report.CertErr.TheVariants.{Memory as cert_memory}
 use Rattle.ix_cert.specs.Certificates.{IsRefused as IsRefusedReport}
@@ -21,13 +21,14 @@ use Rattle.ix_standing.specs.Standing.{name_at}
 use Rattle.ix_spawns.specs.Spawns.{first_spawning}
 use Rattle.ix_listing.specs.RefusalLine.{refusal_line}
 use Rattle.ix_sheet.specs.declared.sheet.SheetErr.{SheetErr}
-use Rattle.ix_sheet.specs.declared.sheet.SheetErr.TheVariants.{Memory as sheet_memory}
+use Rattle.ix_sheet.specs.declared.sheet.SheetErr.TheVariants.{Memory as sheet_memory, Core as core_missing}
+use Rattle.ix_sheet.specs.declared.sheet.Sheet.{Sheet as Datasheet}
 use Rattle.ix_sheet.specs.Datasheets.{IsRefusalOf}
 use Rattle.ix_tool.specs.declared.command.Slot.TheVariants.{File}
 use Rattle.ix_tool.specs.declared.value.Value.{Value}
 use Rattle.ix_tool.specs.declared.value.Refusal.{Refusal}
 use Rattle.ix_tool.specs.declared.value.Refusal.TheVariants as refusal
-use Rattle.ix_tool.specs.CommandOutput.{decoupled_line, file_line, certificate_line, sheet_line, IsRefusedText, refusal_status, Refuses, Judged, IsFile, IsRefusedFile, not_read, too_long, bad_text, WordRead}
+use Rattle.ix_tool.specs.CommandOutput.{decoupled_line, file_line, certificate_line, sheet_line, IsSheetRead, IsRefusedText, refusal_status, Refuses, Judged, IsFile, IsRefusedFile, not_read, too_long, bad_text, WordRead}
 
 -- the parts of a line, joined from the left or from the right
 pub line_joined : (number kind : List ℕ) → number ++ 32 ∷ (kind ++ 10 ∷ []) ≡ number ++ 32 ∷ [] ++ kind ++ 10 ∷ []
@@ -70,6 +71,17 @@ pub sheet_judged : (bytes : List ℕ) (e : SheetErr) (why : Refusal) → (e ≢ 
 sheet_judged bytes e refusal.Memory refused memory told = tt
 sheet_judged bytes e (refusal.Line status text) refused memory told =
     judged_err Sheet bytes (sheet_line e) (refusal.Line status text) (e, refused (λ m. line_no_memory status text (memory m)), refl) told
+
+-- the same of a datasheet whose core may not forward
+pub plain_sheet_judged : (bytes : List ℕ) (e : SheetErr) (why : Refusal) → (e ≢ sheet_memory → IsRefusalOf bytes e) → (e ≡ sheet_memory → why ≡ refusal.Memory) → Refuses sheet_status (sheet_line e) why → Judged PlainSheet bytes (Err why)
+plain_sheet_judged bytes e refusal.Memory refused memory told = tt
+plain_sheet_judged bytes e (refusal.Line status text) refused memory told =
+    judged_err PlainSheet bytes (sheet_line e) (refusal.Line status text) (inl (e, refused (λ m. line_no_memory status text (memory m)), refl)) told
+
+-- and of one whose core does
+pub forwarding_judged : (bytes : List ℕ) (sheet : Datasheet) (why : Refusal) → IsSheetRead bytes sheet → sheet.shape.forward ≡ true → Refuses sheet_status (sheet_line core_missing) why → Judged PlainSheet bytes (Err why)
+forwarding_judged bytes sheet why read forwards told =
+    judged_err PlainSheet bytes (sheet_line core_missing) why (inr (record { sheet = sheet; read = read; forwards = forwards; line_is = refl })) told
 
 told_as : (files : Option NamedFiles) (R : List ℕ → Type 0) (kind : FileKind) (name line : List ℕ) (status : Status) (why : Refusal) → IsRefusedFile files R kind name status line → Refuses status line why → WordRead files R (File kind) name (Err why)
 told_as files R kind name line status refusal.Memory bad told = tt

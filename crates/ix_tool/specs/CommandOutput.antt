@@ -1,11 +1,11 @@
 -- What a command answers and writes, from its words and the bytes of its files (this project's choice).
-use Rattle.std.specs.Prelude.{◌≡◌, ◌≢◌, IfSome, ℕ, ◌<◌, ◌≤◌, List, [], ◌∷◌, ◌++◌, length, Option, Some, None, codes, decimal, ◌⊎◌, string_bytes, Result, Ok, Err}
+use Rattle.std.specs.Prelude.{◌≡◌, ◌≢◌, IfSome, ℕ, true, false, ◌<◌, ◌≤◌, List, [], ◌∷◌, ◌++◌, length, Option, Some, None, codes, decimal, ◌⊎◌, string_bytes, Result, Ok, Err}
 use Rattle.ix_tool.specs.declared.status.Status.{Status}
 use Rattle.ix_tool.specs.declared.status.Status.TheVariants.{Ok as ok_status, Usage, ReadFault, WriteFault, TooLong, Extension as extension_status, Sheet as sheet_status, Image as image_status, NoSchedule, Certificate, Memory, Source, Waits as waits_status}
 use Rattle.ix_tool.specs.declared.command.Command.{Command}
 use Rattle.ix_tool.specs.declared.command.Command.TheVariants.{RunImage, Check, Certify, Schedule, Build, Seq, Assemble, RunExtension}
 use Rattle.ix_tool.specs.declared.command.FileKind.{FileKind}
-use Rattle.ix_tool.specs.declared.command.FileKind.TheVariants.{Image, Report, Extension, InOrder, Sheet, Source as source_kind, Waits}
+use Rattle.ix_tool.specs.declared.command.FileKind.TheVariants.{Image, Report, Extension, InOrder, Sheet, PlainSheet, Source as source_kind, Waits}
 use Rattle.ix_tool.specs.declared.command.Slot.{Slot}
 use Rattle.ix_tool.specs.declared.command.Slot.TheVariants.{Number, File}
 use Rattle.ix_tool.specs.declared.value.Value.{Value}
@@ -143,6 +143,13 @@ pub record IsDecoupled (bytes line : List ℕ) : Type 0 where
   pub first : first_spawning extension ≡ Some which
   pub line_is : line ≡ decoupled_line (name_at extension which)
 
+-- the text is that of a datasheet whose core forwards, for which no pipeline is built yet
+pub record IsForwarding (bytes line : List ℕ) : Type 0 where
+  pub sheet : Datasheet
+  pub read : IsSheetRead bytes sheet
+  pub forwards : sheet.shape.forward ≡ true
+  pub line_is : line ≡ sheet_line S.Core
+
 -- the text of a file of this kind is refused with this line
 abbrev pub IsRefusedText : FileKind → List ℕ → List ℕ → Type 0
 IsRefusedText Image bytes line = (number : ℕ) × IsBadLine bytes number × (line ≡ image_line number)
@@ -151,6 +158,7 @@ IsRefusedText Extension bytes line = (e : FrontErr) × IsRefusedExtension bytes 
 IsRefusedText InOrder bytes line = ((e : FrontErr) × IsRefusedExtension bytes e × (line ≡ refusal_line e)) ⊎ IsDecoupled bytes line
 IsRefusedText Waits bytes line = (number : ℕ) × IsBadWait bytes number × (line ≡ waits_line number)
 IsRefusedText Sheet bytes line = (e : SheetErr) × IsRefusedSheet bytes e × (line ≡ sheet_line e)
+IsRefusedText PlainSheet bytes line = ((e : SheetErr) × IsRefusedSheet bytes e × (line ≡ sheet_line e)) ⊎ IsForwarding bytes line
 IsRefusedText source_kind bytes line = ⊥
 
 -- the status of that refusal
@@ -161,6 +169,7 @@ refusal_status Extension = extension_status
 refusal_status InOrder = extension_status
 refusal_status Waits = waits_status
 refusal_status Sheet = sheet_status
+refusal_status PlainSheet = sheet_status
 refusal_status source_kind = Source
 
 -- the text of a file of this kind is read as this value
@@ -177,6 +186,8 @@ IsReadAs Waits bytes (waits_read waits) = IsWaitsText bytes waits
 IsReadAs Waits bytes v = ⊥
 IsReadAs Sheet bytes (sheet_read sheet) = IsSheetRead bytes sheet
 IsReadAs Sheet bytes v = ⊥
+IsReadAs PlainSheet bytes (sheet_read sheet) = IsSheetRead bytes sheet × (sheet.shape.forward ≡ false)
+IsReadAs PlainSheet bytes v = ⊥
 IsReadAs source_kind bytes (source_read text) = text ≡ bytes
 IsReadAs source_kind bytes v = ⊥
 

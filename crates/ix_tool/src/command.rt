@@ -35,6 +35,8 @@ pub enum FileKind {
     InOrder,
     /// A datasheet.
     Sheet,
+    /// A datasheet of a core that does not forward.
+    PlainSheet,
     /// An assembly source.
     Source,
     /// The waits of a memory.
@@ -90,7 +92,7 @@ const SCHEDULE: [Slot; 2] = [Slot::File(FileKind::Extension), Slot::File(FileKin
 /// What stands behind `run` for an image on a core with an extension.
 const RUN_EXTENSION: [Slot; 5] = [
     Slot::File(FileKind::InOrder),
-    Slot::File(FileKind::Sheet),
+    Slot::File(FileKind::PlainSheet),
     Slot::File(FileKind::Image),
     Slot::File(FileKind::Waits),
     Slot::Number(200_000),

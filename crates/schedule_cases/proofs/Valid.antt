@@ -13,6 +13,7 @@ valid_more p e valid up within fresh =
     let q : Problem = record { ops = p.ops; edges = p.edges ++ e ∷ []; period = p.period } in
     record {
       few = valid.few;
+      weights = valid.weights;
       forward = All-push (IsForward q) p.edges e valid.forward (up, within);
       once = all_pairs_push (λ x y. x ≢ y) p.edges e valid.once
           (λ k d b same. fresh k b (sym (get_or_default p.edges k d (0, 0) b) ∙ same));

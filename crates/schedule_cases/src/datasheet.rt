@@ -4,6 +4,12 @@ use std::alloc::{AllocError, Global};
 /// Puts what a datasheet says.
 fn put_sheet(out: &mut String, sheet: &Sheet) -> Result<(), AllocError> {
     write!(out, "{} {}", sheet.shape.stages, sheet.period)?;
+    if sheet.shape.forward {
+        out.push_str(" forward")?;
+    }
+    if sheet.weighted {
+        out.push_str(" width")?;
+    }
     for (kind, delay) in sheet.delay.iter().enumerate() {
         if *delay > 0 {
             write!(out, " {kind}:{delay}")?;
@@ -35,7 +41,8 @@ fn put_refusal(out: &mut String, error: &SheetErr) -> Result<(), AllocError> {
     writeln!(out, "refused {kind} {name}")
 }
 
-/// Puts a line of what a datasheet says, its stages, its period, the delays that are not 0 by
+/// Puts a line of what a datasheet says, its stages, its period, whether its core
+/// forwards and lifetimes are weighed by width, the delays that are not 0 by
 /// their kind's number, and the ten windows; or the line of its refusal.
 pub(crate) fn put_answer(out: &mut String, alloc: Global, text: &[u8]) -> Result<(), AllocError> {
     match read_sheet(alloc, text) {

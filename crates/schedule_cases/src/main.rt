@@ -5,6 +5,8 @@
 //!   description;
 //! - `problems`: for each line, which is a problem, a line of the cost and the times of its
 //!   schedule, or `cycle`. The costs and the least times were enumerated in another language;
+//! - `weighted`: the same, where operations have weights; `paths`: the cost and the count of
+//!   augmentations;
 //! - `report`: whether it prints to the same text, or the line that is refused. The answers come
 //!   from the format's description;
 //! - `certificate`: `yes`, or the line of the report that is refused and why. The answers were
@@ -20,6 +22,7 @@ mod problems;
 mod report;
 mod schedule;
 
+use problems::Asked;
 use std::alloc::{AllocError, Global};
 use std::io;
 use std::io::Read;
@@ -37,7 +40,9 @@ fn put_answer(out: &mut String, alloc: Global, word: &[u8], text: &[u8]) -> Resu
     }
     match word {
         b"datasheet" => datasheet::put_answer(out, alloc, text),
-        b"problems" => problems::put_answer(out, alloc, text),
+        b"problems" => problems::put_answer(out, alloc, Asked::Times, text),
+        b"weighted" => problems::put_answer(out, alloc, Asked::WeightedTimes, text),
+        b"paths" => problems::put_answer(out, alloc, Asked::Paths, text),
         b"report" => report::put_answer(out, alloc, text),
         b"certificate" => certificate::put_answer(out, alloc, text),
         b"schedule" => schedule::put_answer(out, alloc, text),

@@ -28,7 +28,7 @@ listed_inside : (p : Problem) (t : ℕ → ℕ) → IsLegal p t → InBox (box_o
 listed_inside p t legal = in_box (box_of p) (listed p t) (length-map-range_with_len t 0 (length p.ops) ∙ sym (length-map p.ops (λ (node : Node). node.late)))
     (λ k b.
     let k_in : k < length p.ops = omega (arith, length-map p.ops (λ (node : Node). node.late)) in
-    let late : get_or (box_of p) k 0 ≡ (node_at p k).late = get_or-map (λ (node : Node). node.late) p.ops k (record { delay = 0; latency = 0; early = 0; late = 0 }) 0 k_in in
+    let late : get_or (box_of p) k 0 ≡ (node_at p k).late = get_or-map (λ (node : Node). node.late) p.ops k (record { delay = 0; latency = 0; weight = 0; early = 0; late = 0 }) 0 k_in in
     let same = listed_same p t k k_in in
     let window = legal.windows k k_in in
     omega arith)

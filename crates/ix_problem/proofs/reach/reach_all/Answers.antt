@@ -9,7 +9,7 @@ use Rattle.ix_problem.specs.declared.reach.Reach.{Reach}
 use Rattle.std.specs.Prelude.{Option}
 
 abbrev blank : Node
-blank = record { delay = 0; latency = 0; early = 0; late = 0 }
+blank = record { delay = 0; latency = 0; weight = 0; early = 0; late = 0 }
 
 pub reach_of-reach-requires-clause-inside : goal.reach_of-reach-requires-clause-inside
 reach_of-reach-requires-clause-inside c =

@@ -1,7 +1,7 @@
 use Rattle.std.proofs.Common.{◌≡◌, ◌<◌, ◌≤◌, ◌+ℤ◌, pos, arith, get_or, set, length, length-set, refl, ◌∙◌, w64, to_z, of_z}
 use Rattle.std.proofs.lemmas.List.{get_or_read}
 use Rattle.ix_sheet.specs.Schedules.{node_at, weight_of}
-use Rattle.ix_residual.proofs.Counts.{counted_more, counted_fit, read_other}
+use Rattle.ix_residual.proofs.Counts.{weight_low, counted_more, counted_fit, read_other}
 use Rattle.ix_residual.proofs.balance.count.Goals as goal
 
 pub overflow_add-index_mut : goal.overflow_add-index_mut
@@ -10,7 +10,7 @@ overflow_add-index_mut c =
     let left = c.args.left.now.items in
     let e = get_or p.edges c.args.index (0, 0) in
     let forward = c.requires.valid.forward c.args.index (0, 0) c.requires.within in
-    let w_low : c.weight-weight.result ≤ 128 = omega (arith, c.weight-weight.ensures) in
+    let w_low : c.weight-weight.result ≤ 128 = rw (c.weight-weight.ensures, c.as_slice-2.ensures, c.as_slice.ensures) (weight_low p c.requires.valid e.0) in
     let in_left : (get_or c.as_slice.result.now c.args.index (0, 0)).1 < length left = rw c.as_slice.ensures (omega (arith, c.requires.counted.len)) in
     let x : c.index_mut.result.now ≡ get_or left e.1 (pos 0)
     = rw c.as_slice.ensures at (get_or_read left (get_or c.as_slice.result.now c.args.index (0, 0)).1 c.index_mut.result.now in_left c.index_mut.ensures.value (pos 0)) in
@@ -24,7 +24,7 @@ overflow_sub-index_mut c =
     let left = c.args.left.now.items in
     let e = get_or p.edges c.args.index (0, 0) in
     let forward = c.requires.valid.forward c.args.index (0, 0) c.requires.within in
-    let w_low : c.weight-weight.result ≤ 128 = omega (arith, c.weight-weight.ensures) in
+    let w_low : c.weight-weight.result ≤ 128 = rw (c.weight-weight.ensures, c.as_slice-2.ensures, c.as_slice.ensures) (weight_low p c.requires.valid e.0) in
     let y = to_z w64 (of_z w64 (to_z w64 (of_z w64 c.index_mut.result.now) +ℤ to_z w64 c.weight-weight.result)) in
     let in_left : (get_or c.as_slice.result.now c.args.index (0, 0)).0 < length (set left (get_or c.as_slice.result.now c.args.index (0, 0)).1 y) = rw c.as_slice.ensures (omega (arith, c.requires.counted.len, length-set left e.1 y)) in
     let x : c.index_mut-2.result.now ≡ get_or left e.0 (pos 0)
@@ -41,8 +41,8 @@ returns c =
     let e = get_or p.edges c.args.index (0, 0) in
     let forward = c.requires.valid.forward c.args.index (0, 0) c.requires.within in
     let w = c.weight-weight.result in
-    let w_low : w ≤ 128 = omega (arith, c.weight-weight.ensures) in
-    let w_is : w ≡ weight_of (node_at p e.0) = c.weight-weight.ensures in
+    let w_low : w ≤ 128 = rw (c.weight-weight.ensures, c.as_slice-2.ensures, c.as_slice.ensures) (weight_low p c.requires.valid e.0) in
+    let w_is : w ≡ weight_of (node_at p e.0) = rw (c.weight-weight.ensures, c.as_slice-2.ensures, c.as_slice.ensures) refl in
     let y = to_z w64 (of_z w64 (to_z w64 (of_z w64 c.index_mut.result.now) +ℤ to_z w64 w)) in
     let in_left : (get_or c.as_slice.result.now c.args.index (0, 0)).0 < length (set left (get_or c.as_slice.result.now c.args.index (0, 0)).1 y) = rw c.as_slice.ensures (omega (arith, c.requires.counted.len, length-set left e.1 y)) in
     let in_old : (get_or c.as_slice.result.now c.args.index (0, 0)).1 < length left = rw c.as_slice.ensures (omega (arith, c.requires.counted.len)) in
