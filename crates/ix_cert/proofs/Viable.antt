@@ -45,7 +45,7 @@ unfolding kind_words
 add_is = record { kind = Add; register = tt; name = refl }
 
 abbrev no_delay : Node
-no_delay = record { delay = 0; latency = 0; weight = 0; early = 0; late = 0 }
+no_delay = record { delay = 0; latency = 0; weight = 1; early = 0; late = 0 }
 
 one_weight : (weighted : Bool) → IsWeight weighted 1
 one_weight false = refl
