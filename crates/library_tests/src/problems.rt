@@ -83,6 +83,7 @@ fn problem_of_an_addition(rt: HostRuntime) -> Result<(), Fail> {
         let node = Node {
             delay: *delay,
             latency: 0,
+            weight: 1,
             early: *early,
             late: *late,
         };

@@ -1,5 +1,5 @@
 ghost use Rattle.std.specs.Prelude.{IfOk};
-ghost use Rattle.ix_sheet.specs.Schedules.{IsValidProblem};
+ghost use Rattle.ix_sheet.specs.Schedules.{IsWeighed, IsValidProblem};
 
 use ix_bits::List;
 use ix_sheet::{Bound, Node, Problem};
@@ -7,10 +7,13 @@ use ix_solve::{Residual, SolveErr, solve, solve_traced};
 use std::alloc::{AllocError, Global};
 use std::test::Fail;
 
-fn node(delay: u32, early: u8, late: u8) -> Node {
+fn node(delay: u32, early: u8, late: u8) -> Node
+    ensures { IsWeighed result }
+{
     Node {
         delay,
         latency: 0,
+        weight: 1,
         early,
         late,
     }

@@ -8,9 +8,9 @@
 //! - `weighted`: the same, where operations have weights; `paths`: the cost and the count of
 //!   augmentations;
 //! - `report`: whether it prints to the same text, or the line that is refused. The answers come
-//!   from the format's description;
+//!   from the format's description, for weights from an implementation in another language;
 //! - `certificate`: `yes`, or the line of the report that is refused and why. The answers were
-//!   worked out by hand;
+//!   worked out by hand, for weights by that implementation;
 //! - `schedule`: the report of an extension's behaviours on the core of a datasheet, or the
 //!   refusal, and a byte 30. The answers come from an implementation in another language, written
 //!   from the rules.
