@@ -89,6 +89,21 @@ then_ok (Err e) a f = a
 abbrev node_text : Bool → Node → List ℕ
 node_text weighted node = codes " delay" ++ field node.delay ++ codes " latency" ++ field node.latency ++ width_text weighted node.weight ++ codes " early" ++ field node.early ++ codes " late" ++ field node.late
 
+node_joined : (o a b c d w e f g h : List ℕ) → ((((o ++ (a ++ b)) ++ (c ++ d)) ++ w) ++ (e ++ f)) ++ (g ++ h) ≡ o ++ ((((((((a ++ b) ++ c) ++ d) ++ w) ++ e) ++ f) ++ g) ++ h)
+node_joined o a b c d w e f g h = simp append_assoc
+
+-- the pieces of the numbers of an operation
+pub node_pieces : (weighted : Bool) (o n1 n2 n3 n4 n5 : List ℕ) (node : Node) (delay latency early late : ℕ) → delay ≡ node.delay → latency ≡ node.latency → early ≡ node.early → late ≡ node.late
+    → n1 ≡ o ++ (codes " delay" ++ field delay) → n2 ≡ n1 ++ (codes " latency" ++ field latency) → n3 ≡ n2 ++ width_text weighted node.weight → n4 ≡ n3 ++ (codes " early" ++ field early)
+    → n5 ≡ n4 ++ (codes " late" ++ field late) → n5 ≡ o ++ node_text weighted node
+node_pieces weighted o n1 n2 n3 n4 n5 node delay latency early late sd sl se sf e1 e2 e3 e4 e5 =
+    e5 ∙ ap (λ k. n4 ++ (codes " late" ++ field k)) sf
+    ∙ ap (λ n. n ++ (codes " late" ++ field node.late)) (e4 ∙ ap (λ k. n3 ++ (codes " early" ++ field k)) se
+    ∙ ap (λ n. n ++ (codes " early" ++ field node.early)) (e3
+    ∙ ap (λ n. n ++ width_text weighted node.weight) (e2 ∙ ap (λ k. n1 ++ (codes " latency" ++ field k)) sl
+    ∙ ap (λ n. n ++ (codes " latency" ++ field node.latency)) (e1 ∙ ap (λ k. o ++ (codes " delay" ++ field k)) sd))))
+    ∙ node_joined o (codes " delay") (field node.delay) (codes " latency") (field node.latency) (width_text weighted node.weight) (codes " early") (field node.early) (codes " late") (field node.late)
+
 push_front : (o x : Line) (ps : List Line) → o ++ run_on x ps ≡ run_on (o ++ x) ps
 push_front o x [] = refl
 push_front o x (p ∷ ps) = push_front o (x ++ p) ps ∙ ap (λ l. run_on l ps) (sym (append_assoc o x p))
