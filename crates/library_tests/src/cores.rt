@@ -1,4 +1,4 @@
-use rv_core::{Core, CoreKind, Shape, shape_of};
+use rv_core::{Blocks, Core, CoreKind, Plain, Predictor, Shape, shape_of};
 
 /// A core of a user: one more `impl`, with the proof of its law.
 struct Late;
@@ -19,7 +19,6 @@ impl Core for Late {
     const TRAP: u32 = 64;
 
     ghost use Rattle.std.specs.Prelude.{true};
-
     ghost use Rattle.rv_core.specs.Stages.{late_lawful};
 
     ghost STAGES = { 5 };
@@ -49,6 +48,27 @@ fn named_cores(rt: HostRuntime) {
 }
 
 #[test]
+fn cores_that_forward(rt: HostRuntime) {
+    let three = CoreKind::ThreeF.shape();
+    let five = CoreKind::FiveF.shape();
+    assert_eq!(rt; numbers(three), (3, 1, 1, 2));
+    assert_eq!(rt; numbers(five), (5, 1, 2, 3));
+    assert!(rt; three.forward && three.predict && five.forward && five.predict);
+    assert!(rt; !CoreKind::Five.shape().forward && !CoreKind::Five.shape().predict);
+    assert_eq!(rt; five.trap, 16);
+}
+
+#[test]
+fn guesses(rt: HostRuntime) {
+    assert_eq!(rt; Blocks::guess(Some(12), 8), 12);
+    assert_eq!(rt; Blocks::guess(None, 0xFFFF_FFFC), 0);
+    assert_eq!(rt; Plain::guess(Some(16), 8), 12);
+}
+
+#[test]
 fn a_core_of_a_user(rt: HostRuntime) {
-    assert_eq!(rt; numbers(shape_of::<Late>()), (5, 2, 3, 4));
+    let late = shape_of::<Late>();
+    assert_eq!(rt; numbers(late), (5, 2, 3, 4));
+    assert!(rt; late.forward && !late.predict);
+    assert_eq!(rt; late.trap, 64);
 }

@@ -232,12 +232,7 @@ fn put_paths(out: &mut String, alloc: Global, p: &Problem) -> Result<(), AllocEr
     requires { IsValidProblem p.now }
 {
     match solve_traced(alloc, p) {
-        Ok(traced) => writeln!(
-            out,
-            "{}: {} paths",
-            traced.solved.cost,
-            traced.paths.len()
-        ),
+        Ok(traced) => writeln!(out, "{}: {} paths", traced.solved.cost, traced.paths.len()),
         Err(SolveErr::Cycle(_)) => out.push_str("cycle\n"),
         Err(SolveErr::Memory) => out.push_str("memory\n"),
     }
