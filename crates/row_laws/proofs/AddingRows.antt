@@ -255,6 +255,7 @@ lawful_0 = record {
   holds = shows;
   successors = none_settles adding_hand [] row_0 refl refl (λ stage c stands s. no_second c (subst (λ n. Stands adding row_0 n c) (at_ex [] row_0 stage c s) stands));
   units = refl;
+  untaken = refl;
   stops = no_stop adding_hand [] row_0 refl (λ c stop stands s. no_second c stands) (some_left adding_hand row_0 0 five (omega arith) refl refl);
 } where
   no_second : (c : Cell) → Stands adding row_0 1 c → ⊥
@@ -287,6 +288,7 @@ lawful_1 = record {
   successors = no_turn adding_hand (row_0 ∷ []) row_1 refl refl (λ stage c stands s.
       (at_ex (row_0 ∷ []) row_1 stage c s, (seven, refl, goes_on c (subst (λ n. Stands adding row_1 n c) (at_ex (row_0 ∷ []) row_1 stage c s) stands))));
   units = refl;
+  untaken = refl;
   stops = no_stop adding_hand (row_0 ∷ []) row_1 refl (λ c stop stands s. same_cell (λ d. StopsRun adding (row_0 ∷ []) row_1 1 d stop → ⊥) five c stands (λ r. runs_0 stop r.due) s)
       (some_left adding_hand row_1 0 seven (omega arith) refl refl);
 } where
@@ -325,6 +327,7 @@ lawful_2 = record {
   successors = no_turn adding_hand two_rows row_2 refl refl (λ stage c stands s.
       (at_ex two_rows row_2 stage c s, (sum None, refl, goes_on c (subst (λ n. Stands adding row_2 n c) (at_ex two_rows row_2 stage c s) stands))));
   units = refl;
+  untaken = refl;
   stops = no_stop adding_hand two_rows row_2 refl (λ c stop stands s. same_cell (λ d. StopsRun adding two_rows row_2 1 d stop → ⊥) seven c stands (λ r. runs_1 stop r.due) s)
       (some_left adding_hand row_2 0 (sum None) (omega arith) refl refl);
 } where
@@ -391,6 +394,7 @@ lawful_3 = record {
   holds = shows;
   successors = none_settles adding_hand three_rows row_3 refl refl settles;
   units = refl;
+  untaken = refl;
   stops = no_stop adding_hand three_rows row_3 refl (λ c stop stands s. same_cell (λ d. StopsRun adding three_rows row_3 1 d stop → ⊥) (sum (Some (Operand 2 1))) c stands (λ r. r.free (Operand 2 1) sum_waits) s)
       (some_left adding_hand row_3 0 (break (Some Behind)) (omega arith) refl refl);
 } where
@@ -430,6 +434,7 @@ lawful_4 = record {
   successors = no_turn adding_hand four_rows row_4 refl refl (λ stage c stands s.
       (at_ex four_rows row_4 stage c s, (break None, refl, goes_on c (subst (λ n. Stands adding row_4 n c) (at_ex four_rows row_4 stage c s) stands))));
   units = refl;
+  untaken = refl;
   stops = no_stop adding_hand four_rows row_4 refl (λ c stop stands s. same_cell (λ d. StopsRun adding four_rows row_4 1 d stop → ⊥) (sum None) c stands (λ r. runs_2 stop r.due) s)
       (some_left adding_hand row_4 0 (break None) (omega arith) refl refl);
 } where
@@ -487,6 +492,7 @@ lawful_5 = record {
   holds = shows;
   successors = none_settles adding_hand five_rows row_5 refl refl settles;
   units = refl;
+  untaken = refl;
   stops = record {
     cause = λ stop e. inl (1, break None, refl, subst (λ x. StopsRun adding five_rows row_5 1 (break None) x) (the stop e) break_stops);
     of_cell = λ stage c stop stands s. of_cell c stop (subst (λ n. Stands adding row_5 n c) s.executing stands) s.due;

@@ -43,6 +43,7 @@ lawful_0 = record {
   holds = shows;
   successors = none_settles detour_hand [] row_0 refl refl (λ stage c stands s. no_second c (subst (λ n. Stands detour row_0 n c) s.settling stands));
   units = refl;
+  untaken = refl;
   stops = no_stop detour_hand [] row_0 refl (λ c stop stands s. no_second c stands) (some_left detour_hand row_0 0 leaping (omega arith) refl refl);
 } where
   no_second : (c : Cell) → Stands detour row_0 1 c → ⊥
@@ -92,6 +93,7 @@ lawful_1 = record {
     named_only = λ a e. (1, leaping, refl, right_mismatch.settles, goes_on two_rows ∙ eight a e, inl right_mismatch);
   };
   units = refl;
+  untaken = refl;
   stops = no_stop detour_hand (row_0 ∷ []) row_1 refl (λ c stop stands s. same_cell (λ d. StopsRun detour (row_0 ∷ []) row_1 1 d stop → ⊥) leaping c stands (λ r. leaping_runs two_rows stop r.due) s)
       (some_left detour_hand row_1 1 leaping (omega arith) refl refl);
 } where
@@ -133,6 +135,7 @@ lawful_2 = record {
   holds = shows;
   successors = none_settles detour_hand two_rows row_2 refl refl (λ stage c stands s. no_second c (subst (λ n. Stands detour row_2 n c) s.settling stands));
   units = refl;
+  untaken = refl;
   stops = no_stop detour_hand two_rows row_2 refl (λ c stop stands s. no_second c stands) (some_left detour_hand row_2 0 target (omega arith) refl refl);
 } where
   no_second : (c : Cell) → Stands detour row_2 1 c → ⊥
@@ -184,6 +187,7 @@ lawful_3 = record {
   holds = shows;
   successors = none_settles detour_hand three_rows row_3 refl refl settles;
   units = refl;
+  untaken = refl;
   stops = record {
     cause = λ stop e. inl (1, target, refl, subst (λ x. StopsRun detour three_rows row_3 1 target x) (the stop e) (target_stops (Some Ebreak)));
     of_cell = λ stage c stop stands s. of_cell c stop (subst (λ n. Stands detour row_3 n c) s.executing stands) s.due;

@@ -9,14 +9,14 @@ use Rattle.rv_seq.specs.declared.commit.Stop.{Stop}
 use Rattle.rv_seq.specs.declared.commit.Stop.TheVariants.{Ebreak}
 use Rattle.rv_trace.specs.declared.row.Cell.{Cell}
 use Rattle.rv_trace.specs.declared.row.Hold.{Hold}
-use Rattle.rv_trace.specs.declared.row.Hold.TheVariants.{Operand, Custom, Tail, Behind}
+use Rattle.rv_trace.specs.declared.row.Hold.TheVariants.{Operand, Custom, Tail, Behind, Trap}
 use Rattle.rv_trace.specs.declared.row.Row.{Row}
 use Rattle.rv_trace.specs.Trace.{has_serial, is_flushed, is_retired, place, newest}
 use Rattle.rv_trace.specs.RowParts.{Name, name_of, leaves, ComesFirst}
 use Rattle.rv_lawful.specs.Settings.{Stands, tailed}
 use Rattle.rv_lawful.specs.LawfulTrace.{Moves, fetch_address, next_serial, reads_of, IsWordOf, IsDueToStop, WaitsForOperand, WaitsForCustom, OwnHold, StopsRun, ShowsHold, Settles, successor, LawfulRow, Lawful}
 use Rattle.row_laws.specs.Hands.{quiet, going}
-use Rattle.row_laws.specs.Holding.{writing, holding_hand, holding, holding_asks, reading, writer, reader, sum, break, row_0, row_1, held_row, row_2, row_3, row_4, row_5, row_6, row_7, last_row, row_8, two_rows, five_rows, eight_rows, holding_rows, IsUnlawful, untrue_hold, later_hold, tail_one_more, tail_one_less, tail_left_out, custom_left_out, skipped_word, wrong_stop, missing_stop}
+use Rattle.row_laws.specs.Holding.{writing, holding_hand, holding, holding_asks, reading, writer, reader, sum, break, row_0, row_1, held_row, row_2, row_3, row_4, row_5, row_6, row_7, last_row, row_8, two_rows, five_rows, eight_rows, holding_rows, IsUnlawful, untrue_hold, later_hold, tail_one_more, tail_one_less, tail_left_out, custom_left_out, skipped_word, wrong_stop, missing_stop, untrue_trap, taken_unasked}
 use Rattle.row_laws.proofs.Stages.{true_not_false, no_register, no_custom, same_cell, Free, free_outside, free_behind, done_below, no_own, goes_before, shows_none, shows_behind, shows_own, custom_first, operand_first, shows_tail, shows_last, settles_at_ex, no_turn, none_settles, no_stop, some_left, none_retires, one_retires}
 
 at_front : ◌≡◌ {A = ℕ} 0 1 → ⊥
@@ -70,6 +70,7 @@ lawful_0 = record {
   holds = shows;
   successors = none_settles holding_hand [] row_0 refl refl (λ stage c stands s. no_second c (subst (λ n. Stands holding row_0 n c) (at_ex [] row_0 stage c s) stands));
   units = refl;
+  untaken = refl;
   stops = no_stop holding_hand [] row_0 refl (λ c stop stands s. no_second c stands) (some_left holding_hand row_0 0 (writer None) (omega arith) refl refl);
 } where
   no_second : (c : Cell) → Stands holding row_0 1 c → ⊥
@@ -98,6 +99,7 @@ lawful_1 = record {
   successors = no_turn holding_hand (row_0 ∷ []) row_1 refl refl (λ stage c stands s.
       (at_ex (row_0 ∷ []) row_1 stage c s, (reader None, refl, goes_on c (subst (λ n. Stands holding row_1 n c) (at_ex (row_0 ∷ []) row_1 stage c s) stands))));
   units = refl;
+  untaken = refl;
   stops = no_stop holding_hand (row_0 ∷ []) row_1 refl (λ c stop stands s. stops c stop stands s) (some_left holding_hand row_1 0 (reader None) (omega arith) refl refl);
 } where
   goes_on : (c : Cell) → Stands holding row_1 1 c → 4 ≡ successor holding two_rows c
@@ -157,6 +159,7 @@ held_lawful earlier left moves unflushed unretired still some = record {
   holds = shows;
   successors = none_settles holding_hand earlier row refl refl (held_settles earlier row (reader (Some (Custom 0 0))) refl refl);
   units = refl;
+  untaken = refl;
   stops = no_stop holding_hand earlier row refl (held_stops earlier row (reader (Some (Custom 0 0))) (Custom 0 0) refl waits) (some_left holding_hand row 0 (sum (Some Behind)) (omega arith) refl refl);
 } where
   row : Row
@@ -193,6 +196,7 @@ lawful_4 = record {
   holds = shows;
   successors = none_settles holding_hand four_rows row_4 refl refl (held_settles four_rows row_4 (reader (Some (Custom 0 0))) refl refl);
   units = refl;
+  untaken = refl;
   stops = no_stop holding_hand four_rows row_4 refl (held_stops four_rows row_4 (reader (Some (Custom 0 0))) (Custom 0 0) refl waits) (some_left holding_hand row_4 0 (sum (Some Behind)) (omega arith) refl refl);
 } where
   waits : WaitsForCustom holding four_rows row_4 1 (reader (Some (Custom 0 0))) 0 0
@@ -225,6 +229,7 @@ lawful_5 = record {
   successors = no_turn holding_hand five_rows row_5 refl refl (λ stage c stands s.
       (at_ex five_rows row_5 stage c s, (sum None, refl, goes_on c (subst (λ n. Stands holding row_5 n c) (at_ex five_rows row_5 stage c s) stands))));
   units = refl;
+  untaken = refl;
   stops = no_stop holding_hand five_rows row_5 refl (λ c stop stands s. same_cell (λ d. StopsRun holding five_rows row_5 1 d stop → ⊥) (reader None) c stands (λ r. reader_runs stop r.due) s)
       (some_left holding_hand row_5 0 (sum None) (omega arith) refl refl);
 } where
@@ -279,6 +284,7 @@ lawful_6 = record {
   holds = shows;
   successors = none_settles holding_hand six_rows row_6 refl refl (held_settles six_rows row_6 (sum (Some (Operand 2 1))) refl refl);
   units = refl;
+  untaken = refl;
   stops = no_stop holding_hand six_rows row_6 refl (held_stops six_rows row_6 (sum (Some (Operand 2 1))) (Operand 2 1) refl sum_waits) (some_left holding_hand row_6 0 (break (Some Behind)) (omega arith) refl refl);
 } where
   shows : (stage : ℕ) (c : Cell) → Stands holding row_6 stage c → ShowsHold holding six_rows row_6 stage c
@@ -314,6 +320,7 @@ lawful_7 = record {
   successors = no_turn holding_hand seven_rows row_7 refl refl (λ stage c stands s.
       (at_ex seven_rows row_7 stage c s, (break None, refl, goes_on c (subst (λ n. Stands holding row_7 n c) (at_ex seven_rows row_7 stage c s) stands))));
   units = refl;
+  untaken = refl;
   stops = no_stop holding_hand seven_rows row_7 refl (λ c stop stands s. same_cell (λ d. StopsRun holding seven_rows row_7 1 d stop → ⊥) (sum None) c stands (λ r. sum_runs stop r.due) s)
       (some_left holding_hand row_7 0 (break None) (omega arith) refl refl);
 } where
@@ -379,6 +386,7 @@ lawful_8 = record {
   holds = shows;
   successors = none_settles holding_hand eight_rows row_8 refl refl settles;
   units = refl;
+  untaken = refl;
   stops = record {
     cause = λ stop e. inl (1, break None, refl, subst (λ x. StopsRun holding eight_rows row_8 1 (break None) x) (the stop e) (break_stops (Some Ebreak)));
     of_cell = λ stage c stop stands s. of_cell c stop (subst (λ n. Stands holding row_8 n c) s.executing stands) s.due;
@@ -414,6 +422,15 @@ untrue_hold_refused h = elim ((h.0.holds 1 (reader (Some (Custom 0 0))) refl).sh
   | inl w ↦ true_not_false (sym (retired_0 0 (omega arith)) ∙ w.unretired)
   | inr b ↦ cc (b.0)
 ]
+
+pub untrue_trap_refused : IsUnlawful untrue_trap
+untrue_trap_refused h = elim ((h.0.holds 1 (reader (Some Trap)) refl).shown Trap refl) [
+  | inl w ↦ w
+  | inr b ↦ cc (b.0)
+]
+
+pub taken_unasked_refused : IsUnlawful taken_unasked
+taken_unasked_refused h = let none = h.0.untaken in cc none
 
 -- the reader has to wait in the third row
 must_wait : (row : Row) (tail : Option Hold) (hold : Option Hold) → Stands holding row 2 (writer tail) → has_serial row.flushed 0 ≡ false → WaitsForCustom holding two_rows row 1 (reader hold) 0 0

@@ -6,7 +6,7 @@ use Rattle.rv_seq.specs.declared.commit.Commit.{Commit}
 use Rattle.rv_seq.specs.declared.commit.Stop.{Stop}
 use Rattle.rv_trace.specs.declared.row.Cell.{Cell}
 use Rattle.rv_trace.specs.declared.row.Hold.{Hold}
-use Rattle.rv_trace.specs.declared.row.Hold.TheVariants.{Operand, Board, Custom, Late, Drain, Wait, StoreAhead, Tail, UnitFull, Port, Behind}
+use Rattle.rv_trace.specs.declared.row.Hold.TheVariants.{Operand, Board, Custom, Late, Trap, Drain, Wait, StoreAhead, Tail, UnitFull, Port, Behind}
 use Rattle.rv_trace.specs.declared.row.Row.{Row}
 use Rattle.rv_trace.specs.Trace.{has_serial, is_flushed, retires, is_retired, place}
 use Rattle.rv_trace.specs.RowParts.{name_of, leaves, ComesFirst}
@@ -134,6 +134,7 @@ no_own h earlier row stage c free loads done (Operand r j) o = free.operand r j 
 no_own h earlier row stage c free loads done (Board t j) o = o
 no_own h earlier row stage c free loads done (Custom r j) o = free.custom r j o
 no_own h earlier row stage c free loads done (Late j) o = free.late j o
+no_own h earlier row stage c free loads done Trap o = o
 no_own h earlier row stage c free loads done (Drain j) o = free.drain j o
 no_own h earlier row stage c free loads done (Wait left) o = no_wait h earlier row stage c left o
 no_own h earlier row stage c free loads done (StoreAhead j) o = true_not_false (sym o.loads ∙ loads)
@@ -203,6 +204,7 @@ custom_first h earlier row stage c none (Board t j) o = absurd o
 custom_first h earlier row stage c none (Custom zero j) o = inr (refl, inr (refl, omega arith))
 custom_first h earlier row stage c none (Custom (suc r) j) o = inr (refl, inl (omega arith))
 custom_first h earlier row stage c none (Late j) o = inl (omega arith)
+custom_first h earlier row stage c none Trap o = absurd o
 custom_first h earlier row stage c none (Drain j) o = inl (omega arith)
 custom_first h earlier row stage c none (Wait left) o = inl (omega arith)
 custom_first h earlier row stage c none (StoreAhead j) o = inl (omega arith)
@@ -218,6 +220,7 @@ late_first h earlier row stage c none free (Operand r j) o = absurd (none r j o)
 late_first h earlier row stage c none free (Board t j) o = absurd o
 late_first h earlier row stage c none free (Custom r j) o = absurd (free r j o)
 late_first h earlier row stage c none free (Late j) o = inr (refl, inr (refl, omega arith))
+late_first h earlier row stage c none free Trap o = absurd o
 late_first h earlier row stage c none free (Drain j) o = inl (omega arith)
 late_first h earlier row stage c none free (Wait left) o = inl (omega arith)
 late_first h earlier row stage c none free (StoreAhead j) o = inl (omega arith)
@@ -233,6 +236,7 @@ operand_first h earlier row stage c r j first (Operand s i) o = first s i o
 operand_first h earlier row stage c r j first (Board t i) o = absurd o
 operand_first h earlier row stage c r j first (Custom s i) o = inl (omega arith)
 operand_first h earlier row stage c r j first (Late i) o = inl (omega arith)
+operand_first h earlier row stage c r j first Trap o = absurd o
 operand_first h earlier row stage c r j first (Drain i) o = inl (omega arith)
 operand_first h earlier row stage c r j first (Wait left) o = inl (omega arith)
 operand_first h earlier row stage c r j first (StoreAhead i) o = inl (omega arith)
@@ -254,6 +258,7 @@ shows_tail h earlier row c left e alive loads still some =
       first (Board t j) o = absurd o
       first (Custom r j) o = absurd (outside.custom r j o)
       first (Late j) o = absurd (outside.late j o)
+      first Trap o = absurd o
       first (Drain j) o = absurd (outside.drain j o)
       first (Wait n) o = absurd (no_wait h earlier row 2 c n o)
       first (StoreAhead j) o = absurd (true_not_false (sym o.loads ∙ loads))

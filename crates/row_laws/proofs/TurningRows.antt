@@ -56,6 +56,7 @@ lawful_0 = record {
   holds = shows;
   successors = none_settles turning_hand [] row_0 refl refl settles;
   units = refl;
+  untaken = refl;
   stops = no_stop turning_hand [] row_0 refl (λ c stop stands s. no_second c stands) (some_left turning_hand row_0 0 (jump None) (omega arith) refl refl);
 } where
   no_second : (c : Cell) → Stands turning row_0 1 c → ⊥
@@ -89,6 +90,7 @@ lawful_1 = record {
   holds = shows;
   successors = none_settles turning_hand (row_0 ∷ []) row_1 refl refl settles;
   units = refl;
+  untaken = refl;
   stops = no_stop turning_hand (row_0 ∷ []) row_1 refl (λ c stop stands s. stops c stop stands s) (some_left turning_hand row_1 0 (passed None) (omega arith) refl refl);
 } where
   settles : (stage : ℕ) (c : Cell) → Stands turning row_1 stage c → Settles turning (row_0 ∷ []) row_1 stage c → ⊥
@@ -134,6 +136,7 @@ lawful_2 = record {
   holds = shows;
   successors = none_settles turning_hand two_rows row_2 refl refl settles;
   units = refl;
+  untaken = refl;
   stops = no_stop turning_hand two_rows row_2 refl (λ c stop stands s. same_cell (λ d. StopsRun turning two_rows row_2 1 d stop → ⊥) (passed (Some (Late 0))) c stands (λ r. r.free (Late 0) wait) s)
       (some_left turning_hand row_2 0 (passed_too (Some Behind)) (omega arith) refl refl);
 } where
@@ -202,6 +205,7 @@ lawful_3 = record {
     named_only = λ a e. (2, jump None, refl, right_mismatch.settles, jump_goes_on (row_3 ∷ three_rows) ∙ twelve a e, inl right_mismatch);
   };
   units = refl;
+  untaken = refl;
   stops = record {
     cause = λ stop s. cc;
     of_cell = λ stage c stop stands s. absurd (stops c stop (subst (λ n. Stands turning row_3 n c) s.executing stands) (subst (λ n. StopsRun turning three_rows row_3 n c stop) s.executing s));
@@ -258,6 +262,7 @@ lawful_4 = record {
   holds = shows;
   successors = none_settles turning_hand four_rows row_4 refl refl settles;
   units = refl;
+  untaken = refl;
   stops = no_stop turning_hand four_rows row_4 refl (λ c stop stands s. no_second c stands) (some_left turning_hand row_4 0 target (omega arith) refl refl);
 } where
   no_second : (c : Cell) → Stands turning row_4 1 c → ⊥
@@ -326,6 +331,7 @@ lawful_5 = record {
   holds = shows;
   successors = none_settles turning_hand five_rows row_5 refl refl settles;
   units = refl;
+  untaken = refl;
   stops = record {
     cause = λ stop e. inl (1, target, refl, subst (λ x. StopsRun turning five_rows row_5 1 target x) (the stop e) target_stops);
     of_cell = λ stage c stop stands s. of_cell c stop (subst (λ n. Stands turning row_5 n c) s.executing stands) s.due;

@@ -73,6 +73,7 @@ row_with a b c retired flushed redirect stop =
       written = None;
       flushed = flushed;
       redirect = redirect;
+      taken = None;
       stop = stop;
     }
 

@@ -14,7 +14,7 @@ use Rattle.rv_seq.specs.declared.commit.Stop.{Stop}
 use Rattle.rv_seq.specs.declared.commit.Stop.TheVariants.{Ebreak}
 use Rattle.rv_trace.specs.declared.row.Cell.{Cell}
 use Rattle.rv_trace.specs.declared.row.Hold.{Hold}
-use Rattle.rv_trace.specs.declared.row.Hold.TheVariants.{Operand, Custom, Tail, Behind}
+use Rattle.rv_trace.specs.declared.row.Hold.TheVariants.{Operand, Custom, Tail, Behind, Trap}
 use Rattle.rv_trace.specs.declared.row.Row.{Row}
 use Rattle.row_laws.specs.Hands.{Hand, by_hand, quiet, no_customs, going, cell, none_flushed, row_with, row_of}
 
@@ -194,6 +194,25 @@ cell_behind =
       written = None;
       flushed = none_flushed;
       redirect = None;
+      taken = None;
+      stop = None;
+    }
+    ∷ []
+
+-- the reader shows Trap, without an interrupt line
+abbrev pub untrue_trap : List Row
+untrue_trap = row_of (Some (sum (Some Behind))) (Some (reader (Some Trap))) (Some (writer (Some (Tail 2)))) None ∷ two_rows
+
+-- an interrupt is taken, without an interrupt line
+abbrev pub taken_unasked : List Row
+taken_unasked =
+    record {
+      cells = Some (writer None) ∷ None ∷ None ∷ None ∷ None ∷ [];
+      retired = None;
+      written = None;
+      flushed = none_flushed;
+      redirect = None;
+      taken = Some 0;
       stop = None;
     }
     ∷ []

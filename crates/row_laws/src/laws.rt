@@ -3,7 +3,7 @@ ghost use Rattle.rv_lawful.specs.LawfulTrace.{Lawful};
 ghost use Rattle.rv_seq.specs.Bare.{bare};
 ghost use Rattle.row_laws.specs.Adding.{adding, adding_image, adding_rows, IsOther, wrong_value, wrong_order, other_stop};
 ghost use Rattle.row_laws.specs.Detour as leap;
-ghost use Rattle.row_laws.specs.Holding.{holding, holding_rows, IsUnlawful, untrue_hold, later_hold, tail_one_more, tail_one_less, tail_left_out, custom_left_out, idle_cell, skipped_word, wrong_stop, missing_stop, after_stop, cell_behind};
+ghost use Rattle.row_laws.specs.Holding.{holding, holding_rows, IsUnlawful, untrue_hold, later_hold, tail_one_more, tail_one_less, tail_left_out, custom_left_out, idle_cell, skipped_word, wrong_stop, missing_stop, after_stop, cell_behind, untrue_trap, taken_unasked};
 ghost use Rattle.row_laws.specs.Turning as turn;
 
 /// The laws of rows, tried on a hand-made run whose first instruction is Tight and writes a custom register late: they hold of its rows, in which
@@ -22,6 +22,8 @@ pub fn holding_run()
     ensures missing_stop { IsUnlawful missing_stop }
     ensures after_stop { IsUnlawful after_stop }
     ensures cell_behind { IsUnlawful cell_behind }
+    ensures untrue_trap { IsUnlawful untrue_trap }
+    ensures taken_unasked { IsUnlawful taken_unasked }
 {}
 
 /// The laws of rows, tried on a hand-made run whose first instruction is Tight and writes the pc late: they hold of its rows, in which

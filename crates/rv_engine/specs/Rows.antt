@@ -270,6 +270,7 @@ pub record IsRowOf (k : Setting) (m : Machine) (row : Row) : Type 0 where
   pub written : row.written ≡ None
   pub flushed : row.flushed ≡ flushed_of (take (struck (turn_by k m)) (loaded_by k m))
   pub redirect : row.redirect ≡ redirect_of (turn_by k m)
+  pub taken : row.taken ≡ None
   pub stop : row.stop ≡ stop_after k m
 
 -- what it keeps then: a token that leaves EX has put its early writes into the future file, one that retires its late ones

@@ -170,6 +170,7 @@ fn row_of(
         written: None,
         flushed,
         redirect: shown.redirect,
+        taken: None,
         stop,
     }
 }

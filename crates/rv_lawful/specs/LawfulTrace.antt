@@ -3,7 +3,7 @@ use Rattle.std.specs.Prelude.{◌≡◌, ◌≢◌, ℕ, suc, drop, ◌+◌, ◌
 use Rattle.rv_trace.specs.declared.row.Cell.{Cell}
 use Rattle.rv_trace.specs.declared.row.Row.{Row}
 use Rattle.rv_trace.specs.declared.row.Hold.{Hold}
-use Rattle.rv_trace.specs.declared.row.Hold.TheVariants.{Operand, Board, Custom, Late, Drain, Wait, StoreAhead, Tail, UnitFull, Port, Behind}
+use Rattle.rv_trace.specs.declared.row.Hold.TheVariants.{Operand, Board, Custom, Late, Trap, Drain, Wait, StoreAhead, Tail, UnitFull, Port, Behind}
 use Rattle.rv_seq.specs.declared.commit.Commit.{Commit}
 use Rattle.rv_seq.specs.declared.commit.Stop.{Stop}
 use Rattle.rv_seq.specs.declared.commit.Stop.TheVariants.{Fetch}
@@ -112,13 +112,14 @@ pub record WaitsForModule (k : Setting) (earlier : List Row) (row : Row) (stage 
   pub still : left + tailed k earlier c.serial ≡ (k.asks c.word).tail
   pub some : 0 < left
 
--- a hold of the cell's own is true of it; no instruction here uses a unit
+-- a hold of the cell's own is true of it; no instruction here uses a unit, and without an interrupt line no interrupt is to be taken
 abbrev pub OwnHold : Setting → List Row → Row → ℕ → Cell → Hold → Type 0
 OwnHold k earlier row stage c (Operand r j) = WaitsForOperand k earlier row stage c r j
 OwnHold k earlier row stage c (Drain j) = WaitsToDrain k earlier row stage c j
 OwnHold k earlier row stage c (Board t j) = ⊥
 OwnHold k earlier row stage c (Custom r j) = WaitsForCustom k earlier row stage c r j
 OwnHold k earlier row stage c (Late j) = WaitsForJump k earlier row stage c j
+OwnHold k earlier row stage c Trap = ⊥
 OwnHold k earlier row stage c (Wait left) = WaitsForMemory k earlier row stage c left
 OwnHold k earlier row stage c (StoreAhead j) = WaitsForStore k earlier row stage c j
 OwnHold k earlier row stage c (Tail left) = WaitsForModule k earlier row stage c left
@@ -219,7 +220,7 @@ pub record IsInForm (k : Setting) (row : Row) : Type 0 where
   pub behind : AreEmpty (drop k.shape.stages row.cells)
   pub ascending : AscendFrom None row.flushed
 
--- the row is lawful after the earlier ones; no unit is built, so none writes
+-- the row is lawful after the earlier ones; no unit is built, so none writes, and without an interrupt line no interrupt is taken
 pub record LawfulRow (k : Setting) (earlier : List Row) (row : Row) : Type 0 where
   pub form : IsInForm k row
   pub moves : Moves k earlier row
@@ -227,6 +228,7 @@ pub record LawfulRow (k : Setting) (earlier : List Row) (row : Row) : Type 0 whe
   pub holds : (stage : ℕ) (c : Cell) → Stands k row stage c → ShowsHold k earlier row stage c
   pub successors : Successors k earlier row
   pub units : row.written ≡ None
+  pub untaken : row.taken ≡ None
   pub stops : StopsRightly k earlier row
 
 -- each row is lawful after the rows before it, and none follows a stop

@@ -282,5 +282,6 @@ module _ (k : Setting) (ready : IsReady k) (earlier : List Row) (m : Machine) (r
     holds = λ stage c stands. shows k ready earlier row (seen_by k m) made.told stage c stands;
     successors = S.row_successors k ready earlier m row made;
     units = made.is.written;
+    untaken = made.is.taken;
     stops = row_stops;
   }

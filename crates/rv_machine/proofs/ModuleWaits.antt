@@ -7,7 +7,7 @@ use Rattle.rv_seq.specs.Steps.{word_at}
 use Rattle.rv_waits.specs.Waits.{wait_at}
 use Rattle.rv_trace.specs.declared.row.Cell.{Cell}
 use Rattle.rv_trace.specs.declared.row.Hold.{Hold}
-use Rattle.rv_trace.specs.declared.row.Hold.TheVariants.{Operand, Board, Custom, Late, Drain, Wait, StoreAhead, Tail, UnitFull, Port, Behind}
+use Rattle.rv_trace.specs.declared.row.Hold.TheVariants.{Operand, Board, Custom, Late, Trap, Drain, Wait, StoreAhead, Tail, UnitFull, Port, Behind}
 use Rattle.rv_trace.specs.declared.row.Row.{Row}
 use Rattle.rv_trace.specs.Trace.{has_cell, place, retirements}
 use Rattle.rv_trace.specs.RowParts.{ComesFirst}
@@ -43,6 +43,7 @@ tail_of (Some (Operand r j)) e = cc
 tail_of (Some (Board t j)) e = cc
 tail_of (Some (Custom r j)) e = cc
 tail_of (Some (Late j)) e = cc
+tail_of (Some Trap) e = cc
 tail_of (Some (Drain j)) e = cc
 tail_of (Some (Wait left)) e = cc
 tail_of (Some (StoreAhead j)) e = cc

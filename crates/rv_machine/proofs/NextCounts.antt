@@ -9,7 +9,7 @@ use Rattle.rv_seq.specs.declared.commit.Stop.TheVariants.{Fetch}
 use Rattle.rv_seq.specs.Steps.{word_at}
 use Rattle.rv_waits.specs.Waits.{wait_at, greatest}
 use Rattle.rv_trace.specs.declared.row.Hold.{Hold}
-use Rattle.rv_trace.specs.declared.row.Hold.TheVariants.{Operand, Board, Custom, Late, Drain, Wait, StoreAhead, Tail, UnitFull, Port, Behind}
+use Rattle.rv_trace.specs.declared.row.Hold.TheVariants.{Operand, Board, Custom, Late, Trap, Drain, Wait, StoreAhead, Tail, UnitFull, Port, Behind}
 use Rattle.rv_trace.specs.declared.row.Row.{Row}
 use Rattle.rv_trace.specs.Trace.{retirements, rows_without}
 use Rattle.rv_trace.specs.RowParts.{names_of, serial_after, front, MovesInto}
@@ -50,6 +50,7 @@ tail_less (Some (Operand r j)) n = omega arith
 tail_less (Some (Board t j)) n = omega arith
 tail_less (Some (Custom r j)) n = omega arith
 tail_less (Some (Late j)) n = omega arith
+tail_less (Some Trap) n = omega arith
 tail_less (Some (Drain j)) n = omega arith
 tail_less (Some (Wait left)) n = omega arith
 tail_less (Some (StoreAhead j)) n = omega arith

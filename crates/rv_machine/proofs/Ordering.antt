@@ -4,7 +4,7 @@ use Rattle.std.specs.Prelude.{if◌then◌else◌}
 use Rattle.std.proofs.lemmas.Bool.{cases_lt}
 use Rattle.rv_trace.specs.declared.row.Cell.{Cell}
 use Rattle.rv_trace.specs.declared.row.Hold.{Hold}
-use Rattle.rv_trace.specs.declared.row.Hold.TheVariants.{Operand, Board, Custom, Late, Drain, Wait, StoreAhead, Tail, UnitFull, Port, Behind}
+use Rattle.rv_trace.specs.declared.row.Hold.TheVariants.{Operand, Board, Custom, Late, Trap, Drain, Wait, StoreAhead, Tail, UnitFull, Port, Behind}
 use Rattle.rv_trace.specs.declared.row.Row.{Row}
 use Rattle.rv_trace.specs.RowParts.{kind_of, ComesFirst}
 use Rattle.rv_holds.specs.Tokens.{or_else}
@@ -18,6 +18,7 @@ operand_kind (Operand r j) e = (r, j, refl)
 operand_kind (Board target j) e = absurd (omega (arith, e))
 operand_kind (Custom r j) e = absurd (omega (arith, e))
 operand_kind (Late j) e = absurd (omega (arith, e))
+operand_kind Trap e = absurd (omega (arith, e))
 operand_kind (Drain j) e = absurd (omega (arith, e))
 operand_kind (Wait left) e = absurd (omega (arith, e))
 operand_kind (StoreAhead j) e = absurd (omega (arith, e))
@@ -31,6 +32,7 @@ custom_kind (Operand r j) e = absurd (omega (arith, e))
 custom_kind (Board target j) e = absurd (omega (arith, e))
 custom_kind (Custom r j) e = (r, j, refl)
 custom_kind (Late j) e = absurd (omega (arith, e))
+custom_kind Trap e = absurd (omega (arith, e))
 custom_kind (Drain j) e = absurd (omega (arith, e))
 custom_kind (Wait left) e = absurd (omega (arith, e))
 custom_kind (StoreAhead j) e = absurd (omega (arith, e))
@@ -44,6 +46,7 @@ late_kind (Operand r j) e = absurd (omega (arith, e))
 late_kind (Board target j) e = absurd (omega (arith, e))
 late_kind (Custom r j) e = absurd (omega (arith, e))
 late_kind (Late j) e = (j, refl)
+late_kind Trap e = absurd (omega (arith, e))
 late_kind (Drain j) e = absurd (omega (arith, e))
 late_kind (Wait left) e = absurd (omega (arith, e))
 late_kind (StoreAhead j) e = absurd (omega (arith, e))
@@ -52,11 +55,12 @@ late_kind (UnitFull u) e = absurd (omega (arith, e))
 late_kind (Port j) e = absurd (omega (arith, e))
 late_kind Behind e = absurd (omega (arith, e))
 
-pub drain_kind : (h : Hold) → kind_of h ≡ 4 → (j : ℕ) × (h ≡ Drain j)
+pub drain_kind : (h : Hold) → kind_of h ≡ 5 → (j : ℕ) × (h ≡ Drain j)
 drain_kind (Operand r j) e = absurd (omega (arith, e))
 drain_kind (Board target j) e = absurd (omega (arith, e))
 drain_kind (Custom r j) e = absurd (omega (arith, e))
 drain_kind (Late j) e = absurd (omega (arith, e))
+drain_kind Trap e = absurd (omega (arith, e))
 drain_kind (Drain j) e = (j, refl)
 drain_kind (Wait left) e = absurd (omega (arith, e))
 drain_kind (StoreAhead j) e = absurd (omega (arith, e))
@@ -65,11 +69,12 @@ drain_kind (UnitFull u) e = absurd (omega (arith, e))
 drain_kind (Port j) e = absurd (omega (arith, e))
 drain_kind Behind e = absurd (omega (arith, e))
 
-pub wait_kind : (h : Hold) → kind_of h ≡ 5 → (left : ℕ) × (h ≡ Wait left)
+pub wait_kind : (h : Hold) → kind_of h ≡ 6 → (left : ℕ) × (h ≡ Wait left)
 wait_kind (Operand r j) e = absurd (omega (arith, e))
 wait_kind (Board target j) e = absurd (omega (arith, e))
 wait_kind (Custom r j) e = absurd (omega (arith, e))
 wait_kind (Late j) e = absurd (omega (arith, e))
+wait_kind Trap e = absurd (omega (arith, e))
 wait_kind (Drain j) e = absurd (omega (arith, e))
 wait_kind (Wait left) e = (left, refl)
 wait_kind (StoreAhead j) e = absurd (omega (arith, e))
@@ -78,11 +83,12 @@ wait_kind (UnitFull u) e = absurd (omega (arith, e))
 wait_kind (Port j) e = absurd (omega (arith, e))
 wait_kind Behind e = absurd (omega (arith, e))
 
-pub store_kind : (h : Hold) → kind_of h ≡ 6 → (j : ℕ) × (h ≡ StoreAhead j)
+pub store_kind : (h : Hold) → kind_of h ≡ 7 → (j : ℕ) × (h ≡ StoreAhead j)
 store_kind (Operand r j) e = absurd (omega (arith, e))
 store_kind (Board target j) e = absurd (omega (arith, e))
 store_kind (Custom r j) e = absurd (omega (arith, e))
 store_kind (Late j) e = absurd (omega (arith, e))
+store_kind Trap e = absurd (omega (arith, e))
 store_kind (Drain j) e = absurd (omega (arith, e))
 store_kind (Wait left) e = absurd (omega (arith, e))
 store_kind (StoreAhead j) e = (j, refl)
@@ -91,11 +97,12 @@ store_kind (UnitFull u) e = absurd (omega (arith, e))
 store_kind (Port j) e = absurd (omega (arith, e))
 store_kind Behind e = absurd (omega (arith, e))
 
-pub module_kind : (h : Hold) → kind_of h ≡ 7 → (left : ℕ) × (h ≡ Tail left)
+pub module_kind : (h : Hold) → kind_of h ≡ 8 → (left : ℕ) × (h ≡ Tail left)
 module_kind (Operand r j) e = absurd (omega (arith, e))
 module_kind (Board target j) e = absurd (omega (arith, e))
 module_kind (Custom r j) e = absurd (omega (arith, e))
 module_kind (Late j) e = absurd (omega (arith, e))
+module_kind Trap e = absurd (omega (arith, e))
 module_kind (Drain j) e = absurd (omega (arith, e))
 module_kind (Wait left) e = absurd (omega (arith, e))
 module_kind (StoreAhead j) e = absurd (omega (arith, e))
@@ -137,12 +144,13 @@ joined k earlier row stage c n None (Some h) x y =
       ],
     )
 
--- the scoreboard has no hold, and neither have units
+-- the scoreboard has no hold, without an interrupt line there is no Trap, and units have no hold
 pub no_board : (k : Setting) (earlier : List Row) (row : Row) (stage : ℕ) (c : Cell) (h : Hold) → kind_of h ≡ 1 → OwnHold k earlier row stage c h → ⊥
 no_board k earlier row stage c (Operand r j) e o = omega (arith, e)
 no_board k earlier row stage c (Board target j) e o = o
 no_board k earlier row stage c (Custom r j) e o = omega (arith, e)
 no_board k earlier row stage c (Late j) e o = omega (arith, e)
+no_board k earlier row stage c Trap e o = o
 no_board k earlier row stage c (Drain j) e o = omega (arith, e)
 no_board k earlier row stage c (Wait left) e o = omega (arith, e)
 no_board k earlier row stage c (StoreAhead j) e o = omega (arith, e)
@@ -151,11 +159,26 @@ no_board k earlier row stage c (UnitFull u) e o = omega (arith, e)
 no_board k earlier row stage c (Port j) e o = omega (arith, e)
 no_board k earlier row stage c Behind e o = omega (arith, e)
 
-pub no_unit : (k : Setting) (earlier : List Row) (row : Row) (stage : ℕ) (c : Cell) (h : Hold) → 8 ≤ kind_of h → OwnHold k earlier row stage c h → ⊥
+pub no_trap : (k : Setting) (earlier : List Row) (row : Row) (stage : ℕ) (c : Cell) (h : Hold) → kind_of h ≡ 4 → OwnHold k earlier row stage c h → ⊥
+no_trap k earlier row stage c (Operand r j) e o = omega (arith, e)
+no_trap k earlier row stage c (Board target j) e o = omega (arith, e)
+no_trap k earlier row stage c (Custom r j) e o = omega (arith, e)
+no_trap k earlier row stage c (Late j) e o = omega (arith, e)
+no_trap k earlier row stage c Trap e o = o
+no_trap k earlier row stage c (Drain j) e o = omega (arith, e)
+no_trap k earlier row stage c (Wait left) e o = omega (arith, e)
+no_trap k earlier row stage c (StoreAhead j) e o = omega (arith, e)
+no_trap k earlier row stage c (Tail left) e o = omega (arith, e)
+no_trap k earlier row stage c (UnitFull u) e o = omega (arith, e)
+no_trap k earlier row stage c (Port j) e o = omega (arith, e)
+no_trap k earlier row stage c Behind e o = omega (arith, e)
+
+pub no_unit : (k : Setting) (earlier : List Row) (row : Row) (stage : ℕ) (c : Cell) (h : Hold) → 9 ≤ kind_of h → OwnHold k earlier row stage c h → ⊥
 no_unit k earlier row stage c (Operand r j) e o = omega (arith, e)
 no_unit k earlier row stage c (Board target j) e o = omega (arith, e)
 no_unit k earlier row stage c (Custom r j) e o = omega (arith, e)
 no_unit k earlier row stage c (Late j) e o = omega (arith, e)
+no_unit k earlier row stage c Trap e o = o
 no_unit k earlier row stage c (Drain j) e o = omega (arith, e)
 no_unit k earlier row stage c (Wait left) e o = omega (arith, e)
 no_unit k earlier row stage c (StoreAhead j) e o = omega (arith, e)
@@ -165,8 +188,8 @@ no_unit k earlier row stage c (Port j) e o = o
 no_unit k earlier row stage c Behind e o = o
 
 -- whatever is true of a cell of its own comes before Behind
-pub own_kind : (k : Setting) (earlier : List Row) (row : Row) (stage : ℕ) (c : Cell) (h : Hold) → OwnHold k earlier row stage c h → kind_of h < 8
-own_kind k earlier row stage c h o = elim (cases_lt (kind_of h) 8) [ inl less ↦ less | inr more ↦ absurd (no_unit k earlier row stage c h more o) ]
+pub own_kind : (k : Setting) (earlier : List Row) (row : Row) (stage : ℕ) (c : Cell) (h : Hold) → OwnHold k earlier row stage c h → kind_of h < 9
+own_kind k earlier row stage c h o = elim (cases_lt (kind_of h) 9) [ inl less ↦ less | inr more ↦ absurd (no_unit k earlier row stage c h more o) ]
 
 -- The order in which they are decided
 

@@ -27,7 +27,7 @@ use Rattle.rv_machine.specs.Told.{out_of, Told}
 use Rattle.rv_machine.proofs.Places.{Stood, stood, older_lower, token_of, serials_drop, place_lt, place_order}
 use Rattle.rv_machine.proofs.Deciding.{same_test, test_eq, test_ne, no_waiting}
 use Rattle.rv_machine.proofs.Standing.{slice_get-drop, drop_more, stands_older, asks_at, here_of, cell_here, Has, OldestIs, oldest_is, all_three, out_drop, StayingIs, staying_is}
-use Rattle.rv_machine.proofs.Ordering.{operand_kind, custom_kind, late_kind, drain_kind, wait_kind, store_kind, module_kind, FirstOf, FirstFrom, joined, no_board, no_unit, or_assoc, if_or, or_none, or_right}
+use Rattle.rv_machine.proofs.Ordering.{operand_kind, custom_kind, late_kind, drain_kind, wait_kind, store_kind, module_kind, FirstOf, FirstFrom, joined, no_board, no_trap, no_unit, or_assoc, if_or, or_none, or_right}
 use Rattle.rv_machine.proofs.Sixteen.{customs_few}
 
 -- what is waited for, of one register
@@ -382,19 +382,19 @@ module _ (k : Setting) (ready : IsReady k) (earlier : List Row) (row : Row) (see
   still : (j : ℕ) → is_flushed (row ∷ earlier) j ≡ false → is_retired (row ∷ earlier) j ≡ false → retirements earlier + out_of seen ≤ place (row ∷ earlier) j
   still j alive u = not_below (place (row ∷ earlier) j) (retirements earlier + out_of seen) (sym (told.now j alive) ∙ u)
 
-  drain_of : (i : ℕ) → WaitsToDrain (judged k) earlier row stage t.cell i → ((j : ℕ) → WaitsToDrain (judged k) earlier row stage t.cell j → i ≤ j) → Of 4 (Some (Drain i))
+  drain_of : (i : ℕ) → WaitsToDrain (judged k) earlier row stage t.cell i → ((j : ℕ) → WaitsToDrain (judged k) earlier row stage t.cell j → i ≤ j) → Of 5 (Some (Drain i))
   drain_of i w f = (
     refl,
     w,
     λ g e own. let x = drain_kind g e in subst (λ y. ComesFirst (Drain i) y) (sym x.1) (inr (refl, inr (refl, f x.0 (subst (λ y. Own y) x.1 own)))),
   )
 
-  no_drain : ((j : ℕ) → WaitsToDrain (judged k) earlier row stage t.cell j → ⊥) → Of 4 None
+  no_drain : ((j : ℕ) → WaitsToDrain (judged k) earlier row stage t.cell j → ⊥) → Of 5 None
   no_drain f = λ h e own. let x = drain_kind h e in f x.0 (subst (λ y. Own y) x.1 own)
 
-  drain_older : stage ≡ (shape_of k).ex → IsRipe → (stop : Stop) → stop_of t ≡ Some stop → Of 4 (drain (staying older))
+  drain_older : stage ≡ (shape_of k).ex → IsRipe → (stop : Stop) → stop_of t ≡ Some stop → Of 5 (drain (staying older))
   drain_older at ripe stop w = by_case (staying older) (staying_is (row ∷ earlier) (retirements earlier) older ordered.1) where
-    by_case : (o : Option ℕ) → StayingIs (row ∷ earlier) (retirements earlier) older o → Of 4 (drain o)
+    by_case : (o : Option ℕ) → StayingIs (row ∷ earlier) (retirements earlier) older o → Of 5 (drain o)
     by_case (Some i) x =
         let lt = x.5 in
         let same = out_older (omega (arith, lt)) in
@@ -420,9 +420,9 @@ module _ (k : Setting) (ready : IsReady k) (earlier : List Row) (row : Row) (see
         let same = out_older some in
         omega (arith, s, lower, p, le, same))
 
-  drain_where : IsRipe → Of 4 (if stage == (shape_of k).ex then drain_hold t older else None)
+  drain_where : IsRipe → Of 5 (if stage == (shape_of k).ex then drain_hold t older else None)
   drain_where ripe = by_case (stage == (shape_of k).ex) (stop_of t) refl refl where
-    by_case : (b : Bool) (o : Option Stop) → (stage == (shape_of k).ex) ≡ b → stop_of t ≡ o → Of 4 (if b then (if is_some o then drain (staying older) else None) else None)
+    by_case : (b : Bool) (o : Option Stop) → (stage == (shape_of k).ex) ≡ b → stop_of t ≡ o → Of 5 (if b then (if is_some o then drain (staying older) else None) else None)
     by_case true (Some stop) e w = drain_older (test_eq stage (shape_of k).ex e) ripe stop w
     by_case true None e w = no_drain (λ j d. cc (due_word d.due.0 d.executing ripe d.due.1, w))
     by_case false o e w = no_drain (λ j d. test_ne stage (shape_of k).ex e d.executing)
@@ -470,12 +470,12 @@ module _ (k : Setting) (ready : IsReady k) (earlier : List Row) (row : Row) (see
   above_zero : (n : ℕ) → (n == 0) ≡ false → 0 < n
   above_zero n e = grind (arith, nat_tests)
 
-  no_wait : ((left : ℕ) → WaitsForMemory (judged k) earlier row stage t.cell left → ⊥) → Of 5 None
+  no_wait : ((left : ℕ) → WaitsForMemory (judged k) earlier row stage t.cell left → ⊥) → Of 6 None
   no_wait f = λ h e own. let x = wait_kind h e in f x.0 (subst (λ y. Own y) x.1 own)
 
-  wait_where : Of 5 (if stage == (shape_of k).mem then memory_hold t else None)
+  wait_where : Of 6 (if stage == (shape_of k).mem then memory_hold t else None)
   wait_where = by_case (stage == (shape_of k).mem) (t.wait == 0) refl refl where
-    by_case : (b c : Bool) → (stage == (shape_of k).mem) ≡ b → (t.wait == 0) ≡ c → Of 5 (if b then (if c then None else Some (Wait t.wait)) else None)
+    by_case : (b c : Bool) → (stage == (shape_of k).mem) ≡ b → (t.wait == 0) ≡ c → Of 6 (if b then (if c then None else Some (Wait t.wait)) else None)
     by_case true true e z = no_wait (none_owed (test_eq stage (shape_of k).mem e) (test_eq t.wait 0 z))
     by_case true false e z = (
       refl,
@@ -518,10 +518,10 @@ module _ (k : Setting) (ready : IsReady k) (earlier : List Row) (row : Row) (see
         );
       }
 
-  no_ahead : ((j : ℕ) → WaitsForStore (judged k) earlier row stage t.cell j → ⊥) → Of 6 None
+  no_ahead : ((j : ℕ) → WaitsForStore (judged k) earlier row stage t.cell j → ⊥) → Of 7 None
   no_ahead f = λ h e own. let x = store_kind h e in f x.0 (subst (λ y. Own y) x.1 own)
 
-  store_of : stage ≡ (shape_of k).mem → (o : Option ℕ) → OldestIs older does_store o → t.asks.loads ≡ true → Of 6 (store_ahead o)
+  store_of : stage ≡ (shape_of k).mem → (o : Option ℕ) → OldestIs older does_store o → t.asks.loads ≡ true → Of 7 (store_ahead o)
   store_of at None f loads = no_ahead (λ j w. f j (from_store j w))
   store_of at (Some i) f loads = (
     refl,
@@ -529,9 +529,9 @@ module _ (k : Setting) (ready : IsReady k) (earlier : List Row) (row : Row) (see
     λ g e own. let x = store_kind g e in subst (λ y. ComesFirst (StoreAhead i) y) (sym x.1) (inr (refl, inr (refl, f.1 x.0 (from_store x.0 (subst (λ y. Own y) x.1 own))))),
   )
 
-  store_where : Of 6 (if stage == (shape_of k).mem then store_hold older t.asks else None)
+  store_where : Of 7 (if stage == (shape_of k).mem then store_hold older t.asks else None)
   store_where = by_case (stage == (shape_of k).mem) t.asks.loads refl refl where
-    by_case : (b c : Bool) → (stage == (shape_of k).mem) ≡ b → t.asks.loads ≡ c → Of 6 (if b then (if c then store_ahead (oldest does_store older) else None) else None)
+    by_case : (b c : Bool) → (stage == (shape_of k).mem) ≡ b → t.asks.loads ≡ c → Of 7 (if b then (if c then store_ahead (oldest does_store older) else None) else None)
     by_case true true e l = store_of (test_eq stage (shape_of k).mem e) (oldest does_store older) (oldest_is (row ∷ earlier) (retirements earlier) does_store older ordered.1) l
     by_case true false e l = no_ahead (λ j w. cc (ap (λ (a : Asks). a.loads) placed.0.asks ∙ w.loads, l))
     by_case false c e l = no_ahead (λ j w. test_ne stage (shape_of k).mem e w.loading)
@@ -541,15 +541,15 @@ module _ (k : Setting) (ready : IsReady k) (earlier : List Row) (row : Row) (see
   module_here : t.tail + Lawful.tailed (judged k) earlier t.cell.serial ≡ (asked k.design t.cell.word).tail
   module_here = told.modules stage t older rest ∙ ap (λ (a : Asks). a.tail) placed.0.asks
 
-  no_module : ((left : ℕ) → WaitsForModule (judged k) earlier row stage t.cell left → ⊥) → Of 7 None
+  no_module : ((left : ℕ) → WaitsForModule (judged k) earlier row stage t.cell left → ⊥) → Of 8 None
   no_module f = λ h e own. let x = module_kind h e in f x.0 (subst (λ y. Own y) x.1 own)
 
   module_done : t.tail ≡ 0 → (left : ℕ) → WaitsForModule (judged k) earlier row stage t.cell left → ⊥
   module_done z left w = let a = w.still in let b = w.some in let c = module_here in omega (arith, a, b, c, z)
 
-  module_where : Of 7 (if suc stage == (shape_of k).stages then tail_hold t else None)
+  module_where : Of 8 (if suc stage == (shape_of k).stages then tail_hold t else None)
   module_where = by_case (suc stage == (shape_of k).stages) (t.tail == 0) refl refl where
-    by_case : (b c : Bool) → (suc stage == (shape_of k).stages) ≡ b → (t.tail == 0) ≡ c → Of 7 (if b then (if c then None else Some (Tail t.tail)) else None)
+    by_case : (b c : Bool) → (suc stage == (shape_of k).stages) ≡ b → (t.tail == 0) ≡ c → Of 8 (if b then (if c then None else Some (Tail t.tail)) else None)
     by_case true true e z = no_module (module_done (test_eq t.tail 0 z))
     by_case true false e z = (
       refl,
@@ -598,14 +598,14 @@ module _ (k : Setting) (ready : IsReady k) (earlier : List Row) (row : Row) (see
   abbrev From : ℕ → Option Hold → Type 0
   From n o = FirstFrom (judged k) earlier row stage t.cell n o
 
-  from_modules : From 7 modules
-  from_modules = subst (λ o. From 7 o) (or_right modules) (joined (judged k) earlier row stage t.cell 7 modules None module_where (λ e h le own. no_unit (judged k) earlier row stage t.cell h le own))
+  from_modules : From 8 modules
+  from_modules = subst (λ o. From 8 o) (or_right modules) (joined (judged k) earlier row stage t.cell 8 modules None module_where (λ e h le own. no_unit (judged k) earlier row stage t.cell h le own))
 
-  from_drains : IsRipe → From 4 (or_else drains (or_else waits (or_else stores modules)))
+  from_drains : IsRipe → From 5 (or_else drains (or_else waits (or_else stores modules)))
   from_drains ripe =
-      joined (judged k) earlier row stage t.cell 4 drains (or_else waits (or_else stores modules)) (drain_where ripe)
-      (λ d. joined (judged k) earlier row stage t.cell 5 waits (or_else stores modules) wait_where
-      (λ w. joined (judged k) earlier row stage t.cell 6 stores modules store_where (λ s. from_modules)))
+      joined (judged k) earlier row stage t.cell 5 drains (or_else waits (or_else stores modules)) (drain_where ripe)
+      (λ d. joined (judged k) earlier row stage t.cell 6 waits (or_else stores modules) wait_where
+      (λ w. joined (judged k) earlier row stage t.cell 7 stores modules store_where (λ s. from_modules)))
 
   own_is : From 0 (own_hold (shape_of k) stage t older)
   own_is =
@@ -613,7 +613,9 @@ module _ (k : Setting) (ready : IsReady k) (earlier : List Row) (row : Row) (see
       (joined (judged k) earlier row stage t.cell 0 operands (or_else customs (or_else jumps (or_else drains (or_else waits (or_else stores modules))))) operand_where
       (λ a. joined (judged k) earlier row stage t.cell 1 None (or_else customs (or_else jumps (or_else drains (or_else waits (or_else stores modules))))) (no_board (judged k) earlier row stage t.cell)
       (λ n. joined (judged k) earlier row stage t.cell 2 customs (or_else jumps (or_else drains (or_else waits (or_else stores modules)))) custom_where
-      (λ b. joined (judged k) earlier row stage t.cell 3 jumps (or_else drains (or_else waits (or_else stores modules))) late_where (λ c. from_drains (waiting_none a b c))))))
+      (λ b. joined (judged k) earlier row stage t.cell 3 jumps (or_else drains (or_else waits (or_else stores modules))) late_where
+      (λ c. joined (judged k) earlier row stage t.cell 4 None (or_else drains (or_else waits (or_else stores modules))) (no_trap (judged k) earlier row stage t.cell)
+      (λ m. from_drains (waiting_none a b c)))))))
 
   pub own_free : (h : Hold) → own_hold (shape_of k) stage t older ≡ Some h → OwnHold (judged k) earlier row stage t.cell h × ((g : Hold) → OwnHold (judged k) earlier row stage t.cell g → ComesFirst h g)
   own_free h e = let x : From 0 (Some h) = subst (λ o. From 0 o) e own_is in (x.0, λ g o. x.1 g (omega arith) o)

@@ -1,5 +1,5 @@
 -- The text of a sequential run (this project's choice): a line a step, the stop if there is one, and the state behind the last step.
-use Rattle.std.specs.Prelude.{ℕ, zero, suc, ◌+◌, ◌*◌, ◌/◌, List, [], ◌∷◌, ◌++◌, length, take, Some, if◌then◌else◌, ◌==◌, codes, decimal}
+use Rattle.std.specs.Prelude.{ℕ, zero, suc, ◌+◌, ◌*◌, ◌/◌, List, [], ◌∷◌, ◌++◌, length, take, Option, Some, None, Bool, true, false, if◌then◌else◌, ◌==◌, codes, decimal}
 use Rattle.ix_bits.specs.declared.number.Bits.{Bits}
 use Rattle.ix_io.specs.Out.{hex_digits}
 use Rattle.ix_extension.specs.Extensions.{ExtensionTree}
@@ -7,6 +7,7 @@ use Rattle.rv_memory.specs.Room.{base, read}
 use Rattle.rv_seq.specs.declared.commit.Commit.{Commit}
 use Rattle.rv_seq.specs.declared.commit.Stop.{Stop}
 use Rattle.rv_seq.specs.declared.arch.Arch.{Arch}
+use Rattle.rv_seq.specs.declared.arch.TrapState.{TrapState}
 use Rattle.rv_seq.specs.declared.answer.StepAnswer.{StepAnswer}
 use Rattle.rv_seq.specs.declared.answer.StepAnswer.TheVariants.{Done, Stopped}
 use Rattle.rv_seq.specs.States.{first}
@@ -30,10 +31,19 @@ abbrev pub custom_lines : ℕ → List Bits → List ℕ
 custom_lines number [] = []
 custom_lines number (b ∷ rest) = custom_line number b ++ custom_lines (suc number) rest
 
--- the pc, each x register that is not 0, and so many custom registers
+abbrev pub flag_text : Bool → List ℕ
+flag_text true = codes "1"
+flag_text false = codes "0"
+
+-- the trap state, where there is one: the address to which the handler returns, and whether an interrupt is taken
+abbrev pub trap_text : Option TrapState → List ℕ
+trap_text None = []
+trap_text (Some t) = codes "epc " ++ hex_word_text t.epc ++ codes "\nenabled " ++ flag_text t.enabled ++ codes "\n"
+
+-- the pc, the trap state, each x register that is not 0, and so many custom registers
 abbrev pub head_text : ℕ → Arch → List ℕ
 head_text registers s =
-    codes "state\npc " ++ hex_word_text s.pc ++ codes "\n" ++ registers_text 0 s.x ++ custom_lines 0 (take registers s.custom)
+    codes "state\npc " ++ hex_word_text s.pc ++ codes "\n" ++ trap_text s.trap ++ registers_text 0 s.x ++ custom_lines 0 (take registers s.custom)
 
 -- an aligned word of the memory that is not 0
 abbrev pub word_line : ℕ → ℕ → List ℕ

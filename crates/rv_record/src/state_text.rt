@@ -1,10 +1,10 @@
 ghost use Rattle.std.specs.Prelude.{◌≡◌, ◌+◌, ◌*◌, ◌<◌, ◌≤◌, ◌^◌, ◌++◌, length, take, decimal, codes};
-ghost use Rattle.rv_record.specs.RunText.{custom_line, custom_lines, head_text, memory_word, word_line};
+ghost use Rattle.rv_record.specs.RunText.{custom_line, custom_lines, flag_text, head_text, memory_word, trap_text, word_line};
 
 use ix_bits::Bits;
 use ix_io::Out;
 use rv_memory::{BASE, RandomAccess};
-use rv_seq::Arch;
+use rv_seq::{Arch, TrapState};
 use rv_trace::{put_registers, put_small, put_word};
 
 // Appends the line of a custom register.
@@ -33,7 +33,35 @@ fn put_customs(out: &mut Out, custom: &[Bits])
     }
 }
 
-/// Appends the first lines of a state: the pc, each x register that is not 0, and the extension's custom registers, at most 16. Needs
+// Appends 1 for true and 0 for false.
+fn put_flag(out: &mut Out, is_set: bool)
+    requires { length out.old + 1 ≤ 65536 }
+    ensures text { out.new ≡ out.old ++ flag_text is_set }
+    ensures few { length out.new ≤ length out.old + 1 }
+{
+    if is_set {
+        out.text("1");
+    } else {
+        out.text("0");
+    }
+}
+
+// Appends the lines of a trap state, if there is one.
+fn put_trap(out: &mut Out, trap: Option<TrapState>)
+    requires { length out.old + 23 ≤ 65536 }
+    ensures text { out.new ≡ out.old ++ trap_text trap }
+    ensures few { length out.new ≤ length out.old + 23 }
+{
+    if let Some(state) = trap {
+        out.text("epc ");
+        put_word(out, state.epc);
+        out.text("\nenabled ");
+        put_flag(out, state.enabled);
+        out.text("\n");
+    }
+}
+
+/// Appends the first lines of a state: the pc, the trap state, if there is one, each x register that is not 0, and the extension's custom registers, at most 16. Needs
 /// room for 1,100 bytes, and takes no memory.
 pub fn put_head(out: &mut Out, arch: &Arch, registers: usize)
     requires few { registers ≤ 16 }
@@ -44,6 +72,7 @@ pub fn put_head(out: &mut Out, arch: &Arch, registers: usize)
     out.text("state\npc ");
     put_word(out, arch.pc);
     out.text("\n");
+    put_trap(out, arch.trap);
     put_registers(out, &arch.x);
     put_customs(out, &arch.custom[..registers]);
 }

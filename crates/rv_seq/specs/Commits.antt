@@ -41,7 +41,7 @@ commit_of at word e =
       next = unwrap_or e.pc ((at + 4) % 2 ^ 32);
     }
 
--- ---- the state after the writes of a record; what comes later is not yet written
+-- ---- the state after the writes of a record; what comes later is not yet written, and no write changes the trap state
 abbrev pub with_x : List ℕ → ℕ → Slot ℕ → List ℕ
 with_x x rd Absent = x
 with_x x rd (Now value) = slice_set x rd value
@@ -67,6 +67,7 @@ applied c s =
       x = with_x s.x c.rd_index c.rd;
       custom = with_customs s.custom c.custom;
       mem = with_store s.mem c.store;
+      trap = s.trap;
     }
 
 -- a store lies in the memory

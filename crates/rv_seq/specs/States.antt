@@ -1,5 +1,5 @@
 -- The state of a sequential run: first, and as an instruction sees it (RV32I: x0 to x31 and the pc; what they start with is this project's choice).
-use Rattle.std.specs.Prelude.{ℕ, pos, List, replicate, map, get_or, slice_index}
+use Rattle.std.specs.Prelude.{ℕ, pos, List, replicate, map, get_or, slice_index, None}
 use Rattle.ix_bits.specs.declared.number.Bits.{Bits}
 use Rattle.ix_tree.specs.declared.extension.Register.{Register}
 use Rattle.ix_extension.specs.Extensions.{ExtensionTree, pattern}
@@ -27,9 +27,9 @@ initial_of rs r = get_or (map initial_in rs) r zero_bit
 abbrev pub initials : List Register → List Bits
 initials rs = table (initial_of rs) 16
 
--- the first state: the pc, each x register and each byte of the memory are 0, and custom registers have their initial values
+-- the first state: the pc, each x register and each byte of the memory are 0, custom registers have their initial values, and there is no trap state
 unfoldable pub first : ExtensionTree → Arch
-first x = record { pc = 0; x = replicate 32 0; custom = initials x.registers; mem = replicate size 0 }
+first x = record { pc = 0; x = replicate 32 0; custom = initials x.registers; mem = replicate size 0; trap = None }
 
 -- what the instruction of a word sees of a state: its word, its operands, the pc, the custom registers and the memory
 abbrev pub state_at : ℕ → Arch → State

@@ -10,14 +10,24 @@ use ix_tree::{Extension, Register};
 use rv_memory::RandomAccess;
 use std::alloc::Global;
 
-/// The architectural state: the pc, the x registers, of which x0 is 0, the custom registers, and the memory. Custom registers past
-/// the extension's are a zero of one bit. Only `new` takes memory.
+/// What a core with an interrupt line knows of interrupts.
+#[derive(Clone, Copy, Debug, PartialEq, Eq)]
+pub struct TrapState {
+    /// The address to which the handler returns.
+    pub epc: u32,
+    /// Whether an interrupt is taken.
+    pub enabled: bool,
+}
+
+/// The architectural state: the pc, the x registers, of which x0 is 0, the custom registers, the memory, and the trap state, where the
+/// core has an interrupt line. Custom registers past the extension's are a zero of one bit. Only `new` takes memory.
 #[derive(Drop)]
 pub struct Arch {
     pub pc: u32,
     pub x: [u32; 32],
     pub custom: [Bits; 16],
     pub mem: RandomAccess,
+    pub trap: Option<TrapState>,
 }
 
 // The value that the custom register of a number starts with.
@@ -43,7 +53,7 @@ fn initials_of(registers: &[Register]) -> [Bits; 16]
 }
 
 impl Arch {
-    /// The first state of a core with a well-formed extension.
+    /// The first state of a core with a well-formed extension and no interrupt line.
     #[tactic(auto, unfolding(crate::specs::States::first))]
     pub fn new(alloc: Global, ext: &Extension) -> Result<Arch, Memory>
         requires { IsWellFormed ext.now }
@@ -57,12 +67,13 @@ impl Arch {
                 x: [0; 32],
                 custom,
                 mem,
+                trap: None,
             }),
             Err(error) => Err(error),
         }
     }
 
-    /// The first state of a core with an extension without sections.
+    /// The first state of a core with an extension without sections and no interrupt line.
     #[tactic(auto, unfolding(crate::specs::States::first))]
     pub fn bare(alloc: Global) -> Result<Arch, Memory>
         ensures { IfOk result (λ arch. arch ≡ first bare) }
@@ -74,6 +85,7 @@ impl Arch {
                 x: [0; 32],
                 custom,
                 mem,
+                trap: None,
             }),
             Err(error) => Err(error),
         }

@@ -10,7 +10,7 @@ mod stopping;
 
 pub use answer::StepAnswer;
 pub use applying::{apply, commit_of};
-pub use arch::Arch;
+pub use arch::{Arch, TrapState};
 pub use commit::{Commit, Slot, Stop};
 pub use ix_eval::Access;
 pub use step::{seq_step, word_at};

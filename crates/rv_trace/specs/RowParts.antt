@@ -5,7 +5,7 @@ use Rattle.rv_trace.specs.declared.row.Row.{Row}
 use Rattle.rv_trace.specs.declared.row.Target.{Target}
 use Rattle.rv_trace.specs.declared.row.Target.TheVariants.{X, Custom as custom_target}
 use Rattle.rv_trace.specs.declared.row.Hold.{Hold}
-use Rattle.rv_trace.specs.declared.row.Hold.TheVariants.{Operand, Board, Custom, Late, Drain, Wait, StoreAhead, Tail, UnitFull, Port, Behind}
+use Rattle.rv_trace.specs.declared.row.Hold.TheVariants.{Operand, Board, Custom, Late, Trap, Drain, Wait, StoreAhead, Tail, UnitFull, Port, Behind}
 use Rattle.rv_trace.specs.Trace.{has_serial, is_flushed}
 
 -- Moves and fetch
@@ -89,13 +89,14 @@ kind_of (Operand r j) = 0
 kind_of (Board t j) = 1
 kind_of (Custom r j) = 2
 kind_of (Late j) = 3
-kind_of (Drain j) = 4
-kind_of (Wait left) = 5
-kind_of (StoreAhead j) = 6
-kind_of (Tail left) = 7
-kind_of (UnitFull u) = 8
-kind_of (Port j) = 9
-kind_of Behind = 10
+kind_of Trap = 4
+kind_of (Drain j) = 5
+kind_of (Wait left) = 6
+kind_of (StoreAhead j) = 7
+kind_of (Tail left) = 8
+kind_of (UnitFull u) = 9
+kind_of (Port j) = 10
+kind_of Behind = 11
 
 -- the number of a target, those of x registers before those of custom ones
 abbrev pub target_number : Target → ℕ
@@ -108,6 +109,7 @@ register_of (Operand r j) = r
 register_of (Board t j) = target_number t
 register_of (Custom r j) = r
 register_of (Late j) = 0
+register_of Trap = 0
 register_of (Drain j) = 0
 register_of (Wait left) = 0
 register_of (StoreAhead j) = 0
@@ -122,6 +124,7 @@ serial_of (Operand r j) = j
 serial_of (Board t j) = j
 serial_of (Custom r j) = j
 serial_of (Late j) = j
+serial_of Trap = 0
 serial_of (Drain j) = j
 serial_of (Wait left) = 0
 serial_of (StoreAhead j) = j

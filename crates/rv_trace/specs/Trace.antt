@@ -54,7 +54,7 @@ rows_without (row ∷ earlier) = if is_some row.retired then 0 else suc (rows_wi
 
 -- a row with nothing in it, which stands before row 0
 abbrev pub blank : Row
-blank = record { cells = replicate 5 None; retired = None; written = None; flushed = replicate 5 None; redirect = None; stop = None }
+blank = record { cells = replicate 5 None; retired = None; written = None; flushed = replicate 5 None; redirect = None; taken = None; stop = None }
 
 -- the row before the next one
 abbrev pub newest : List Row → Row

@@ -8,7 +8,7 @@ use Rattle.rv_trace.specs.declared.row.Row.{Row}
 use Rattle.rv_trace.specs.declared.row.Target.{Target}
 use Rattle.rv_trace.specs.declared.row.Target.TheVariants.{X, Custom as custom_target}
 use Rattle.rv_trace.specs.declared.row.Hold.{Hold}
-use Rattle.rv_trace.specs.declared.row.Hold.TheVariants.{Operand, Board, Custom, Late, Drain, Wait, StoreAhead, Tail, UnitFull, Port, Behind}
+use Rattle.rv_trace.specs.declared.row.Hold.TheVariants.{Operand, Board, Custom, Late, Trap, Drain, Wait, StoreAhead, Tail, UnitFull, Port, Behind}
 use Rattle.ix_eval.specs.declared.access.Access.{Access}
 use Rattle.rv_seq.specs.declared.commit.Commit.{Commit}
 use Rattle.rv_seq.specs.declared.commit.Slot.{Slot}
@@ -41,6 +41,7 @@ hold_text (Operand r j) = codes "Operand(x" ++ decimal r ++ codes "," ++ decimal
 hold_text (Board t j) = codes "Board(" ++ target_text t ++ codes "," ++ decimal j ++ codes ")"
 hold_text (Custom r j) = codes "Custom(c" ++ decimal r ++ codes "," ++ decimal j ++ codes ")"
 hold_text (Late j) = codes "Late(" ++ decimal j ++ codes ")"
+hold_text Trap = codes "Trap"
 hold_text (Drain j) = codes "Drain(" ++ decimal j ++ codes ")"
 hold_text (Wait left) = codes "Wait(" ++ decimal left ++ codes ")"
 hold_text (StoreAhead j) = codes "StoreAhead(" ++ decimal j ++ codes ")"
@@ -75,6 +76,11 @@ written_serial (Some p) = Some p.0
 abbrev pub redirect_text : Option ℕ → List ℕ
 redirect_text None = []
 redirect_text (Some a) = codes " p" ++ hex_word_text a
+
+-- the address to which the handler returns, where an interrupt is taken
+abbrev pub taken_text : Option ℕ → List ℕ
+taken_text None = []
+taken_text (Some a) = codes " i" ++ hex_word_text a
 
 abbrev pub row_stop_text : Option Stop → List ℕ
 row_stop_text None = []
@@ -127,6 +133,7 @@ row_line stages number row =
     ++ mark_text (codes " w") (written_serial row.written)
     ++ flat_map (mark_text (codes " f")) row.flushed
     ++ redirect_text row.redirect
+    ++ taken_text row.taken
     ++ row_stop_text row.stop
     ++ codes "\n"
 

@@ -8,4 +8,5 @@ mod trace;
 
 pub use row::{Cell, Hold, Row, Target};
 pub use row_text::{put_registers, put_retired, put_row, put_small, put_stop, put_word};
+pub use rv_waits::Lines;
 pub use trace::Trace;

@@ -19,6 +19,8 @@ pub enum Hold {
     Custom(u8, u32),
     /// An older cell writes the pc late.
     Late(u32),
+    /// An interrupt is to be taken before the cell goes on.
+    Trap,
     /// A cell that is due to stop waits for an older cell.
     Drain(u32),
     /// The memory makes the access wait for so many rows.
@@ -58,5 +60,7 @@ pub struct Row {
     pub flushed: [Option<u32>; 5],
     /// The address that the next fetch takes instead of its own.
     pub redirect: Option<u32>,
+    /// The address to which the handler returns, where the row takes an interrupt.
+    pub taken: Option<u32>,
     pub stop: Option<Stop>,
 }

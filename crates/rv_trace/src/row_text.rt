@@ -2,7 +2,7 @@ ghost use Rattle.std.specs.Prelude.{◌≡◌, ◌+◌, ◌*◌, ◌/◌, ◌%�
 ghost use Rattle.std.specs.List.{flat_map};
 ghost use Rattle.ix_io.specs.Out.{hex_digits};
 ghost use Rattle.rv_trace.specs.Trace.{has_serial};
-ghost use Rattle.rv_trace.specs.TraceText.{hex_word_text, stop_text, hold_text, held_text, stage_text, mark_text, retired_serial as specified_retired_serial, written_serial as specified_written_serial, redirect_text, row_stop_text, x_write_text, custom_write_text, custom_writes_text, store_text, next_text, writes_text, retired_text, written_text, row_line, row_text, register_text, registers_text};
+ghost use Rattle.rv_trace.specs.TraceText.{hex_word_text, stop_text, hold_text, held_text, stage_text, mark_text, retired_serial as specified_retired_serial, written_serial as specified_written_serial, redirect_text, taken_text, row_stop_text, x_write_text, custom_write_text, custom_writes_text, store_text, next_text, writes_text, retired_text, written_text, row_line, row_text, register_text, registers_text};
 
 use crate::row::{Cell, Hold, Row, Target};
 use ix_bits::Bits;
@@ -95,6 +95,7 @@ fn put_hold(out: &mut Out, hold: Hold)
         Hold::Board(Target::Custom(c), serial) => put_register_hold(out, "Board(c", c, serial),
         Hold::Custom(c, serial) => put_register_hold(out, "Custom(c", c, serial),
         Hold::Late(serial) => put_number_hold(out, "Late(", serial),
+        Hold::Trap => out.text("Trap"),
         Hold::Drain(serial) => put_number_hold(out, "Drain(", serial),
         Hold::Wait(left) => put_number_hold(out, "Wait(", u32::from(left)),
         Hold::StoreAhead(serial) => put_number_hold(out, "StoreAhead(", serial),
@@ -205,6 +206,17 @@ fn put_redirect(out: &mut Out, redirect: Option<u32>)
 {
     if let Some(address) = redirect {
         out.text(" p");
+        put_word(out, address);
+    }
+}
+
+fn put_taken(out: &mut Out, taken: Option<u32>)
+    requires { length out.old + 10 ≤ 65536 }
+    ensures text { out.new ≡ out.old ++ taken_text taken }
+    ensures few { length out.new ≤ length out.old + 10 }
+{
+    if let Some(address) = taken {
+        out.text(" i");
         put_word(out, address);
     }
 }
@@ -358,9 +370,9 @@ fn put_written(out: &mut Out, written: &Option<(u32, u8, Slot<u32>, [Slot<Bits>;
 }
 
 fn put_row_line(out: &mut Out, number: u32, shape: Shape, row: &Row)
-    requires { length out.old + 351 ≤ 65536 }
+    requires { length out.old + 361 ≤ 65536 }
     ensures text { out.new ≡ out.old ++ row_line shape.stages number row.now }
-    ensures few { length out.new ≤ length out.old + 351 }
+    ensures few { length out.new ≤ length out.old + 361 }
 {
     put_number(out, number);
     put_stages(out, &row.flushed, &row.cells[..usize::from(shape.stages)]);
@@ -368,6 +380,7 @@ fn put_row_line(out: &mut Out, number: u32, shape: Shape, row: &Row)
     put_mark(out, " w", written_serial(&row.written));
     put_flushed(out, &row.flushed);
     put_redirect(out, row.redirect);
+    put_taken(out, row.taken);
     put_row_stop(out, row.stop);
     out.text("\n");
 }

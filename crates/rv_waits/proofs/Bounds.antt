@@ -1,6 +1,5 @@
 -- The wait of each access beside the greatest one.
 use Rattle.std.proofs.Common.{ℕ, zero, suc, ◌≤◌, List, [], ◌∷◌, arith}
-use Rattle.std.specs.Prelude.{get_or, max}
 use Rattle.rv_waits.specs.Waits.{wait_at, greatest}
 
 pub wait_bounded : (waits : List ℕ) (access : ℕ) → wait_at waits access ≤ greatest waits

@@ -1,8 +1,10 @@
-//! The waits of a memory: for how many rows each access waits.
+//! What a pipeline meets from outside: for how many rows each access of the memory waits, and in which rows an interrupt line is raised.
 #![tactic(auto)]
 
 mod laws;
+mod lines;
 mod waits;
 
 pub use laws::waits_are_bounded;
+pub use lines::Lines;
 pub use waits::Waits;

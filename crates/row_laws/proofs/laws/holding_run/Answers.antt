@@ -1,4 +1,4 @@
-use Rattle.row_laws.proofs.HoldingRows.{holding_lawful, untrue_hold_refused, later_hold_refused, tail_one_more_refused, tail_one_less_refused, tail_left_out_refused, custom_left_out_refused, skipped_word_refused, wrong_stop_refused, missing_stop_refused}
+use Rattle.row_laws.proofs.HoldingRows.{holding_lawful, untrue_hold_refused, later_hold_refused, tail_one_more_refused, tail_one_less_refused, tail_left_out_refused, custom_left_out_refused, skipped_word_refused, wrong_stop_refused, missing_stop_refused, untrue_trap_refused, taken_unasked_refused}
 use Rattle.row_laws.proofs.laws.holding_run.Goals as goal
 
 pub returns-clause-rows : goal.returns-clause-rows
@@ -30,3 +30,9 @@ returns-clause-wrong_stop c = wrong_stop_refused
 
 pub returns-clause-missing_stop : goal.returns-clause-missing_stop
 returns-clause-missing_stop c = missing_stop_refused
+
+pub returns-clause-untrue_trap : goal.returns-clause-untrue_trap
+returns-clause-untrue_trap c = untrue_trap_refused
+
+pub returns-clause-taken_unasked : goal.returns-clause-taken_unasked
+returns-clause-taken_unasked c = taken_unasked_refused
