@@ -31,6 +31,7 @@ abbrev pub custom_lines : ℕ → List Bits → List ℕ
 custom_lines number [] = []
 custom_lines number (b ∷ rest) = custom_line number b ++ custom_lines (suc number) rest
 
+-- 1 for true and 0 for false
 abbrev pub flag_text : Bool → List ℕ
 flag_text true = codes "1"
 flag_text false = codes "0"
