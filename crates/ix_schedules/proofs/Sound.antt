@@ -1,6 +1,6 @@
 -- The check of a report finds no fault in the text of a report whose parts have none, also behind a line of a refusal.
-use Rattle.std.proofs.Common.{◌≡◌, ◌∙◌, sym, ap, refl, ℕ, suc, ◌+◌, ◌≤◌, ◌==◌, lit≤, Bool, List, [], ◌∷◌, ◌++◌, append_assoc, true, false, arith}
-use Rattle.std.specs.Prelude.{All, codes, nat_lt}
+use Rattle.std.proofs.Common.{◌≡◌, ◌∙◌, sym, ap, refl, ℕ, ◌+◌, ◌≤◌, ◌<◌, ◌^◌, ◌==◌, lit≤, lit<, Bool, List, [], ◌∷◌, ◌++◌, append_assoc, true, false, arith}
+use Rattle.std.specs.Prelude.{All, codes, decimal, nat_lt}
 use Rattle.std.specs.List.{list_all, flat_map, slice_split}
 use Rattle.std.proofs.lemmas.Bool.{and_parts}
 use Rattle.std.proofs.lemmas.Bool.Decides.{nat_tests}
@@ -17,6 +17,7 @@ use Rattle.ix_cert.specs.Printing.{text_of}
 use Rattle.ix_cert.specs.Faults.{Step, HasNoFault, block_count, steps_in, steps_from}
 use Rattle.ix_cert.specs.Certificates.{IsFaultless}
 use Rattle.ix_cert.proofs.Outcomes.{printed}
+use Rattle.ix_cert.proofs.Shown.{Shown, shown_decimal}
 use Rattle.ix_reports.specs.Blocks.{version_by, IsSound}
 use Rattle.ix_schedules.specs.Scheduling.{behaviours_of, AreReported, IsReport}
 use Rattle.ix_schedules.specs.ScheduleText.{no_schedule_line, alone}
@@ -118,23 +119,30 @@ lines_behind n text h =
 abbrev title : ℕ → Line
 title version = codes "longnail report" ++ field version
 
-title_plain : (version : ℕ) → 1 ≤ version → version ≤ 2 → list_all (nat_lt 10) (title version) ≡ true
-title_plain 0 a b = absurd (omega arith)
-title_plain 1 a b = refl
-title_plain 2 a b = refl
-title_plain (suc (suc (suc n))) a b = absurd (omega arith)
+shown_byte : (b : ℕ) → 32 < b → nat_lt 10 b ≡ true
+shown_byte b h = grind (arith, nat_tests)
 
-first_is_title : (version : ℕ) (rest : List ℕ) → 1 ≤ version → version ≤ 2 → lines_of ((title version ++ 10 ∷ []) ++ rest) ≡ title version ∷ without_last_empty (slice_split (λ b. b == 10) rest)
-first_is_title version rest a b =
+shown_plain : (w : Line) → Shown w → list_all (nat_lt 10) w ≡ true
+shown_plain [] h = refl
+shown_plain (b ∷ w) h = rw (shown_byte b h.0, shown_plain w h.1) refl
+
+small_number : (n most : ℕ) → n ≤ most → most < 2 ^ 64 → n < 2 ^ 64
+small_number n most h l = omega arith
+
+title_plain : (version : ℕ) → version ≤ 2 → list_all (nat_lt 10) (title version) ≡ true
+title_plain version h = shown_plain (decimal version) (shown_decimal version (small_number version 2 h (lit< tt)))
+
+first_is_title : (version : ℕ) (rest : List ℕ) → version ≤ 2 → lines_of ((title version ++ 10 ∷ []) ++ rest) ≡ title version ∷ without_last_empty (slice_split (λ b. b == 10) rest)
+first_is_title version rest h =
     ap lines_of (append_assoc (title version) (10 ∷ []) rest)
-    ∙ ap without_last_empty (slice_split_at (λ b. b == 10) (title version) 10 rest (no_feed (title version) (title_plain version a b)) refl)
+    ∙ ap without_last_empty (slice_split_at (λ b. b == 10) (title version) 10 rest (no_feed (title version) (title_plain version h)) refl)
 
 -- the lines of a report's text are those of the report
 lines_are : (r : Report) → IsInForm r → lines_of (text_of (report_lines r)) ≡ report_lines r
 lines_are r f =
     let rest = text_of ((codes "period" ++ field r.period) ∷ flat_map (block_lines (is_weighted r.version)) r.blocks) in
     let t = printed (text_of (report_lines r)) r f refl in
-    let first : lines_of (text_of (report_lines r)) ≡ title r.version ∷ without_last_empty (slice_split (λ b. b == 10) rest) = first_is_title r.version rest f.some_version f.most_version in
+    let first : lines_of (text_of (report_lines r)) ≡ title r.version ∷ without_last_empty (slice_split (λ b. b == 10) rest) = first_is_title r.version rest f.most_version in
     first ∙ ap behind_refusal (sym first) ∙ t.lines
 
 refusal_behind : (l : Line) (ls : List Line) → is_refusal l ≡ true → behind_refusal (l ∷ ls) ≡ ls

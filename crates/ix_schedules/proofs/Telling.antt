@@ -28,7 +28,7 @@ without_told x sheet b text h e sound =
     (λ w r. record { block = b; without = r; printed = e ∙ ap (λ n. text_of (no_schedule_line n ∷ report_lines (alone sheet b))) r.said.says.name_is; faultless = sound }) (behaviours_of x) h
 
 -- a behaviour that is not scheduled first has a part that is sound
-pub first_sound : (x : ExtensionTree) (sheet : Sheet) (b : ReportBlock) (ws : List Which) → AtFirst (IsSchedulable x sheet) (IsRefusedAs x sheet (NoSchedule b)) ws → IsSound sheet.period b
+pub first_sound : (x : ExtensionTree) (sheet : Sheet) (b : ReportBlock) (ws : List Which) → AtFirst (IsSchedulable x sheet) (IsRefusedAs x sheet (NoSchedule b)) ws → IsSound sheet.weighted sheet.period b
 first_sound x sheet b [] h = absurd h
 first_sound x sheet b (w ∷ ws) (inl h) = h.said.sound
 first_sound x sheet b (w ∷ ws) (inr h) = first_sound x sheet b ws h.1
