@@ -1,5 +1,5 @@
 pub mod Later
 mod Places
 mod Feasible
-mod Widest
-mod Entries
+pub mod Widest
+pub mod Entries

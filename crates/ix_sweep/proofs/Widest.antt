@@ -1,6 +1,6 @@
 -- The widest mode is one; what is known of it at a period.
-use Rattle.std.proofs.Common.{◌≡◌, sym, ◌∙◌, refl, subst, ℕ, ◌-◌, ◌≤◌, ◌<◌, Bool, true, List, arith}
-use Rattle.std.specs.Prelude.{Option, Some, None, nat_lt}
+use Rattle.std.proofs.Common.{ap, false, ◌⊎◌, inl, inr, lit≤, ◌≡◌, sym, ◌∙◌, refl, subst, ℕ, ◌-◌, ◌≤◌, ◌<◌, Bool, true, List, arith}
+use Rattle.std.specs.Prelude.{is_some, Option, Some, None, nat_lt}
 use Rattle.std.proofs.lemmas.Bool.{false≢true}
 use Rattle.std.proofs.lemmas.Bool.Decides.{nat_tests}
 use Rattle.ix_graph.specs.declared.graph.Graph.{Graph}
@@ -19,7 +19,7 @@ use Rattle.ix_sweep.specs.Periods.{at_period, FitsAt, IsLeastPeriod, IsPeriodOf,
 use Rattle.ix_sweep.proofs.Later.{fits_later, nowhere}
 
 -- a behaviour has one widest mode
-widest_one : (g : Graph) (block : Bool) (m n : Mode) → IsWidestModeOf g block m → IsWidestModeOf g block n → m ≡ n
+pub widest_one : (g : Graph) (block : Bool) (m n : Mode) → IsWidestModeOf g block m → IsWidestModeOf g block n → m ≡ n
 widest_one g block Always Always h k = refl
 widest_one g block Always Decoupled h k = absurd (false≢true (sym k.0 ∙ h))
 widest_one g block Always InPipeline h k = absurd k
@@ -91,3 +91,25 @@ none_fits g sheet block mode below widest tested = record {
   widest_is = widest;
   period_is = λ q some most fits. nowhere g sheet mode 1000000 (refuted g sheet mode 1000000 below tested) q most fits;
 }
+
+abbrev value : Option ℕ → ℕ
+value None = 0
+value (Some x) = x
+
+in_range : (p q : ℕ) → 1 ≤ p → p ≤ 1000000 → Some p ≡ Some q → (1 ≤ q) × (q ≤ 1000000)
+in_range p q some most e = let same : p ≡ q = ap value e in (omega arith, omega arith)
+
+above_or_not : (p : ℕ) → ((nat_lt 1 p ≡ true) × (1 < p)) ⊎ (nat_lt 1 p ≡ false)
+above_or_not p = grind (arith, nat_tests)
+
+below_in_range : (p q : ℕ) → p ≤ 1000000 → refuted_at (Some p) ≡ Some q → (1 ≤ q) × (q ≤ 1000000)
+below_in_range p q most e =
+    elim (above_or_not p) [
+      | inl above ↦ in_range (p - 1) q (omega (arith, above.1)) (omega arith) (rw above.0 at e)
+      | inr least ↦ absurd (false≢true (ap (λ (o : Option ℕ). is_some o) (rw least at e)))
+    ]
+
+-- the period that is refuted is one that a sheet may have
+pub refuted_in_range : (g : Graph) (sheet : Sheet) (block : Bool) (period : Option ℕ) (q : ℕ) → IsPeriodOf g sheet block period → refuted_at period ≡ Some q → (1 ≤ q) × (q ≤ 1000000)
+refuted_in_range g sheet block None q is e = in_range 1000000 q (lit≤ tt) (lit≤ tt) e
+refuted_in_range g sheet block (Some p) q is e = below_in_range p q is.period_is.most e

@@ -46,9 +46,11 @@ abbrev pub periods_of : Option ℕ → List ℕ
 periods_of None = []
 periods_of (Some p) = allowed (p ∷ 2 * p ∷ 4 * p ∷ [])
 
--- the behaviour's mode and schedule with the period of the entry
-abbrev pub IsEntry : Graph → Sheet → Bool → Entry → Type 0
-IsEntry g sheet block entry = IsScheduled g (at_period sheet entry.period) block entry.scheduled
+-- a period of a sheet, with which the behaviour has this mode and schedule
+pub record IsEntry (g : Graph) (sheet : Sheet) (block : Bool) (entry : Entry) : Type 0 where
+  pub some : 1 ≤ entry.period
+  pub most : entry.period ≤ 1000000
+  pub scheduled : IsScheduled g (at_period sheet entry.period) block entry.scheduled
 
 -- one entry for each of these periods, in order
 pub record AreEntries (g : Graph) (sheet : Sheet) (block : Bool) (periods : List ℕ) (entries : List Entry) : Type 0 where

@@ -9,4 +9,5 @@ mod sweep;
 
 pub use answer::{Entry, Least};
 pub use laws::period_law;
+pub use period::at_period;
 pub use sweep::least;

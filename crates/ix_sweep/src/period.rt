@@ -15,9 +15,10 @@ use std::alloc::Global;
 /// The greatest period that a datasheet may have, in the unit of the period.
 pub(crate) const MOST: u32 = 1_000_000;
 
-/// The datasheet with another period.
-pub(crate) fn at_period(sheet: &Sheet, period: u32) -> Sheet
-    ensures { result ≡ specified_at_period sheet.now period }
+/// The datasheet with this period, from 1 to 1,000,000 if it is to be a valid one, in place of its own.
+pub fn at_period(sheet: &Sheet, period: u32) -> Sheet
+    ensures is { result ≡ specified_at_period sheet.now period }
+    ensures valid { IsValidSheet sheet.now → 1 ≤ period → period ≤ 1000000 → IsValidSheet result }
 {
     Sheet {
         shape: sheet.shape,

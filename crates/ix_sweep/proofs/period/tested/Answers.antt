@@ -10,6 +10,6 @@ returns-in-Some c =
     let g = c.args.graph.now in
     let sheet = c.args.sheet.now in
     let p = c.in_ok-problem.problem in
-    let is : p ≡ problem_of g (at_period sheet c.args.period) c.args.mode = rw c.at_period-sheet.ensures at c.in_ok-problem.ensures.problem in
+    let is : p ≡ problem_of g (at_period sheet c.args.period) c.args.mode = rw c.at_period-sheet.ensures.is at c.in_ok-problem.ensures.problem in
     let bad : IsDecided p (Some c.in-Some.cycle) = rw c.in-Some.is at c.in_ok-cycle.ensures in
     without g sheet c.args.mode c.args.period p c.in-Some.cycle c.requires.graph is c.in_ok-problem.ensures.edges bad
