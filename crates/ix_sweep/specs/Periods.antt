@@ -41,7 +41,7 @@ pub record IsPeriodOf (g : Graph) (sheet : Sheet) (block : Bool) (period : Optio
 abbrev pub allowed : List ℕ → List ℕ
 allowed periods = filter (λ q. nat_le q 1000000) periods
 
--- the least period, twice and four times as much
+-- the periods of the entries: of the least period, twice and four times as much, those that a sheet may have
 abbrev pub periods_of : Option ℕ → List ℕ
 periods_of None = []
 periods_of (Some p) = allowed (p ∷ 2 * p ∷ 4 * p ∷ [])
