@@ -1,0 +1,5 @@
+pub mod Later
+mod Places
+mod Feasible
+pub mod Widest
+pub mod Entries
