@@ -173,7 +173,7 @@ longnail report 1
 period 1000
 behaviour mulx none
 """
-for n, (sheet, line) in enumerate([("core =", "Toml -"), ("period = 1000\n", "Core core"), ('core = "five"\n', "Number period"), ('core = "five"\nperiod = 1000\n[window]\nWrRD = [1, 4]\n', "Window WrRD")]):
+for n, (sheet, line) in enumerate([("core =", "Toml -"), ("period = 1000\n", "Core core"), ('core = "five"\n', "Number period"), ('core = "five"\nperiod = 1000\n[window]\nWrRD = [1, 4]\n', "Window WrRD"), ('core = "five"\nperiod = 1000\nlifetime = "bits"\n[delay]\nadd = -1\n', "Number lifetime")]):
     file(f"T{n}", sheet)
     due(f"schedule MULX T{n}", 8, f"refused Sheet {line}\n")
 parts.append("byte NOTEXT 255")
