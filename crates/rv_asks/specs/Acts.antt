@@ -1,5 +1,5 @@
 -- The operations of plans, and questions on them.
-use Rattle.std.specs.Prelude.{ℕ, ◌+◌, Bool, true, false, ◌&&◌, not, nat_eq, nat_lt, List, [], ◌∷◌, slice_index_or}
+use Rattle.std.specs.Prelude.{ℕ, ◌+◌, Bool, true, false, ◌&&◌, not, if◌then◌else◌, nat_eq, nat_lt, List, [], ◌∷◌, slice_index_or}
 use Rattle.std.specs.List.{flat_map}
 use Rattle.ix_graph.specs.declared.kind.Kind.{Kind}
 use Rattle.ix_graph.specs.declared.kind.Kind.TheVariants.{RdRS1, RdRS2, RdCustReg, RdMem, WrRD, WrPC, WrCustReg, WrMem}
@@ -80,6 +80,19 @@ reads_second a = is_second a.kind
 -- it writes the x register, and not by spawn
 abbrev pub writes_own : Act → Bool
 writes_own a = not a.spawned && is_destination a.kind
+
+-- it writes the x register by spawn
+abbrev pub spawns_x : Act → Bool
+spawns_x a = a.spawned && is_destination a.kind
+
+-- it writes the custom register r by spawn
+abbrev pub spawns_custom : ℕ → Act → Bool
+spawns_custom r a = a.spawned && is_custom_write r a.kind
+
+-- the time of the first operation of which this is true, 0 where there is none
+abbrev pub time_of : (Act → Bool) → List Act → ℕ
+time_of f [] = 0
+time_of f (a ∷ rest) = if f a then a.time else time_of f rest
 
 -- it is a load
 abbrev pub loads : Act → Bool

@@ -1,5 +1,5 @@
 ghost use Rattle.std.specs.Prelude.{◌≡◌, ◌++◌, OnOk};
-ghost use Rattle.rv_asks.specs.Acts.{acts_of, acts_of_all, is_custom_write, is_late as specified_is_late, reads_first as specified_reads_first, reads_second as specified_reads_second, writes_own as specified_writes_own, loads as specified_loads, stores as specified_stores, jumps_late as specified_jumps_late, touches as specified_touches, writes_late as specified_writes_late};
+ghost use Rattle.rv_asks.specs.Acts.{acts_of, acts_of_all, is_custom_write, is_late as specified_is_late, reads_first as specified_reads_first, reads_second as specified_reads_second, writes_own as specified_writes_own, loads as specified_loads, stores as specified_stores, jumps_late as specified_jumps_late, touches as specified_touches, writes_late as specified_writes_late, spawns_x as specified_spawns_x, spawns_custom as specified_spawns_custom};
 
 use crate::asks::Act;
 use ix_bits::{List, Memory};
@@ -61,6 +61,20 @@ pub fn writes_own(act: Act) -> bool
     ensures { result ≡ specified_writes_own act }
 {
     !act.spawned && matches!(act.kind, Kind::WrRD)
+}
+
+/// Does it write the x register by `spawn`?
+pub fn spawns_x(act: Act) -> bool
+    ensures { result ≡ specified_spawns_x act }
+{
+    act.spawned && matches!(act.kind, Kind::WrRD)
+}
+
+/// Does it write this custom register by `spawn`?
+pub fn spawns_custom(act: Act, register: u8) -> bool
+    ensures { result ≡ specified_spawns_custom register act }
+{
+    act.spawned && writes_custom(act, register)
 }
 
 /// Is it a load?

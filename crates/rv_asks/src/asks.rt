@@ -9,6 +9,10 @@ pub struct Asks {
     pub second: u8,
     /// The x register that it writes in its own body, and not by `spawn`, 0 to 31; 0 where there is none.
     pub destination: u8,
+    /// The time of its native write of the x register, 0 to 64; 0 where there is none. A base instruction writes at EX, and a load at MEM.
+    pub x_time: u8,
+    /// The x register that its `spawn` body writes, 0 to 31, x0 too.
+    pub spawned: Option<u8>,
     /// Has it a load among its operations, whatever the condition?
     pub loads: bool,
     /// Has it a store among its operations, whatever the condition?
@@ -21,9 +25,13 @@ pub struct Asks {
     pub customs: [bool; 16],
     /// The custom registers that it writes, and not by `spawn`, at a time above EX.
     pub late_customs: [bool; 16],
+    /// The custom registers that its `spawn` body writes.
+    pub spawned_customs: [bool; 16],
+    /// The unit in which it stands behind retirement, where its behaviour is decoupled.
+    pub unit: Option<u8>,
 }
 
-/// What the laws of rows ask of an instruction, but for the numbers of the x registers.
+/// What the laws of rows ask of an instruction, but for the numbers of the x registers and of its unit.
 #[derive(Clone, Copy, Debug, PartialEq, Eq)]
 pub struct Outline {
     /// Does it read the first operand?
@@ -32,6 +40,10 @@ pub struct Outline {
     pub second: bool,
     /// Does it write an x register in its own body?
     pub destination: bool,
+    /// The time of its write of the x register in its own body, 0 to 64; 0 where there is none.
+    pub x_time: u8,
+    /// Does its `spawn` body write an x register?
+    pub spawned: bool,
     /// Has it a load among its operations?
     pub loads: bool,
     /// Has it a store among its operations?
@@ -44,6 +56,8 @@ pub struct Outline {
     pub customs: [bool; 16],
     /// The custom registers that it writes, and not by `spawn`, at a time above EX.
     pub late_customs: [bool; 16],
+    /// The custom registers that its `spawn` body writes.
+    pub spawned_customs: [bool; 16],
 }
 
 /// An operation of a plan: what it does, whether it is a write of a `spawn` body, and its time.

@@ -4,8 +4,8 @@ ghost use Rattle.rv_asks.specs.Acts as specified;
 ghost use Rattle.rv_asks.specs.Asks.{flags, tail_of as specified_tail_of, outline_of, plan_outline as specified_plan_outline};
 
 use crate::acts::{
-    add_acts, jumps_late, loads, reads_first, reads_second, stores, touches, writes_late,
-    writes_own,
+    add_acts, jumps_late, loads, reads_first, reads_second, spawns_custom, spawns_x, stores,
+    touches, writes_late, writes_own,
 };
 use crate::asks::{Act, Outline};
 use ix_bits::{List, Memory};
@@ -47,6 +47,43 @@ fn late_customs_of(own: &[Act], ex: u8) -> [bool; 16]
         customs[usize::from(r)] = does_write_late(own, r, ex);
     }
     customs
+}
+
+// Does one of these operations write this custom register by `spawn`?
+fn does_spawn_custom(acts: &[Act], register: u8) -> bool
+    ensures { result ≡ list_any (specified.spawns_custom register) acts.now }
+{
+    acts.iter().any(|act| spawns_custom(*act, register))
+}
+
+// The custom registers that these operations write by `spawn`.
+fn spawned_customs_of(own: &[Act]) -> [bool; 16]
+    ensures { result ≡ flags (λ r. list_any (specified.spawns_custom r) own.now) 16 }
+{
+    let mut customs = [false; 16];
+    for r in 0..16u8 {
+        customs[usize::from(r)] = does_spawn_custom(own, r);
+    }
+    customs
+}
+
+// Does one of these operations write the x register by `spawn`?
+fn does_spawn_x(acts: &[Act]) -> bool
+    ensures { result ≡ list_any specified.spawns_x acts.now }
+{
+    acts.iter().any(|act| spawns_x(*act))
+}
+
+// The time of the first operation that writes the x register in the instruction's own body, 0 where there is none.
+fn x_time_of(acts: &[Act]) -> u8
+    ensures { result ≡ specified.time_of specified.writes_own acts.now }
+{
+    'acts: for act in acts {
+        if writes_own(*act) {
+            return act.time;
+        }
+    }
+    0
 }
 
 // Does one of these operations read the first operand?
@@ -97,16 +134,20 @@ pub fn outline(own: &[Act], blocks: &[Act], ex: u8, tail: u8) -> Outline
 {
     let customs = customs_of(own, blocks);
     let late_customs = late_customs_of(own, ex);
+    let spawned_customs = spawned_customs_of(own);
     Outline {
         first: does_read_first(own),
         second: does_read_second(own),
         destination: does_write(own),
+        x_time: x_time_of(own),
+        spawned: does_spawn_x(own),
         loads: does_load(own),
         stores: does_store(own),
         late: does_jump_late(own, ex),
         tail,
         customs,
         late_customs,
+        spawned_customs,
     }
 }
 

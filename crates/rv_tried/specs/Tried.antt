@@ -1,6 +1,7 @@
 -- What a word comes to with what it sees, wherever that is from: a state of the sequential run, or the stages of a pipeline. The instruction and all
 -- always-blocks see the same; an instruction that stops writes nothing and accesses nothing (the stops are this project's choice).
-use Rattle.std.specs.Prelude.{ℕ, List, length, Option, Some, None, false, ◌&&◌, is_some, is_none}
+use Rattle.std.specs.Prelude.{ℕ, List, length, map, replicate, Option, Some, None, Bool, false, ◌&&◌, is_some, is_none}
+use Rattle.ix_bits.specs.declared.number.Bits.{Bits}
 use Rattle.ix_extension.specs.Extensions.{ExtensionTree}
 use Rattle.ix_mean.specs.declared.evaluate.State.{State}
 use Rattle.ix_mean.specs.Given.{inputs_of}
@@ -9,6 +10,7 @@ use Rattle.rv_effect.specs.declared.decoded.Decoded.{Decoded}
 use Rattle.rv_effect.specs.Memory.{peeked}
 use Rattle.rv_effect.specs.WordEffects.{effect_of, over, blocks_effect}
 use Rattle.rv_seq.specs.declared.answer.StepAnswer.TheVariants.{Done, Stopped}
+use Rattle.rv_seq.specs.declared.commit.Stop.{Stop}
 use Rattle.rv_seq.specs.declared.commit.Stop.TheVariants.{Illegal}
 use Rattle.rv_seq.specs.Commits.{commit_of}
 use Rattle.rv_seq.specs.Runs.{access_in}
@@ -20,9 +22,26 @@ use Rattle.rv_tried.specs.declared.trial.Trial.{Trial}
 abbrev pub effect_seen : ExtensionTree → State → List ℕ → Decoded → Effect
 effect_seen x s memory d = effect_of x d (inputs_of s (peeked memory))
 
+-- the effect of all always-blocks
+abbrev pub blocks_seen : ExtensionTree → State → List ℕ → Effect
+blocks_seen x s memory = blocks_effect x (inputs_of s (peeked memory)) (length x.blocks)
+
 -- its effect behind that of all always-blocks
 abbrev pub whole_seen : ExtensionTree → State → List ℕ → Decoded → Effect
-whole_seen x s memory d = over (effect_seen x s memory d) (blocks_effect x (inputs_of s (peeked memory)) (length x.blocks))
+whole_seen x s memory d = over (effect_seen x s memory d) (blocks_seen x s memory)
+
+-- no custom register is written
+abbrev pub no_customs : List (Option Bits)
+no_customs = replicate 16 None
+
+-- the custom registers that are written
+abbrev pub marked : List (Option Bits) → List Bool
+marked customs = map is_some customs
+
+-- these writes, where the instruction does not stop
+abbrev pub unless_stopping : Option Stop → List (Option Bits) → List (Option Bits)
+unless_stopping None customs = customs
+unless_stopping (Some stop) customs = no_customs
 
 -- what an instruction comes to
 unfoldable pub tried_instruction : ExtensionTree → State → List ℕ → Decoded → Trial
@@ -30,9 +49,15 @@ tried_instruction x s memory d =
     record {
       answer = unless_stopped (stop_of d (effect_seen x s memory d)) (Done (commit_of s.pc s.word (whole_seen x s memory d)));
       accesses = is_none (stop_of d (effect_seen x s memory d)) && is_some (access_in (effect_seen x s memory d));
+      blocks = unless_stopping (stop_of d (effect_seen x s memory d)) (blocks_seen x s memory).custom;
+      own = marked (unless_stopping (stop_of d (effect_seen x s memory d)) (effect_seen x s memory d).custom);
     }
+
+-- what a word that is no instruction comes to
+abbrev pub no_trial : Trial
+no_trial = record { answer = Stopped Illegal; accesses = false; blocks = no_customs; own = marked no_customs }
 
 -- what a word comes to; one that is no instruction stops
 unfoldable pub tried : ExtensionTree → State → List ℕ → Option Decoded → Trial
-tried x s memory None = record { answer = Stopped Illegal; accesses = false }
+tried x s memory None = no_trial
 tried x s memory (Some d) = tried_instruction x s memory d

@@ -2,7 +2,9 @@
 #![tactic(auto)]
 
 mod laws;
+mod parts;
 mod trial;
 
 pub use laws::trial_laws;
+pub use parts::{Spawned, native, shown, spawned};
 pub use trial::{Trial, try_word};

@@ -1,4 +1,4 @@
-ghost use Rattle.std.specs.Prelude.{◌≡◌, IfSome, is_some};
+ghost use Rattle.std.specs.Prelude.{◌≡◌, IfSome, is_some, false};
 ghost use Rattle.ix_mean.specs.Given.{inputs_of};
 ghost use Rattle.ix_extension.specs.Extensions.{view_extension};
 ghost use Rattle.ix_extension.specs.WellFormed.{IsWellFormed};
@@ -7,8 +7,10 @@ ghost use Rattle.rv_effect.specs.WordEffects.{AreWide};
 ghost use Rattle.rv_effect.specs.Decoding.{IsIn};
 ghost use Rattle.rv_seq.specs.Runs.{access_in};
 ghost use Rattle.rv_seq.specs.Sound.{IsSound};
-ghost use Rattle.rv_tried.specs.Tried.{tried, tried_instruction};
+ghost use Rattle.rv_seq.specs.declared.answer.StepAnswer.TheVariants.{Stopped};
+ghost use Rattle.rv_tried.specs.Tried.{tried, tried_instruction, marked as specified_marked, no_customs};
 
+use ix_bits::Bits;
 use ix_eval::{Effect, Inputs, Scratch};
 use ix_tree::Extension;
 use rv_effect::{Decoded, blocks_effect, effect_of, over};
@@ -22,6 +24,10 @@ pub struct Trial {
     pub answer: StepAnswer,
     /// Does it load or store, the condition true? Nothing that stops does.
     pub accesses: bool,
+    /// What the always-blocks alone write to the custom registers; nothing where the run stops.
+    pub blocks: [Option<Bits>; 16],
+    /// The custom registers that the instruction itself writes, the condition true; none where the run stops.
+    pub own: [bool; 16],
 }
 
 // Does an instruction with this effect load or store?
@@ -29,6 +35,32 @@ fn has_access(effect: &Effect) -> bool
     ensures { result ≡ is_some (access_in effect.now) }
 {
     effect.load.is_some() || effect.store.is_some()
+}
+
+// Which custom registers are written.
+fn marked(customs: &[Option<Bits>; 16]) -> [bool; 16]
+    ensures { result ≡ specified_marked customs.now }
+{
+    let mut all = [false; 16];
+    for number in 0..16usize {
+        all[number] = customs[number].is_some();
+    }
+    all
+}
+
+// What an instruction comes to that stops the run.
+fn stopped(stop: Stop) -> Trial
+    ensures answer { result.answer ≡ Stopped stop }
+    ensures accesses { result.accesses ≡ false }
+    ensures blocks { result.blocks ≡ no_customs }
+    ensures own { result.own ≡ specified_marked no_customs }
+{
+    Trial {
+        answer: StepAnswer::Stopped(stop),
+        accesses: false,
+        blocks: [None; 16],
+        own: [false; 16],
+    }
 }
 
 // What an instruction comes to.
@@ -50,15 +82,14 @@ fn try_instruction(
 {
     let own = effect_of(ext, decoded, inputs, memory, scratch);
     match stop_of(decoded, &own) {
-        Some(stop) => Trial {
-            answer: StepAnswer::Stopped(stop),
-            accesses: false,
-        },
+        Some(stop) => stopped(stop),
         None => {
             let blocks = blocks_effect(ext, inputs, memory, scratch);
             Trial {
                 answer: StepAnswer::Done(commit_of(inputs.pc, inputs.word, &over(&own, &blocks))),
                 accesses: has_access(&own),
+                blocks: blocks.custom,
+                own: marked(&own.custom),
             }
         }
     }
@@ -85,9 +116,6 @@ pub fn try_word(
 {
     match decoded {
         Some(decoded) => try_instruction(ext, decoded, inputs, memory, scratch),
-        None => Trial {
-            answer: StepAnswer::Stopped(Stop::Illegal),
-            accesses: false,
-        },
+        None => stopped(Stop::Illegal),
     }
 }
