@@ -1,7 +1,7 @@
 -- What the assembly of a source, and the scheduling and the building of an extension, answers.
 use Rattle.std.proofs.Common.{◌≡◌, ℕ, List, [], ◌∷◌, Option, refl, ◌⊎◌, inl, inr}
 use Rattle.ix_extension.specs.Extensions.{ExtensionTree}
-use Rattle.rv_record.specs.RunText.{run_text}
+use Rattle.rv_text.specs.RunText.{run_text}
 use Rattle.rv_asm.specs.ImageText.{image_text}
 use Rattle.rv_asm.specs.Sources.{Assembles, IsRefusedAs}
 use Rattle.rv_asm.specs.declared.source.AsmErr.{AsmErr}

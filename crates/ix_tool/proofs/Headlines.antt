@@ -11,7 +11,7 @@ use Rattle.ix_tool.specs.declared.command.Command.{Command}
 use Rattle.ix_tool.specs.declared.command.Command.TheVariants.{RunImage, Check, Certify, Schedule, Build, Seq, Assemble, RunExtension}
 use Rattle.ix_tool.specs.Readings.{Reading, extension_read, source_read}
 use Rattle.ix_listing.specs.Listing.{listing_text}
-use Rattle.rv_record.specs.RunText.{run_text}
+use Rattle.rv_text.specs.RunText.{run_text}
 use Rattle.ix_listing.proofs.OneExtension.{is_well_formed}
 use Rattle.ix_tool.specs.CommandLine.{word_of, command_of, commands, first_command, is_command, slots_of, fits_slots, behind, number_within, run_of, run_command, SeqCommand, seq_command, seq_of, AsmCommand, ScheduleCommand, extension_of, report_of, source_of, schedule_of, build_of}
 use Rattle.ix_spawns.specs.Spawns.{first_spawning}

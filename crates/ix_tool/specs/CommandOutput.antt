@@ -14,7 +14,7 @@ use Rattle.ix_tool.specs.declared.value.Refusal.TheVariants as refusal
 use Rattle.rv_plain.specs.Plain.{IsPlain}
 use Rattle.rv_machine.specs.DesignText.{IsDesignText}
 use Rattle.rv_machine.specs.LawfulText.{IsLawfulText}
-use Rattle.rv_record.specs.RunText.{run_text}
+use Rattle.rv_text.specs.RunText.{run_text}
 use Rattle.rv_asm.specs.ImageText.{IsImageText, IsBadLine, image_text}
 use Rattle.rv_asm.specs.Sources.{Assembles, IsRefusedAs}
 use Rattle.rv_asm.specs.WaitsText.{IsWaitsText, IsBadWait}

@@ -20,7 +20,7 @@ use ix_sheet::Sheet;
 use ix_tree::Extension;
 use rv_isa::Image;
 use rv_machine::write_design_run;
-use rv_tell::RunErr;
+use rv_text::RunErr;
 use rv_waits::Waits;
 use std::alloc::Global;
 

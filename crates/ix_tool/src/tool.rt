@@ -5,7 +5,7 @@ ghost use Rattle.ix_tool.specs.CommandLine.{SeqCommand, AsmCommand, ScheduleComm
 ghost use Rattle.ix_extension.specs.Extensions.{view_extension};
 ghost use Rattle.ix_extension.specs.WellFormed.{IsWellFormed};
 ghost use Rattle.ix_listing.specs.Listing.{listing_text};
-ghost use Rattle.rv_record.specs.RunText.{run_text};
+ghost use Rattle.rv_text.specs.RunText.{run_text};
 ghost use Rattle.ix_tool.specs.Readings.{Reading, reading_of};
 ghost use Rattle.ix_tool.specs.CommandOutput.{IsRunOutput, Writes, Takes, Answered, Outcome, RoseIn, NoneRises, IsDue, UsageAnswer, ReadFaultAnswer, WriteFaultAnswer, TooLongAnswer, TextAnswer, OutputAnswer, RunAnswer, ListedAnswer, CertifiedAnswer, SteppedAnswer, AssembledAnswer, SourceAnswer, ScheduledAnswer, ModulesAnswer, NoScheduleAnswer, ExtensionAnswer, PipelineAnswer, IsStatusOr, Premises, Completes, told_of};
 
@@ -22,7 +22,7 @@ use ix_tree::Extension;
 use rv_isa::Image;
 use rv_machine::rows_laws;
 use rv_plain::plain_design;
-use rv_tell::{RunErr, write_run};
+use rv_text::{RunErr, write_run};
 use rv_waits::Waits;
 use std::alloc::Global;
 

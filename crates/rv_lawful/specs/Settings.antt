@@ -1,29 +1,36 @@
 -- What a trace of a pipeline with an extension is judged against, and what is read from its rows (this project's choice).
 use Rattle.std.specs.Prelude.{◌≡◌, ℕ, zero, suc, ◌-◌, List, [], ◌∷◌, take, Option, Some, None, Bool, true, false, ◌&&◌, if◌then◌else◌, ◌==◌, is_some, is_none, slice_get}
+use Rattle.ix_bits.specs.declared.number.Bits.{Bits}
 use Rattle.ix_extension.specs.Extensions.{ExtensionTree, view_extension}
 use Rattle.ix_plan.specs.declared.design.Design.{Design}
+use Rattle.ix_plan.specs.Units.{Slots, first_units}
 use Rattle.rv_core.specs.declared.Shape.{Shape}
 use Rattle.rv_effect.specs.declared.decoded.Decoded.{Decoded}
 use Rattle.rv_effect.specs.Decoding.{decoded_in}
 use Rattle.rv_seq.specs.declared.arch.Arch.{Arch}
 use Rattle.rv_seq.specs.declared.answer.StepAnswer.{StepAnswer}
-use Rattle.rv_seq.specs.States.{first}
+use Rattle.rv_seq.specs.States.{state_at}
 use Rattle.rv_seq.specs.Steps.{word_at, own_effect}
 use Rattle.rv_seq.specs.Stops.{stop_of}
 use Rattle.rv_seq.specs.Runs.{run, answer_at, access_in}
 use Rattle.rv_asks.specs.declared.asks.Asks.{Asks}
 use Rattle.rv_asks.specs.Asks.{asks_in}
+use Rattle.rv_tried.specs.declared.trial.Trial.{Trial}
+use Rattle.rv_tried.specs.Tried.{tried, no_trial}
 use Rattle.rv_trace.specs.declared.row.Cell.{Cell}
 use Rattle.rv_trace.specs.declared.row.Row.{Row}
 use Rattle.rv_trace.specs.declared.row.Hold.{Hold}
 use Rattle.rv_trace.specs.declared.row.Hold.TheVariants.{Tail}
-use Rattle.rv_trace.specs.Trace.{with_retired, has_cell}
+use Rattle.rv_trace.specs.Trace.{has_cell}
 
--- a run as a trace is judged against it: what the step at each place does, the pc there, and whether the step accesses the memory
+-- a run as a trace is judged against it: what the step at each place does, the pc there, whether the step accesses the memory, what the always-blocks alone write to the
+-- custom registers in it, and which of these the instruction itself writes
 pub record Course : Type 0 where
   pub answer : ℕ → StepAnswer
   pub pc : ℕ → ℕ
   pub accesses : ℕ → Bool
+  pub blocks : ℕ → List (Option Bits)
+  pub own : ℕ → List Bool
 
 -- does an instruction access the memory in this state, its condition true? One that stops does not
 abbrev pub does_access : ExtensionTree → Arch → ℕ → Option Decoded → Bool
@@ -35,6 +42,15 @@ abbrev pub word_accesses : ExtensionTree → Arch → Option ℕ → Bool
 word_accesses x s None = false
 word_accesses x s (Some word) = does_access x s word (decoded_in x word)
 
+-- what the word at the pc of a state comes to
+abbrev pub state_trial : ExtensionTree → Arch → Option ℕ → Trial
+state_trial x s None = no_trial
+state_trial x s (Some word) = tried x (state_at word s) s.mem (decoded_in x word)
+
+-- what the word at this place of the run comes to
+abbrev pub run_trial : ExtensionTree → List ℕ → ℕ → Trial
+run_trial x image p = state_trial x (run x image p) (word_at image (run x image p).pc)
+
 -- the run of an image on a core with the extension
 abbrev pub course_of : ExtensionTree → List ℕ → Course
 course_of x image =
@@ -42,15 +58,19 @@ course_of x image =
       answer = answer_at x image;
       pc = λ p. (run x image p).pc;
       accesses = λ p. word_accesses x (run x image p) (word_at image (run x image p).pc);
+      blocks = λ p. (run_trial x image p).blocks;
+      own = λ p. (run_trial x image p).own;
     }
 
--- what a trace is judged against: the image, the waits of the memory, the shape of the core, the run, and what is asked of the instruction of a word
+-- what a trace is judged against: the image, the waits of the memory, the shape of the core, the run, what is asked of the instruction of a word, and the units before the
+-- first row
 pub record Setting : Type 0 where
   pub image : List ℕ
   pub waits : List ℕ
   pub shape : Shape
   pub course : Course
   pub asks : ℕ → Asks
+  pub units : List Slots
 
 -- an image on the core of a design whose memory has these waits
 abbrev pub setting : Design → List ℕ → List ℕ → Setting
@@ -61,8 +81,8 @@ setting d image waits =
       shape = d.sheet.shape;
       course = course_of (view_extension d.extension) image;
       asks = λ word. asks_in d word (decoded_in (view_extension d.extension) word);
+      units = first_units d.sheet.shape.stages d.plans;
     }
-
 -- how many accesses the steps before this place make: the number of the access of the step there, from 0
 unfoldable pub accesses_before : Course → ℕ → ℕ
 accesses_before run zero = 0
@@ -96,7 +116,3 @@ unfoldable pub tailed : Setting → List Row → ℕ → ℕ
 tailed k [] s = 0
 tailed k (row ∷ earlier) s = if has_tail (slice_get (stages_of k row) (k.shape.stages - 1)) s then suc (tailed k earlier s) else 0
 
--- the architectural state after these rows: that of the writes which the rows show
-unfoldable pub architecture : ExtensionTree → List Row → Arch
-architecture x [] = first x
-architecture x (row ∷ earlier) = with_retired row.retired (architecture x earlier)

@@ -10,7 +10,7 @@ use Rattle.rv_trace.specs.declared.row.Row.{Row}
 use Rattle.rv_seq.specs.declared.commit.Commit.{Commit}
 use Rattle.rv_trace.specs.Trace.{newest, with_retired}
 use Rattle.rv_trace.specs.TraceText.{trace_text}
-use Rattle.rv_record.specs.RunText.{state_text}
+use Rattle.rv_text.specs.RunText.{state_text}
 use Rattle.rv_engine.specs.Settings.{Setting, setting, tree_of}
 use Rattle.rv_engine.specs.Rows.{arch_after, retired_of, left_by}
 use Rattle.rv_lawful.specs.Settings.{architecture}

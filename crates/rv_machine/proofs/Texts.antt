@@ -5,7 +5,7 @@ use Rattle.rv_seq.specs.declared.arch.Arch.{Arch}
 use Rattle.rv_trace.specs.declared.row.Row.{Row}
 use Rattle.rv_trace.specs.Trace.{newest}
 use Rattle.rv_trace.specs.TraceText.{trace_text}
-use Rattle.rv_record.specs.RunText.{state_text}
+use Rattle.rv_text.specs.RunText.{state_text}
 use Rattle.rv_engine.specs.Settings.{Setting, shape_of, tree_of}
 use Rattle.rv_machine.specs.Running.{AreRows, machine_at}
 use Rattle.rv_machine.specs.DesignText.{IsDesignText}

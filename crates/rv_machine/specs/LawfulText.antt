@@ -5,7 +5,7 @@ use Rattle.ix_plan.specs.declared.design.Design.{Design}
 use Rattle.rv_trace.specs.declared.row.Row.{Row}
 use Rattle.rv_trace.specs.Trace.{newest}
 use Rattle.rv_trace.specs.TraceText.{trace_text}
-use Rattle.rv_record.specs.RunText.{state_text}
+use Rattle.rv_text.specs.RunText.{state_text}
 use Rattle.rv_lawful.specs.Settings.{architecture}
 use Rattle.rv_lawful.specs.Headline.{Headline}
 

@@ -11,8 +11,7 @@ use crate::machine::Machine;
 use ix_io::{Out, Sink};
 use ix_plan::Design;
 use rv_isa::Image;
-use rv_show::write_run;
-use rv_tell::RunErr;
+use rv_text::{RunErr, write_trace};
 use rv_waits::Waits;
 use std::alloc::Global;
 
@@ -55,7 +54,7 @@ pub fn write_design_run<S: Sink>(
         return Err(RunErr::Memory);
     };
     run_machine(&mut machine, cycles);
-    match write_run(
+    match write_trace(
         machine.trace(),
         design.sheet.shape,
         design.extension.registers.len(),

@@ -2,8 +2,8 @@
 use Rattle.std.specs.Prelude.{◌≡◌, ℕ, suc, ◌+◌, ◌%◌, ◌^◌, ◌<◌, ◌≤◌, List, [], ◌∷◌, map, Option, Some, None, Bool, false, ◌&&◌, ◌||◌, not, if◌then◌else◌, is_some, ◌⊎◌}
 use Rattle.rv_trace.specs.declared.row.Cell.{Cell}
 use Rattle.rv_trace.specs.declared.row.Row.{Row}
-use Rattle.rv_trace.specs.declared.row.Target.{Target}
-use Rattle.rv_trace.specs.declared.row.Target.TheVariants.{X, Custom as custom_target}
+use Rattle.ix_plan.specs.declared.design.Target.{Target}
+use Rattle.ix_plan.specs.declared.design.Target.TheVariants.{X, Custom as custom_target}
 use Rattle.rv_trace.specs.declared.row.Hold.{Hold}
 use Rattle.rv_trace.specs.declared.row.Hold.TheVariants.{Operand, Board, Custom, Late, Trap, Drain, Wait, StoreAhead, Tail, UnitFull, Port, Behind}
 use Rattle.rv_trace.specs.Trace.{has_serial, is_flushed}

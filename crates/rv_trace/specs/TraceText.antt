@@ -5,8 +5,8 @@ use Rattle.ix_bits.specs.declared.number.Bits.{Bits}
 use Rattle.ix_io.specs.Out.{hex_digits}
 use Rattle.rv_trace.specs.declared.row.Cell.{Cell}
 use Rattle.rv_trace.specs.declared.row.Row.{Row}
-use Rattle.rv_trace.specs.declared.row.Target.{Target}
-use Rattle.rv_trace.specs.declared.row.Target.TheVariants.{X, Custom as custom_target}
+use Rattle.ix_plan.specs.declared.design.Target.{Target}
+use Rattle.ix_plan.specs.declared.design.Target.TheVariants.{X, Custom as custom_target}
 use Rattle.rv_trace.specs.declared.row.Hold.{Hold}
 use Rattle.rv_trace.specs.declared.row.Hold.TheVariants.{Operand, Board, Custom, Late, Trap, Drain, Wait, StoreAhead, Tail, UnitFull, Port, Behind}
 use Rattle.ix_eval.specs.declared.access.Access.{Access}

@@ -1,12 +1,6 @@
 use ix_bits::Bits;
+use ix_plan::Target;
 use rv_seq::{Commit, Slot, Stop};
-
-/// A register that an instruction may write: x or custom, by its number.
-#[derive(Clone, Copy, Debug, PartialEq, Eq)]
-pub enum Target {
-    X(u8),
-    Custom(u8),
-}
 
 /// Why a cell stays in its stage for a row; the serials name older cells.
 #[derive(Clone, Copy, Debug, PartialEq, Eq)]

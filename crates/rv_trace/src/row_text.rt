@@ -4,9 +4,10 @@ ghost use Rattle.ix_io.specs.Out.{hex_digits};
 ghost use Rattle.rv_trace.specs.Trace.{has_serial};
 ghost use Rattle.rv_trace.specs.TraceText.{hex_word_text, stop_text, hold_text, held_text, stage_text, mark_text, retired_serial as specified_retired_serial, written_serial as specified_written_serial, redirect_text, taken_text, row_stop_text, x_write_text, custom_write_text, custom_writes_text, store_text, next_text, writes_text, retired_text, written_text, row_line, row_text, register_text, registers_text};
 
-use crate::row::{Cell, Hold, Row, Target};
+use crate::row::{Cell, Hold, Row};
 use ix_bits::Bits;
 use ix_io::Out;
+use ix_plan::Target;
 use rv_core::Shape;
 use rv_seq::{Access, Commit, Slot, Stop};
 

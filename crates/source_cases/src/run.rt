@@ -3,7 +3,7 @@ use ix_bits::List;
 use ix_elab::elaborate;
 use ix_io::MemSink;
 use rv_asm::read_image;
-use rv_tell::write_run;
+use rv_text::write_run;
 use std::alloc::{AllocError, Global};
 
 /// The byte between the parts of a case.

@@ -1,0 +1,17 @@
+use Rattle.rv_text.proofs.Parts.{at_ok, at_err, told_last, told_last_front}
+use Rattle.rv_text.proofs.trace_writing.write_rest.Goals as goal
+
+pub returns-in-Ok-clause-whole : goal.returns-in-Ok-clause-whole
+returns-in-Ok-clause-whole g c =
+    at_ok c.flush.result
+    (λ a x q before whole t. told_last before (g.S.Sink.written c.write_state.new.sink) (g.S.Sink.written c.flush.new.sink) c.write_state.new.out whole (c.in-Ok.ensures.carries x q before whole t) a)
+    c.flush.ensures.ok
+
+pub returns-in-Ok-clause-front : goal.returns-in-Ok-clause-front
+returns-in-Ok-clause-front g c =
+    at_err c.flush.result
+    (λ f x q before whole t. told_last_front before (g.S.Sink.written c.write_state.new.sink) (g.S.Sink.written c.flush.new.sink) c.write_state.new.out whole (c.in-Ok.ensures.carries x q before whole t) f)
+    c.flush.ensures.front
+
+pub returns-in-Err-clause-front : goal.returns-in-Err-clause-front
+returns-in-Err-clause-front g c = λ x q. c.in-Err.ensures.breaks x q
