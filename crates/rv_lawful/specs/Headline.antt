@@ -5,29 +5,46 @@ use Rattle.ix_plan.specs.declared.design.Design.{Design}
 use Rattle.rv_seq.specs.declared.commit.Commit.{Commit}
 use Rattle.rv_seq.specs.declared.commit.Stop.{Stop}
 use Rattle.rv_seq.specs.declared.answer.StepAnswer.TheVariants.{Done, Stopped}
-use Rattle.rv_seq.specs.Runs.{run, answer_at}
+use Rattle.rv_seq.specs.Runs.{run}
+use Rattle.rv_tried.specs.Parts.{shown, spawned}
 use Rattle.rv_trace.specs.declared.row.Row.{Row}
-use Rattle.rv_trace.specs.Trace.{place, retirements}
+use Rattle.rv_trace.specs.Trace.{place, is_retired, retirements}
 use Rattle.rv_trace.specs.Progress.{progress_bound, Progressing}
 use Rattle.rv_waits.specs.Waits.{greatest}
-use Rattle.rv_lawful.specs.Settings.{setting, architecture}
+use Rattle.rv_lawful.specs.Settings.{Setting, setting}
+use Rattle.rv_lawful.specs.Outstanding.{Written, is_written, outstanding, applied_state}
 use Rattle.rv_lawful.specs.LawfulTrace.{Lawful}
 
--- what the row retires is the next record of the run, and the state and the stop are the run's
-pub record AgreesWithRun (x : ExtensionTree) (image : List ℕ) (earlier : List Row) (row : Row) : Type 0 where
+-- the record is that of the step at this place, with what its `spawn` body writes shown as coming later
+abbrev pub IsRecord : Setting → ℕ → Commit → Type 0
+IsRecord k p c = (d : Commit) × (k.course.answer p ≡ Done d) × (c ≡ shown (k.asks d.word) d)
+
+-- the write is that of the `spawn` body of the step at the serial's place, which is retired and not written before
+pub record IsSpawnWrite (k : Setting) (earlier : List Row) (w : Written) : Type 0 where
+  pub commit : Commit
+  pub step : k.course.answer (place earlier w.0) ≡ Done commit
+  pub values : (w.1, w.2, w.3) ≡ ((spawned (k.asks commit.word) (k.course.own (place earlier w.0)) commit).rd_index, (spawned (k.asks commit.word) (k.course.own (place earlier w.0)) commit).rd, (spawned (k.asks commit.word) (k.course.own (place earlier w.0)) commit).custom)
+  pub retired : is_retired earlier w.0 ≡ true
+  pub once : is_written earlier w.0 ≡ false
+
+-- what the row retires is the next record of the run, what a unit writes is what the run writes there, the state with the outstanding writes applied and the stop are the
+-- run's, and at a stop nothing is outstanding
+pub record AgreesWithRun (x : ExtensionTree) (k : Setting) (earlier : List Row) (row : Row) : Type 0 where
   pub placed : (s : ℕ) (c : Commit) → row.retired ≡ Some (s, c) → place (row ∷ earlier) s ≡ retirements earlier
-  pub recorded : (s : ℕ) (c : Commit) → row.retired ≡ Some (s, c) → answer_at x image (retirements earlier) ≡ Done c
-  pub state : architecture x (row ∷ earlier) ≡ run x image (retirements (row ∷ earlier))
-  pub stop : (stop : Stop) → row.stop ≡ Some stop → answer_at x image (retirements (row ∷ earlier)) ≡ Stopped stop
+  pub recorded : (s : ℕ) (c : Commit) → row.retired ≡ Some (s, c) → IsRecord k (retirements earlier) c
+  pub written : (w : Written) → row.written ≡ Some w → IsSpawnWrite k earlier w
+  pub state : applied_state x k (row ∷ earlier) ≡ run x k.image (retirements (row ∷ earlier))
+  pub stop : (stop : Stop) → row.stop ≡ Some stop → k.course.answer (retirements (row ∷ earlier)) ≡ Stopped stop
+  pub settled : (stop : Stop) → row.stop ≡ Some stop → outstanding k (row ∷ earlier) ≡ []
 
 -- each row does
-abbrev pub Agreeing : ExtensionTree → List ℕ → List Row → Type 0
-Agreeing x image [] = Unit {0}
-Agreeing x image (row ∷ earlier) = AgreesWithRun x image earlier row × Agreeing x image earlier
+abbrev pub Agreeing : ExtensionTree → Setting → List Row → Type 0
+Agreeing x k [] = Unit {0}
+Agreeing x k (row ∷ earlier) = AgreesWithRun x k earlier row × Agreeing x k earlier
 
 -- the headline: the rows of an image on the core of a design whose memory has these waits, the newest first, are lawful, what they retire is a prefix of the image's run
--- with the extension, with its states and its stop, and they go on
+-- with the extension, with its states, outstanding writes applied, and its stop, and they go on
 pub record Headline (d : Design) (image waits : List ℕ) (rows : List Row) : Type 0 where
   pub lawful : Lawful (setting d image waits) rows
-  pub agrees : Agreeing (view_extension d.extension) image rows
+  pub agrees : Agreeing (view_extension d.extension) (setting d image waits) rows
   pub progress : Progressing (progress_bound d.sheet.shape.stages (length (view_extension d.extension).registers) (greatest waits)) rows

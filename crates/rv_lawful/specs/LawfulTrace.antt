@@ -1,5 +1,5 @@
 -- Which rows of a pipeline with an extension are lawful after the earlier ones (this project's choice). `row` is the row that is judged, `earlier` are those before it.
-use Rattle.std.specs.Prelude.{◌≡◌, ◌≢◌, ℕ, suc, drop, ◌+◌, ◌<◌, List, [], ◌∷◌, get_or, Option, Some, None, Bool, true, false, ◌&&◌, ◌||◌, not, if◌then◌else◌, ◌==◌, is_some, ◌⊎◌}
+use Rattle.std.specs.Prelude.{◌≡◌, ◌≢◌, ℕ, suc, drop, ◌+◌, ◌<◌, List, [], ◌∷◌, get_or, Option, Some, None, Bool, true, false, ◌&&◌, ◌||◌, not, if◌then◌else◌, ◌==◌, is_some, slice_get, ◌⊎◌}
 use Rattle.rv_trace.specs.declared.row.Cell.{Cell}
 use Rattle.rv_trace.specs.declared.row.Row.{Row}
 use Rattle.rv_trace.specs.declared.row.Hold.{Hold}
@@ -9,11 +9,14 @@ use Rattle.rv_seq.specs.declared.commit.Stop.{Stop}
 use Rattle.rv_seq.specs.declared.commit.Stop.TheVariants.{Fetch}
 use Rattle.rv_seq.specs.declared.answer.StepAnswer.TheVariants.{Stopped}
 use Rattle.rv_seq.specs.Steps.{word_at}
+use Rattle.ix_plan.specs.declared.design.Target.{Target}
+use Rattle.ix_plan.specs.Units.{Slots, unit_written, frozen_with}
 use Rattle.rv_asks.specs.declared.asks.Asks.{Asks}
 use Rattle.rv_waits.specs.Waits.{wait_at}
 use Rattle.rv_trace.specs.Trace.{has_serial, is_retired, place, newest}
 use Rattle.rv_trace.specs.RowParts.{Name, name_of, names_of, stays, leaves, address_after, front, unless, serial_after, fetched, comes, MovesInto, IsOlder, ComesFirst, AreEmpty, AscendFrom}
 use Rattle.rv_lawful.specs.Settings.{Setting, accesses_before, stages_of, Stands, stood, tailed}
+use Rattle.rv_lawful.specs.Outstanding.{has_target, touches, serial_written, units_after, is_written, outstanding}
 
 -- Moves and fetch
 
@@ -85,12 +88,25 @@ pub record WaitsForJump (k : Setting) (earlier : List Row) (row : Row) (stage : 
   pub unretired : is_retired earlier j ≡ false
   pub jumps : (word : ℕ) × IsWordOf k (row ∷ earlier) j word × ((k.asks word).late ≡ true)
 
--- Drain: at EX the cell is due to stop, and an older cell is not retired by the end of this row
+-- Board: at RD the cell reads or writes a register that is a spawn target of an older cell, which is not written in an earlier row
+pub record WaitsForWrite (k : Setting) (earlier : List Row) (row : Row) (stage : ℕ) (c : Cell) (t : Target) (j : ℕ) : Type 0 where
+  pub reading : stage ≡ k.shape.rd
+  pub touches : touches (k.asks c.word) t ≡ true
+  pub older : IsOlder (row ∷ earlier) c.serial j
+  pub unwritten : is_written earlier j ≡ false
+  pub spawns : (word : ℕ) × IsWordOf k (row ∷ earlier) j word × (has_target (k.asks word) t ≡ true)
+
+-- an instruction of this serial has a unit, and is not written by the end of these rows
+pub record IsUnwritten (k : Setting) (rows : List Row) (j : ℕ) : Type 0 where
+  pub decoupled : (word : ℕ) × IsWordOf k rows j word × (is_some (k.asks word).unit ≡ true)
+  pub unwritten : is_written rows j ≡ false
+
+-- Drain: at EX the cell is due to stop, and an older cell is not retired by the end of this row, or its spawn writes are not written by then
 pub record WaitsToDrain (k : Setting) (earlier : List Row) (row : Row) (stage : ℕ) (c : Cell) (j : ℕ) : Type 0 where
   pub executing : stage ≡ k.shape.ex
   pub due : (stop : Stop) × IsDueToStop k (row ∷ earlier) c stop
   pub older : IsOlder (row ∷ earlier) c.serial j
-  pub unretired : is_retired (row ∷ earlier) j ≡ false
+  pub left : (is_retired (row ∷ earlier) j ≡ false) ⊎ IsUnwritten k (row ∷ earlier) j
 
 -- Wait: at MEM the cell accesses the memory, and has stood there for fewer rows than this access waits
 pub record WaitsForMemory (k : Setting) (earlier : List Row) (row : Row) (stage : ℕ) (c : Cell) (left : ℕ) : Type 0 where
@@ -112,19 +128,32 @@ pub record WaitsForModule (k : Setting) (earlier : List Row) (row : Row) (stage 
   pub still : left + tailed k earlier c.serial ≡ (k.asks c.word).tail
   pub some : 0 < left
 
--- a hold of the cell's own is true of it; no instruction here uses a unit, and without an interrupt line no interrupt is to be taken
+-- UnitFull: in the last stage the cell's unit is frozen in this row
+pub record WaitsForUnit (k : Setting) (earlier : List Row) (row : Row) (stage : ℕ) (c : Cell) (u : ℕ) : Type 0 where
+  pub last : suc stage ≡ k.shape.stages
+  pub enters : (k.asks c.word).unit ≡ Some u
+  pub frozen : (slots : Slots) × (slice_get (units_after k earlier) u ≡ Some slots) × (frozen_with u slots (unit_written (units_after k earlier)) ≡ true)
+
+-- Port: in the last stage the cell writes an x register in its own body, and j, which has one as spawn target, is written in this row
+pub record WaitsForPort (k : Setting) (earlier : List Row) (row : Row) (stage : ℕ) (c : Cell) (j : ℕ) : Type 0 where
+  pub last : suc stage ≡ k.shape.stages
+  pub writes : ((k.asks c.word).destination == 0) ≡ false
+  pub taken : serial_written row.written ≡ Some j
+  pub spawns : (word : ℕ) × IsWordOf k (row ∷ earlier) j word × (is_some (k.asks word).spawned ≡ true)
+
+-- a hold of the cell's own is true of it; without an interrupt line no interrupt is to be taken
 abbrev pub OwnHold : Setting → List Row → Row → ℕ → Cell → Hold → Type 0
 OwnHold k earlier row stage c (Operand r j) = WaitsForOperand k earlier row stage c r j
 OwnHold k earlier row stage c (Drain j) = WaitsToDrain k earlier row stage c j
-OwnHold k earlier row stage c (Board t j) = ⊥
+OwnHold k earlier row stage c (Board t j) = WaitsForWrite k earlier row stage c t j
 OwnHold k earlier row stage c (Custom r j) = WaitsForCustom k earlier row stage c r j
 OwnHold k earlier row stage c (Late j) = WaitsForJump k earlier row stage c j
 OwnHold k earlier row stage c Trap = ⊥
 OwnHold k earlier row stage c (Wait left) = WaitsForMemory k earlier row stage c left
 OwnHold k earlier row stage c (StoreAhead j) = WaitsForStore k earlier row stage c j
 OwnHold k earlier row stage c (Tail left) = WaitsForModule k earlier row stage c left
-OwnHold k earlier row stage c (UnitFull u) = ⊥
-OwnHold k earlier row stage c (Port j) = ⊥
+OwnHold k earlier row stage c (UnitFull u) = WaitsForUnit k earlier row stage c u
+OwnHold k earlier row stage c (Port j) = WaitsForPort k earlier row stage c j
 OwnHold k earlier row stage c Behind = ⊥
 
 -- the cell stops the run: at EX it is due to, and no hold of its own is true
@@ -205,13 +234,24 @@ abbrev pub IsEmptyAfter : Setting → Row → Type 0
 IsEmptyAfter k row =
     (stage : ℕ) (c : Cell) → Stands k row stage c → (has_serial row.flushed c.serial ≡ true) ⊎ ((suc stage ≡ k.shape.stages) × (c.hold ≡ None))
 
--- a row has a stop exactly where a cell stops the run, or where nothing is left and the fetch address has no word
+-- a row has a stop exactly where a cell stops the run, or where nothing is left, nothing is outstanding and the fetch address has no word
 pub record StopsRightly (k : Setting) (earlier : List Row) (row : Row) : Type 0 where
   pub cause : (stop : Stop) → row.stop ≡ Some stop
       → ((stage : ℕ) × (c : Cell) × Stands k row stage c × StopsRun k earlier row stage c stop)
-      ⊎ ((stop ≡ Fetch) × IsEmptyAfter k row × (word_at k.image (fetch_address k (row ∷ earlier)) ≡ None))
+      ⊎ ((stop ≡ Fetch) × IsEmptyAfter k row × (outstanding k (row ∷ earlier) ≡ []) × (word_at k.image (fetch_address k (row ∷ earlier)) ≡ None))
   pub of_cell : (stage : ℕ) (c : Cell) (stop : Stop) → Stands k row stage c → StopsRun k earlier row stage c stop → row.stop ≡ Some stop
-  pub of_fetch : IsEmptyAfter k row → word_at k.image (fetch_address k (row ∷ earlier)) ≡ None → row.stop ≡ Some Fetch
+  pub of_fetch : IsEmptyAfter k row → outstanding k (row ∷ earlier) ≡ [] → word_at k.image (fetch_address k (row ∷ earlier)) ≡ None → row.stop ≡ Some Fetch
+
+-- Units
+
+-- the serial of what stands in a unit
+abbrev pub serial_in : Option (ℕ × ℕ) → Option ℕ
+serial_in None = None
+serial_in (Some entry) = Some entry.1
+
+-- the lowest unit with a serial at its last time writes it, and no other is written
+abbrev pub WritesUnit : Setting → List Row → Row → Type 0
+WritesUnit k earlier row = serial_written row.written ≡ serial_in (unit_written (units_after k earlier))
 
 -- Forms
 
@@ -220,14 +260,14 @@ pub record IsInForm (k : Setting) (row : Row) : Type 0 where
   pub behind : AreEmpty (drop k.shape.stages row.cells)
   pub ascending : AscendFrom None row.flushed
 
--- the row is lawful after the earlier ones; no unit is built, so none writes, and without an interrupt line no interrupt is taken
+-- the row is lawful after the earlier ones; without an interrupt line no interrupt is taken
 pub record LawfulRow (k : Setting) (earlier : List Row) (row : Row) : Type 0 where
   pub form : IsInForm k row
   pub moves : Moves k earlier row
   pub retires : (stage : ℕ) → suc stage ≡ k.shape.stages → Retires k row stage
   pub holds : (stage : ℕ) (c : Cell) → Stands k row stage c → ShowsHold k earlier row stage c
   pub successors : Successors k earlier row
-  pub units : row.written ≡ None
+  pub units : WritesUnit k earlier row
   pub untaken : row.taken ≡ None
   pub stops : StopsRightly k earlier row
 

@@ -1,4 +1,5 @@
 pub mod Settings
+pub mod Outstanding
 pub mod LawfulTrace
 pub mod Headline
 pub mod Sight

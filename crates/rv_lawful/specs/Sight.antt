@@ -1,9 +1,10 @@
 -- What a word comes to with what a pipeline sees, beside the step of a state: where both agree on what the instruction asks for, they come to the same, but for what is
 -- written late or read from memory (this project's choice).
-use Rattle.std.specs.Prelude.{◌≡◌, ◌≢◌, ℕ, ◌≤◌, ◌<◌, ◌^◌, List, get_or, slice_index, true, false}
+use Rattle.std.specs.Prelude.{◌≡◌, ◌≢◌, ℕ, ◌≤◌, ◌<◌, ◌^◌, List, [], get_or, slice_index, None, true, false}
 use Rattle.ix_extension.specs.Extensions.{view_extension}
 use Rattle.ix_mean.specs.declared.evaluate.State.{State}
 use Rattle.ix_plan.specs.declared.design.Design.{Design}
+use Rattle.ix_plan.specs.Units.{first_units}
 use Rattle.rv_asks.specs.declared.asks.Asks.{Asks}
 use Rattle.rv_asks.specs.Asks.{asks_in}
 use Rattle.rv_effect.specs.Decoding.{decoded_in}
@@ -88,6 +89,17 @@ abbrev pub KeepsLaw : Design → Type 0
 KeepsLaw d =
     (word : ℕ) (s : Arch) (c : Commit) → AreWide (view_extension d.extension) s.custom → HasWords s → word < 2 ^ 32 → s.pc < 2 ^ 32 →
     of_decoded (view_extension d.extension) s word (decoded_in (view_extension d.extension) word) ≡ Done c → IsKept (asked d word) s word c
+
+-- an instruction spawns nothing: it has no spawn target and no unit
+pub record SpawnsNothing (a : Asks) : Type 0 where
+  pub x : a.spawned ≡ None
+  pub customs : (r : ℕ) → get_or a.spawned_customs r false ≡ false
+  pub unit : a.unit ≡ None
+
+-- no instruction of the design spawns, and it has no unit
+pub record QuietLaw (d : Design) : Type 0 where
+  pub asks : (word : ℕ) → SpawnsNothing (asked d word)
+  pub units : first_units d.sheet.shape.stages d.plans ≡ []
 
 -- a module goes on for at most 64 cycles
 abbrev pub TailLaw : Design → Type 0

@@ -20,7 +20,10 @@ use Rattle.rv_holds.specs.Holds.{drain, staying, drain_hold, own_hold, stops_now
 use Rattle.rv_holds.specs.Flushing.{slot_stop, remains}
 use Rattle.rv_engine.specs.Settings.{Setting, Machine, shape_of, tree_of}
 use Rattle.rv_engine.specs.Rows.{waited, advanced, with_serial, retired_of, seen_by, fetch_by, left_by}
-use Rattle.rv_lawful.specs.Headline.{AgreesWithRun}
+use Rattle.rv_lawful.specs.Headline.{IsRecord, IsSpawnWrite, AgreesWithRun}
+use Rattle.rv_lawful.specs.Outstanding.{Written, Decoupled, architecture, after_owed}
+use Rattle.rv_lawful.specs.Sight.{asked}
+use Rattle.rv_machine.proofs.Quiet.{shown_same, record_long, outstanding_none}
 use Rattle.rv_lawful.specs.LawfulTrace.{StopsRun}
 use Rattle.rv_machine.specs.Placed.{judged, run, count, tail, expected, IsReady}
 use Rattle.rv_machine.specs.Told.{out_of}
@@ -133,10 +136,23 @@ module _ (k : Setting) (ready : IsReady k) (earlier : List Row) (m : Machine) (r
         let at : fetch_by k m ≡ (run k (retirements (row ∷ earlier))).pc = left.fetch (no_stops k 0 (seen_by k m) q) ∙ expected_empty k (retirements (row ∷ earlier)) 1 (tail (advanced None (seen_by k m))) gone in
         no_word (tree_of k) k.image (run k (retirements (row ∷ earlier))) (ap (λ n. word_at k.image n) (sym at) ∙ f.1) ∙ ap (λ z. Stopped z) (sym f.2)
 
-  pub agrees : AgreesWithRun (tree_of k) k.image earlier row
+  recorded_at : (s : ℕ) (c : Commit) → row.retired ≡ Some (s, c) → IsRecord (judged k) (retirements earlier) c
+  recorded_at s c e =
+      let is = (retired_at s c e).1 in
+      (c, is, sym (shown_same (asked k.design c.word) (ready.quiet.asks c.word) c (record_long (tree_of k) k.image (run k (retirements earlier)) c is)))
+
+  none_written : (w : Written) → row.written ≡ Some w → IsSpawnWrite (judged k) earlier w
+  none_written w e = cc (made.is.written, e)
+
+  abbrev owing : List Decoupled → Arch
+  owing l = after_owed (judged k) (row ∷ earlier) l (architecture (tree_of k) (judged k) (row ∷ earlier))
+
+  pub agrees : AgreesWithRun (tree_of k) (judged k) earlier row
   agrees = record {
     placed = λ s c e. (retired_at s c e).0;
-    recorded = λ s c e. (retired_at s c e).1;
-    state = left.state;
+    recorded = recorded_at;
+    written = none_written;
+    state = ap owing (outstanding_none (judged k) ready.quiet.asks (row ∷ earlier)) ∙ left.state;
     stop = stop_agrees;
+    settled = λ stop e. outstanding_none (judged k) ready.quiet.asks (row ∷ earlier);
   }

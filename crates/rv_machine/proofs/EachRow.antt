@@ -66,7 +66,7 @@ module _ (k : Setting) (ready : IsReady k) (earlier : List Row) (m : Machine) (r
   pub lawful : LawfulRow (judged k) earlier row
   lawful = L.lawful k ready earlier m row made
 
-  pub agrees : AgreesWithRun (tree_of k) k.image earlier row
+  pub agrees : AgreesWithRun (tree_of k) (judged k) earlier row
   agrees = A.agrees k ready earlier m row made left
 
   pub progress : row.stop ≡ None → rows_without (row ∷ earlier) + rank (shape_of k) (greatest k.waits) (owed_by k (machine_after k m)) (machine_after k m).slots ≤ (shape_of k).stages + greatest k.waits + 65

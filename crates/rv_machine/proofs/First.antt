@@ -14,7 +14,8 @@ use Rattle.rv_holds.specs.Tokens.{Slots, cell_of, cells_of}
 use Rattle.rv_holds.specs.Holds.{oldest, writes_late}
 use Rattle.rv_engine.specs.Settings.{Setting, shape_of, first_machine}
 use Rattle.rv_engine.specs.Rows.{first_slot, owed_by}
-use Rattle.rv_lawful.specs.Settings.{Course, accesses_before, architecture}
+use Rattle.rv_lawful.specs.Settings.{Course, accesses_before}
+use Rattle.rv_lawful.specs.Outstanding.{architecture}
 use Rattle.rv_lawful.specs.LawfulTrace.{fetch_address, next_serial}
 use Rattle.rv_machine.specs.Placed.{judged, run, count, tail, expected, past_ex, settled_before, to_go, Placed, Serials, IsReady, Inv}
 

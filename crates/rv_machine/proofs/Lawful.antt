@@ -23,6 +23,8 @@ use Rattle.rv_engine.specs.Settings.{Setting, Machine, shape_of}
 use Rattle.rv_engine.specs.Rows.{fill_first, going, with_serial, retired_of, new_by, loaded_by, turn_by, seen_by, fetch_by, left_by}
 use Rattle.rv_lawful.specs.Settings as Lawful
 use Rattle.rv_lawful.specs.LawfulTrace.{fetch_address, next_serial, new_cell, Moves, Retires, WaitsForJump, StopsRun, IsEmptyAfter, StopsRightly, IsInForm, LawfulRow}
+use Rattle.rv_lawful.specs.Outstanding.{serial_written, outstanding}
+use Rattle.rv_machine.proofs.Quiet.{written_none, outstanding_none}
 use Rattle.rv_machine.specs.Placed.{judged, IsReady}
 use Rattle.rv_machine.proofs.Places.{stood, token_order}
 use Rattle.rv_machine.proofs.Deciding.{test_eq, is_none_of}
@@ -246,17 +248,17 @@ module _ (k : Setting) (ready : IsReady k) (earlier : List Row) (m : Machine) (r
       record {
         cause = λ stop e. why stop (slot_stop (shape_of k) 0 (seen_by k m)) refl (sym made.is.stop ∙ e);
         of_cell = λ stage c stop stands s. made.is.stop ∙ ap (λ o. or_else o (if remains (seen_by k m) || is_some (word_at k.image (fetch_by k m)) then None else Some Fetch)) (ex_left stage c stop stands s (unflushed stage c stop stands s));
-        of_fetch = λ f w. made.is.stop ∙ nothing_left f w (slot_stop (shape_of k) 0 (seen_by k m)) refl;
+        of_fetch = λ f o w. made.is.stop ∙ nothing_left f w (slot_stop (shape_of k) 0 (seen_by k m)) refl;
       } where
         why : (stop : Stop) (o : Option Stop) → slot_stop (shape_of k) 0 (seen_by k m) ≡ o → or_else o (if remains (seen_by k m) || is_some (word_at k.image (fetch_by k m)) then None else Some Fetch) ≡ Some stop
-            → ((stage : ℕ) × (c : Cell) × Lawful.Stands (judged k) row stage c × StopsRun (judged k) earlier row stage c stop) ⊎ ((stop ≡ Fetch) × IsEmptyAfter (judged k) row × (word_at k.image (fetch_address (judged k) (row ∷ earlier)) ≡ None))
+            → ((stage : ℕ) × (c : Cell) × Lawful.Stands (judged k) row stage c × StopsRun (judged k) earlier row stage c stop) ⊎ ((stop ≡ Fetch) × IsEmptyAfter (judged k) row × (outstanding (judged k) (row ∷ earlier) ≡ []) × (word_at k.image (fetch_address (judged k) (row ∷ earlier)) ≡ None))
         why stop (Some s) q e =
             let x = stopper k 0 (seen_by k m) stop (q ∙ e) in
             let y = stopper_stops stop x in
             inl (x.index, x.token.cell, y.0, y.1)
         why stop None q e =
             let f = fetch_case (remains (seen_by k m)) (word_at k.image (fetch_by k m)) stop e in
-            inr (f.2, empty_after f.0, ap (λ n. word_at k.image n) (sym (S.fetch_now k ready earlier m row made)) ∙ f.1)
+            inr (f.2, empty_after f.0, outstanding_none (judged k) ready.quiet.asks (row ∷ earlier), ap (λ n. word_at k.image n) (sym (S.fetch_now k ready earlier m row made)) ∙ f.1)
 
         nothing_left : IsEmptyAfter (judged k) row → word_at k.image (fetch_address (judged k) (row ∷ earlier)) ≡ None → (o : Option Stop) → slot_stop (shape_of k) 0 (seen_by k m) ≡ o → or_else o (if remains (seen_by k m) || is_some (word_at k.image (fetch_by k m)) then None else Some Fetch) ≡ Some Fetch
         nothing_left f w None q =
@@ -281,7 +283,7 @@ module _ (k : Setting) (ready : IsReady k) (earlier : List Row) (m : Machine) (r
     retires = row_retires;
     holds = λ stage c stands. shows k ready earlier row (seen_by k m) made.told stage c stands;
     successors = S.row_successors k ready earlier m row made;
-    units = made.is.written;
+    units = ap serial_written made.is.written ∙ sym (written_none (judged k) ready.quiet.asks ready.quiet.units earlier);
     untaken = made.is.taken;
     stops = row_stops;
   }

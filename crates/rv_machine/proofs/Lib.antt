@@ -37,6 +37,7 @@ pub mod Tails
 pub mod TailsAfter
 pub mod Telling
 pub mod Trying
+pub mod Quiet
 pub mod Agreeing
 pub mod EachRow
 pub mod First

@@ -1,7 +1,7 @@
 -- The holds kind by kind: the first true one is the first one of the first kind that has a true one.
-use Rattle.std.proofs.Common.{◌≡◌, ℕ, suc, ◌<◌, ◌≤◌, List, Option, Some, None, Bool, true, false, refl, arith, inl, inr}
-use Rattle.std.specs.Prelude.{if◌then◌else◌}
-use Rattle.std.proofs.lemmas.Bool.{cases_lt}
+use Rattle.std.proofs.Common.{◌≡◌, ◌∙◌, ℕ, suc, ◌<◌, ◌≤◌, List, Option, Some, None, Bool, true, false, refl, sym, ap, arith, inl, inr}
+use Rattle.std.specs.Prelude.{if◌then◌else◌, is_some}
+use Rattle.std.proofs.lemmas.Bool.{cases_lt, false≢true}
 use Rattle.rv_trace.specs.declared.row.Cell.{Cell}
 use Rattle.rv_trace.specs.declared.row.Hold.{Hold}
 use Rattle.rv_trace.specs.declared.row.Hold.TheVariants.{Operand, Board, Custom, Late, Trap, Drain, Wait, StoreAhead, Tail, UnitFull, Port, Behind}
@@ -10,6 +10,8 @@ use Rattle.rv_trace.specs.RowParts.{kind_of, ComesFirst}
 use Rattle.rv_holds.specs.Tokens.{or_else}
 use Rattle.rv_lawful.specs.Settings.{Setting}
 use Rattle.rv_lawful.specs.LawfulTrace.{OwnHold}
+use Rattle.rv_lawful.specs.Sight.{SpawnsNothing}
+use Rattle.rv_machine.proofs.Quiet.{no_target, no_entry}
 
 -- Which hold is of which kind
 
@@ -144,20 +146,20 @@ joined k earlier row stage c n None (Some h) x y =
       ],
     )
 
--- the scoreboard has no hold, without an interrupt line there is no Trap, and units have no hold
-pub no_board : (k : Setting) (earlier : List Row) (row : Row) (stage : ℕ) (c : Cell) (h : Hold) → kind_of h ≡ 1 → OwnHold k earlier row stage c h → ⊥
-no_board k earlier row stage c (Operand r j) e o = omega (arith, e)
-no_board k earlier row stage c (Board target j) e o = o
-no_board k earlier row stage c (Custom r j) e o = omega (arith, e)
-no_board k earlier row stage c (Late j) e o = omega (arith, e)
-no_board k earlier row stage c Trap e o = o
-no_board k earlier row stage c (Drain j) e o = omega (arith, e)
-no_board k earlier row stage c (Wait left) e o = omega (arith, e)
-no_board k earlier row stage c (StoreAhead j) e o = omega (arith, e)
-no_board k earlier row stage c (Tail left) e o = omega (arith, e)
-no_board k earlier row stage c (UnitFull u) e o = omega (arith, e)
-no_board k earlier row stage c (Port j) e o = omega (arith, e)
-no_board k earlier row stage c Behind e o = omega (arith, e)
+-- where nothing is spawned the scoreboard has no hold and units have none, and without an interrupt line there is no Trap
+pub no_board : (k : Setting) (quiet : (word : ℕ) → SpawnsNothing (k.asks word)) (earlier : List Row) (row : Row) (stage : ℕ) (c : Cell) (h : Hold) → kind_of h ≡ 1 → OwnHold k earlier row stage c h → ⊥
+no_board k quiet earlier row stage c (Operand r j) e o = omega (arith, e)
+no_board k quiet earlier row stage c (Board target j) e o = no_target (k.asks o.spawns.0) (quiet o.spawns.0) target o.spawns.2
+no_board k quiet earlier row stage c (Custom r j) e o = omega (arith, e)
+no_board k quiet earlier row stage c (Late j) e o = omega (arith, e)
+no_board k quiet earlier row stage c Trap e o = o
+no_board k quiet earlier row stage c (Drain j) e o = omega (arith, e)
+no_board k quiet earlier row stage c (Wait left) e o = omega (arith, e)
+no_board k quiet earlier row stage c (StoreAhead j) e o = omega (arith, e)
+no_board k quiet earlier row stage c (Tail left) e o = omega (arith, e)
+no_board k quiet earlier row stage c (UnitFull u) e o = omega (arith, e)
+no_board k quiet earlier row stage c (Port j) e o = omega (arith, e)
+no_board k quiet earlier row stage c Behind e o = omega (arith, e)
 
 pub no_trap : (k : Setting) (earlier : List Row) (row : Row) (stage : ℕ) (c : Cell) (h : Hold) → kind_of h ≡ 4 → OwnHold k earlier row stage c h → ⊥
 no_trap k earlier row stage c (Operand r j) e o = omega (arith, e)
@@ -173,23 +175,23 @@ no_trap k earlier row stage c (UnitFull u) e o = omega (arith, e)
 no_trap k earlier row stage c (Port j) e o = omega (arith, e)
 no_trap k earlier row stage c Behind e o = omega (arith, e)
 
-pub no_unit : (k : Setting) (earlier : List Row) (row : Row) (stage : ℕ) (c : Cell) (h : Hold) → 9 ≤ kind_of h → OwnHold k earlier row stage c h → ⊥
-no_unit k earlier row stage c (Operand r j) e o = omega (arith, e)
-no_unit k earlier row stage c (Board target j) e o = omega (arith, e)
-no_unit k earlier row stage c (Custom r j) e o = omega (arith, e)
-no_unit k earlier row stage c (Late j) e o = omega (arith, e)
-no_unit k earlier row stage c Trap e o = o
-no_unit k earlier row stage c (Drain j) e o = omega (arith, e)
-no_unit k earlier row stage c (Wait left) e o = omega (arith, e)
-no_unit k earlier row stage c (StoreAhead j) e o = omega (arith, e)
-no_unit k earlier row stage c (Tail left) e o = omega (arith, e)
-no_unit k earlier row stage c (UnitFull u) e o = o
-no_unit k earlier row stage c (Port j) e o = o
-no_unit k earlier row stage c Behind e o = o
+pub no_unit : (k : Setting) (quiet : (word : ℕ) → SpawnsNothing (k.asks word)) (earlier : List Row) (row : Row) (stage : ℕ) (c : Cell) (h : Hold) → 9 ≤ kind_of h → OwnHold k earlier row stage c h → ⊥
+no_unit k quiet earlier row stage c (Operand r j) e o = omega (arith, e)
+no_unit k quiet earlier row stage c (Board target j) e o = omega (arith, e)
+no_unit k quiet earlier row stage c (Custom r j) e o = omega (arith, e)
+no_unit k quiet earlier row stage c (Late j) e o = omega (arith, e)
+no_unit k quiet earlier row stage c Trap e o = o
+no_unit k quiet earlier row stage c (Drain j) e o = omega (arith, e)
+no_unit k quiet earlier row stage c (Wait left) e o = omega (arith, e)
+no_unit k quiet earlier row stage c (StoreAhead j) e o = omega (arith, e)
+no_unit k quiet earlier row stage c (Tail left) e o = omega (arith, e)
+no_unit k quiet earlier row stage c (UnitFull u) e o = no_entry (k.asks c.word) (quiet c.word) (ap (λ n. is_some n) o.enters)
+no_unit k quiet earlier row stage c (Port j) e o = false≢true (sym (ap (λ n. is_some n) (quiet o.spawns.0).x) ∙ o.spawns.2)
+no_unit k quiet earlier row stage c Behind e o = o
 
 -- whatever is true of a cell of its own comes before Behind
-pub own_kind : (k : Setting) (earlier : List Row) (row : Row) (stage : ℕ) (c : Cell) (h : Hold) → OwnHold k earlier row stage c h → kind_of h < 9
-own_kind k earlier row stage c h o = elim (cases_lt (kind_of h) 9) [ inl less ↦ less | inr more ↦ absurd (no_unit k earlier row stage c h more o) ]
+pub own_kind : (k : Setting) (quiet : (word : ℕ) → SpawnsNothing (k.asks word)) (earlier : List Row) (row : Row) (stage : ℕ) (c : Cell) (h : Hold) → OwnHold k earlier row stage c h → kind_of h < 9
+own_kind k quiet earlier row stage c h o = elim (cases_lt (kind_of h) 9) [ inl less ↦ less | inr more ↦ absurd (no_unit k quiet earlier row stage c h more o) ]
 
 -- The order in which they are decided
 

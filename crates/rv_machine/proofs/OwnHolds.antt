@@ -21,12 +21,13 @@ use Rattle.rv_holds.specs.Holds.{oldest, does_write, writes_late, does_store, is
 use Rattle.rv_engine.specs.Settings.{Setting, shape_of}
 use Rattle.rv_lawful.specs.Settings as Lawful
 use Rattle.rv_lawful.specs.Sight.{asked, IsEarly}
-use Rattle.rv_lawful.specs.LawfulTrace.{IsWordOf, IsDueToStop, reads_of, WaitsForOperand, WaitsForCustom, WaitsForJump, WaitsToDrain, WaitsForMemory, WaitsForStore, WaitsForModule, OwnHold, StopsRun}
+use Rattle.rv_lawful.specs.LawfulTrace.{IsWordOf, IsDueToStop, reads_of, WaitsForOperand, WaitsForCustom, WaitsForJump, WaitsToDrain, IsUnwritten, WaitsForMemory, WaitsForStore, WaitsForModule, OwnHold, StopsRun}
 use Rattle.rv_machine.specs.Placed.{judged, count, IsReady, IsTried, Placed, Serials}
 use Rattle.rv_machine.specs.Told.{out_of, Told}
 use Rattle.rv_machine.proofs.Places.{Stood, stood, older_lower, token_of, serials_drop, place_lt, place_order}
 use Rattle.rv_machine.proofs.Deciding.{same_test, test_eq, test_ne, no_waiting}
 use Rattle.rv_machine.proofs.Standing.{slice_get-drop, drop_more, stands_older, asks_at, here_of, cell_here, Has, OldestIs, oldest_is, all_three, out_drop, StayingIs, staying_is}
+use Rattle.rv_machine.proofs.Quiet.{none_unwritten}
 use Rattle.rv_machine.proofs.Ordering.{operand_kind, custom_kind, late_kind, drain_kind, wait_kind, store_kind, module_kind, FirstOf, FirstFrom, joined, no_board, no_trap, no_unit, or_assoc, if_or, or_none, or_right}
 use Rattle.rv_machine.proofs.Sixteen.{customs_few}
 
@@ -382,6 +383,9 @@ module _ (k : Setting) (ready : IsReady k) (earlier : List Row) (row : Row) (see
   still : (j : ℕ) → is_flushed (row ∷ earlier) j ≡ false → is_retired (row ∷ earlier) j ≡ false → retirements earlier + out_of seen ≤ place (row ∷ earlier) j
   still j alive u = not_below (place (row ∷ earlier) j) (retirements earlier + out_of seen) (sym (told.now j alive) ∙ u)
 
+  unretired_left : (j : ℕ) → ((is_retired (row ∷ earlier) j ≡ false) ⊎ IsUnwritten (judged k) (row ∷ earlier) j) → is_retired (row ∷ earlier) j ≡ false
+  unretired_left j x = elim x [ inl u ↦ u | inr w ↦ absurd (none_unwritten (judged k) ready.quiet.asks (row ∷ earlier) j w) ]
+
   drain_of : (i : ℕ) → WaitsToDrain (judged k) earlier row stage t.cell i → ((j : ℕ) → WaitsToDrain (judged k) earlier row stage t.cell j → i ≤ j) → Of 5 (Some (Drain i))
   drain_of i w f = (
     refl,
@@ -405,15 +409,15 @@ module _ (k : Setting) (ready : IsReady k) (earlier : List Row) (row : Row) (see
           executing = at;
           due = (stop, word_due stop at ripe w);
           older = subst (λ s. IsOlder (row ∷ earlier) t.cell.serial s) x.3 (is_older x.0 x.1 x.2);
-          unretired = told.now i alive ∙ not_lt (place (row ∷ earlier) i) (retirements earlier + out_of seen) (omega (arith, same, p));
+          left = inl (told.now i alive ∙ not_lt (place (row ∷ earlier) i) (retirements earlier + out_of seen) (omega (arith, same, p)));
         })
         (λ j d.
-        let s = still j d.older.unflushed d.unretired in
+        let s = still j d.older.unflushed (unretired_left j d.left) in
         place_order (row ∷ earlier) i j d.older.unflushed (omega (arith, s, same, p)))
     by_case None le =
         no_drain
         (λ j d.
-        let s = still j d.older.unflushed d.unretired in
+        let s = still j d.older.unflushed (unretired_left j d.left) in
         let lower = place_lt (row ∷ earlier) j t.cell.serial d.older.unflushed d.older.lower in
         let p = ordered.0.0 in
         let some : 0 < count older = omega (arith, s, lower, p) in
@@ -599,7 +603,7 @@ module _ (k : Setting) (ready : IsReady k) (earlier : List Row) (row : Row) (see
   From n o = FirstFrom (judged k) earlier row stage t.cell n o
 
   from_modules : From 8 modules
-  from_modules = subst (λ o. From 8 o) (or_right modules) (joined (judged k) earlier row stage t.cell 8 modules None module_where (λ e h le own. no_unit (judged k) earlier row stage t.cell h le own))
+  from_modules = subst (λ o. From 8 o) (or_right modules) (joined (judged k) earlier row stage t.cell 8 modules None module_where (λ e h le own. no_unit (judged k) ready.quiet.asks earlier row stage t.cell h le own))
 
   from_drains : IsRipe → From 5 (or_else drains (or_else waits (or_else stores modules)))
   from_drains ripe =
@@ -611,7 +615,7 @@ module _ (k : Setting) (ready : IsReady k) (earlier : List Row) (row : Row) (see
   own_is =
       subst (λ o. From 0 o) (sym own_order)
       (joined (judged k) earlier row stage t.cell 0 operands (or_else customs (or_else jumps (or_else drains (or_else waits (or_else stores modules))))) operand_where
-      (λ a. joined (judged k) earlier row stage t.cell 1 None (or_else customs (or_else jumps (or_else drains (or_else waits (or_else stores modules))))) (no_board (judged k) earlier row stage t.cell)
+      (λ a. joined (judged k) earlier row stage t.cell 1 None (or_else customs (or_else jumps (or_else drains (or_else waits (or_else stores modules))))) (no_board (judged k) ready.quiet.asks earlier row stage t.cell)
       (λ n. joined (judged k) earlier row stage t.cell 2 customs (or_else jumps (or_else drains (or_else waits (or_else stores modules)))) custom_where
       (λ b. joined (judged k) earlier row stage t.cell 3 jumps (or_else drains (or_else waits (or_else stores modules))) late_where
       (λ c. joined (judged k) earlier row stage t.cell 4 None (or_else drains (or_else waits (or_else stores modules))) (no_trap (judged k) earlier row stage t.cell)

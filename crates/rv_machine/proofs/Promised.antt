@@ -8,19 +8,20 @@ use Rattle.ix_standing.specs.Standing.{Stands}
 use Rattle.rv_seq.specs.declared.arch.Arch.{Arch}
 use Rattle.rv_trace.specs.declared.row.Row.{Row}
 use Rattle.rv_seq.specs.declared.commit.Commit.{Commit}
-use Rattle.rv_trace.specs.Trace.{newest, with_retired}
+use Rattle.rv_trace.specs.Trace.{newest}
 use Rattle.rv_trace.specs.TraceText.{trace_text}
 use Rattle.rv_text.specs.RunText.{state_text}
 use Rattle.rv_engine.specs.Settings.{Setting, setting, tree_of}
-use Rattle.rv_engine.specs.Rows.{arch_after, retired_of, left_by}
-use Rattle.rv_lawful.specs.Settings.{architecture}
+use Rattle.rv_engine.specs.Rows.{arch_after}
+use Rattle.rv_lawful.specs.Outstanding.{architecture}
 use Rattle.rv_lawful.specs.Headline.{Headline}
-use Rattle.rv_lawful.specs.Sight.{EarlyLaw, ExactLaw, KeepsLaw, TailLaw}
+use Rattle.rv_lawful.specs.Sight.{EarlyLaw, ExactLaw, KeepsLaw, TailLaw, QuietLaw}
 use Rattle.rv_machine.specs.Running.{AreRows, machine_at}
 use Rattle.rv_machine.specs.DesignText.{IsDesignText}
 use Rattle.rv_machine.specs.LawfulText.{IsLawfulText}
 use Rattle.rv_machine.specs.Promises.{IsInOrder, RowsLaw, TextLaw}
-use Rattle.rv_machine.specs.Placed.{Inv, IsReady}
+use Rattle.rv_machine.specs.Placed.{judged, Inv, IsReady}
+use Rattle.rv_machine.proofs.Retiring as R
 use Rattle.rv_machine.proofs.First.{first}
 use Rattle.rv_machine.proofs.GoesOn.{goes_on}
 use Rattle.rv_machine.proofs.OneMore.{one_more_row}
@@ -33,6 +34,7 @@ pub record Sights : Type 0 where
   pub exact : (d : Design) → Stands d → ExactLaw d
   pub keeps : (d : Design) → Stands d → first_spawning (view_extension d.extension) ≡ None → KeepsLaw d
   pub tails : (d : Design) → Stands d → TailLaw d
+  pub quiet : (d : Design) → Stands d → first_spawning (view_extension d.extension) ≡ None → QuietLaw d
 
 -- so a design that stands is ready
 ready_of : Sights → (d : Design) (image waits : List ℕ) → IsInOrder d image → IsReady (setting d image waits)
@@ -53,6 +55,7 @@ ready_of sights d image waits h =
       exact = sights.exact d h.stands;
       keeps = sights.keeps d h.stands h.quiet;
       tails = sights.tails d h.stands;
+      quiet = sights.quiet d h.stands h.quiet;
       wide = λ p. run_wide formed.0 (view_extension d.extension) image p formed.1;
       words = λ p. (run_words (view_extension d.extension) image p).registers;
       pcs = λ p. (run_words (view_extension d.extension) image p).pc;
@@ -78,19 +81,16 @@ known k ready (row ∷ earlier) are =
 pub rows_law : Sights → RowsLaw
 rows_law sights d image waits rows h are = (known (setting d image waits) (ready_of sights d image waits h) rows are).headline
 
--- the writes of a retired record, as the machine and as the rows tell them
-same_writes : (s : Arch) (o : Option (ℕ × Commit)) → arch_after s o ≡ with_retired o s
-same_writes s None = refl
-same_writes s (Some r) = refl
-
 -- the state of the machine is that which its rows tell
-arch_is : (k : Setting) (rows : List Row) → AreRows k rows → (machine_at k rows).arch ≡ architecture (tree_of k) rows
+arch_is : (k : Setting) → IsReady k → (rows : List Row) → AreRows k rows → (machine_at k rows).arch ≡ architecture (tree_of k) (judged k) rows
 unfolding machine_at architecture
-arch_is k [] are = refl
-arch_is k (row ∷ earlier) are =
-    same_writes (machine_at k earlier).arch (retired_of (left_by k (machine_at k earlier)))
-    ∙ ap (λ (o : Option (ℕ × Commit)). with_retired o (machine_at k earlier).arch) (sym are.0.retired)
-    ∙ ap (λ (a : Arch). with_retired row.retired a) (arch_is k earlier are.2)
+arch_is k ready [] are = refl
+arch_is k ready (row ∷ earlier) are =
+    let m = machine_at k earlier in
+    let inv = (known k ready earlier are.2).going are.1 in
+    ap (λ (o : Option (ℕ × Commit)). arch_after m.arch o) (sym are.0.retired)
+    ∙ R.state_now k ready earlier m row inv are.0
+    ∙ sym (R.architecture_now k ready earlier m row inv are.0)
 
 pub text_law : Sights → TextLaw
 text_law sights d image waits cycles text h t =
@@ -99,5 +99,5 @@ text_law sights d image waits cycles text h t =
       headline = rows_law sights d image waits t.rows h t.are_rows;
       few = t.few;
       whole = t.whole;
-      text_is = t.text_is ∙ ap (λ (a : Arch). trace_text d.sheet.shape.stages 0 (reverse t.rows) ++ state_text (view_extension d.extension) a) (arch_is (setting d image waits) t.rows t.are_rows);
+      text_is = t.text_is ∙ ap (λ (a : Arch). trace_text d.sheet.shape.stages 0 (reverse t.rows) ++ state_text (view_extension d.extension) a) (arch_is (setting d image waits) (ready_of sights d image waits h) t.rows t.are_rows);
     }

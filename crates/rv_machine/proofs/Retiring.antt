@@ -9,14 +9,14 @@ use Rattle.rv_seq.specs.declared.commit.Commit.{Commit}
 use Rattle.rv_seq.specs.Commits.{applied}
 use Rattle.rv_seq.specs.Steps.{after}
 use Rattle.rv_trace.specs.declared.row.Row.{Row}
-use Rattle.rv_trace.specs.Trace.{place, is_flushed, is_retired, retirements, with_retired}
+use Rattle.rv_trace.specs.Trace.{place, is_flushed, is_retired, retirements}
 use Rattle.rv_holds.specs.declared.token.Token.{Token}
 use Rattle.rv_holds.specs.Tokens.{Slots, stop_in, commit_in, tried_commit, commit_of}
 use Rattle.rv_holds.specs.Flushing.{next_of, settles, struck, cleared}
 use Rattle.rv_engine.specs.Settings.{Setting, Machine, shape_of, tree_of}
 use Rattle.rv_engine.specs.Rows.{going, leaving, with_serial, retired_of, arch_after, owed_by, turn_by, seen_by, left_by, IsRowOf}
-use Rattle.rv_lawful.specs.Settings as Lawful
-use Rattle.rv_machine.specs.Placed.{run, one_more, count, settling_stage, Serials, IsPlaced, IsPlacedSlot, IsReady, Inv}
+use Rattle.rv_lawful.specs.Outstanding.{architecture, after_retired, after_written}
+use Rattle.rv_machine.specs.Placed.{judged, run, one_more, count, settling_stage, Serials, IsPlaced, IsPlacedSlot, IsReady, Inv}
 use Rattle.rv_machine.specs.Told.{NoStops, out_of, Told}
 use Rattle.rv_machine.proofs.Places.{serials_drop, one_place}
 use Rattle.rv_machine.proofs.Moving.{last_slot, out_going}
@@ -27,6 +27,7 @@ use Rattle.rv_machine.proofs.Going.{AreSeen}
 use Rattle.rv_machine.proofs.Moves.{leaving_placed, past_ex}
 use Rattle.rv_machine.proofs.Clearing.{cleared_drop, cleared_placed, cleared_decided, cleared_loaded}
 use Rattle.rv_machine.proofs.Settling.{settles_parts, settled_next, seen_rest}
+use Rattle.rv_machine.proofs.Quiet.{record_long, retired_whole}
 use Rattle.rv_machine.proofs.Before as B
 use Rattle.rv_machine.proofs.Flushing as F
 use Rattle.rv_machine.proofs.Telling as T
@@ -251,10 +252,21 @@ module _ (k : Setting) (ready : IsReady k) (earlier : List Row) (m : Machine) (r
         ap (λ o. arch_after m.arch o) y.0.is_retired ∙ ap (λ s. applied y.0.commit s) inv.arch ∙ sym (run_suc k (retirements earlier) ∙ ap (λ a. after (run k (retirements earlier)) a) y.0.recorded) ∙ ap (λ j. run k j) (sym e)
   ]
 
-  retired_arch : (o : Option (ℕ × Commit)) (s : Arch) → with_retired o s ≡ arch_after s o
-  retired_arch None s = refl
-  retired_arch (Some p) s = refl
+  -- what retires has a record of the run
+  retired_long : (r : ℕ × Commit) → row.retired ≡ Some r → length r.1.custom ≡ 16
+  retired_long r e = elim goes_out [
+    | inl n ↦ cc (n.1, e)
+    | inr y ↦
+        let same : (y.0.token.cell.serial, y.0.commit) ≡ r = one_pair (y.0.token.cell.serial, y.0.commit) r (sym y.0.is_retired ∙ e) in
+        ap (λ (p : ℕ × Commit). length p.1.custom) (sym same) ∙ record_long (tree_of k) k.image (run k (retirements earlier)) y.0.commit y.0.recorded
+  ] where
+    one_pair : (a b : ℕ × Commit) → ◌≡◌ {A = Option (ℕ × Commit)} (Some a) (Some b) → a ≡ b
+    one_pair a b q = cc
 
-  pub architecture_now : Lawful.architecture (tree_of k) (row ∷ earlier) ≡ run k (retirements (row ∷ earlier))
-  unfolding Lawful.architecture
-  architecture_now = ap (λ s. with_retired row.retired s) (inv.state ∙ sym inv.arch) ∙ retired_arch row.retired m.arch ∙ state_now
+  pub architecture_now : architecture (tree_of k) (judged k) (row ∷ earlier) ≡ run k (retirements (row ∷ earlier))
+  unfolding architecture
+  architecture_now =
+      ap (λ w. after_written w (after_retired (judged k) (retirements earlier) row.retired (architecture (tree_of k) (judged k) earlier))) is.written
+      ∙ ap (λ s. after_retired (judged k) (retirements earlier) row.retired s) (inv.state ∙ sym inv.arch)
+      ∙ retired_whole (judged k) ready.quiet.asks (retirements earlier) row.retired m.arch retired_long
+      ∙ state_now

@@ -6,7 +6,8 @@ use Rattle.rv_trace.specs.declared.row.Row.{Row}
 use Rattle.rv_trace.specs.Trace.{newest}
 use Rattle.rv_trace.specs.TraceText.{trace_text}
 use Rattle.rv_text.specs.RunText.{state_text}
-use Rattle.rv_lawful.specs.Settings.{architecture}
+use Rattle.rv_lawful.specs.Settings.{setting}
+use Rattle.rv_lawful.specs.Outstanding.{architecture, outstanding_targets}
 use Rattle.rv_lawful.specs.Headline.{Headline}
 
 -- the text of rows which the headline holds of on the core of a design, whose memory has these waits, as many as the cycles, or fewer where the last one has a stop, and of
@@ -16,4 +17,4 @@ pub record IsLawfulText (d : Design) (image waits : List ℕ) (cycles : ℕ) (te
   pub headline : Headline d image waits rows
   pub few : length rows ≤ cycles
   pub whole : (newest rows).stop ≡ None → length rows ≡ cycles
-  pub text_is : text ≡ trace_text d.sheet.shape.stages 0 (reverse rows) ++ state_text (view_extension d.extension) (architecture (view_extension d.extension) rows)
+  pub text_is : text ≡ trace_text d.sheet.shape.stages 0 (reverse rows) ++ state_text (view_extension d.extension) (architecture (view_extension d.extension) (setting d image waits) rows)

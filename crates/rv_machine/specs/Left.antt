@@ -9,14 +9,14 @@ use Rattle.rv_holds.specs.declared.token.Token.{Token}
 use Rattle.rv_holds.specs.Tokens.{commit_of}
 use Rattle.rv_engine.specs.Settings.{Setting, Machine, tree_of}
 use Rattle.rv_engine.specs.Rows.{advanced, seen_by, fetch_by, left_by}
-use Rattle.rv_lawful.specs.Settings.{architecture}
-use Rattle.rv_machine.specs.Placed.{run, tail, expected}
+use Rattle.rv_lawful.specs.Outstanding.{architecture}
+use Rattle.rv_machine.specs.Placed.{judged, run, tail, expected}
 use Rattle.rv_machine.specs.Told.{NoStops, out_of}
 
 pub record Left (k : Setting) (earlier : List Row) (m : Machine) (row : Row) : Type 0 where
   pub serial : (t : Token) → left_by k m ≡ Some t → place (row ∷ earlier) t.cell.serial ≡ retirements earlier
   pub recorded : (t : Token) (c : Commit) → left_by k m ≡ Some t → commit_of t ≡ Some c → answer_at (tree_of k) k.image (retirements earlier) ≡ Done c
   pub now : retirements (row ∷ earlier) ≡ retirements earlier + out_of (seen_by k m)
-  pub state : architecture (tree_of k) (row ∷ earlier) ≡ run k (retirements (row ∷ earlier))
+  pub state : architecture (tree_of k) (judged k) (row ∷ earlier) ≡ run k (retirements (row ∷ earlier))
   -- where no token stops the run, the next fetch is from behind the tokens that are left
   pub fetch : NoStops k 0 (seen_by k m) → fetch_by k m ≡ expected k (retirements (row ∷ earlier)) 1 (tail (advanced None (seen_by k m)))

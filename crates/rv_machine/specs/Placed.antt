@@ -19,8 +19,9 @@ use Rattle.rv_holds.specs.Holds.{oldest, is_late, writes_late}
 use Rattle.rv_engine.specs.Settings.{Setting, Machine, shape_of, tree_of}
 use Rattle.rv_engine.specs.Rows.{first_slot, owed_by}
 use Rattle.rv_lawful.specs.Settings as Lawful
+use Rattle.rv_lawful.specs.Outstanding.{architecture}
 use Rattle.rv_lawful.specs.LawfulTrace.{fetch_address, next_serial, IsWordOf}
-use Rattle.rv_lawful.specs.Sight.{asked, HasWords, AreWords, IsEarly, EarlyLaw, ExactLaw, KeepsLaw, TailLaw}
+use Rattle.rv_lawful.specs.Sight.{asked, HasWords, AreWords, IsEarly, EarlyLaw, ExactLaw, KeepsLaw, TailLaw, QuietLaw}
 use Rattle.rv_effect.specs.WordEffects.{AreWide}
 
 -- what the rows of a setting are judged against
@@ -44,6 +45,7 @@ pub record IsReady (k : Setting) : Type 0 where
   pub exact : ExactLaw k.design
   pub keeps : KeepsLaw k.design
   pub tails : TailLaw k.design
+  pub quiet : QuietLaw k.design
   pub wide : (p : ℕ) → AreWide (tree_of k) (run k p).custom
   pub words : (p : ℕ) → HasWords (run k p)
   pub pcs : (p : ℕ) → (run k p).pc < 2 ^ 32
@@ -188,5 +190,5 @@ pub record Inv (k : Setting) (earlier : List Row) (m : Machine) : Type 0 where
   pub fresh : (s word : ℕ) → IsWordOf (judged k) earlier s word → s < m.next
   pub retired : (s : ℕ) → is_flushed earlier s ≡ false → is_retired earlier s ≡ nat_lt (place earlier s) (retirements earlier)
   pub unflushed : (s : ℕ) → m.next ≤ s → is_flushed earlier s ≡ false
-  pub state : Lawful.architecture (tree_of k) earlier ≡ run k (retirements earlier)
+  pub state : architecture (tree_of k) (judged k) earlier ≡ run k (retirements earlier)
   pub progress : rows_without earlier + rank (shape_of k) (greatest k.waits) (owed_by k m) m.slots ≤ (shape_of k).stages + greatest k.waits + 65

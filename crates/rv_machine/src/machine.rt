@@ -1,12 +1,12 @@
 ghost use Rattle.std.specs.Prelude.{◌≡◌, ◌+◌, ◌<◌, [], ◌∷◌, None, reverse, IfOk};
-ghost use Rattle.ix_extension.specs.WellFormed.{IsWellFormed};
-ghost use Rattle.ix_sheet.specs.Sheets.{IsValidSheet};
+ghost use Rattle.ix_standing.specs.Standing.{Stands};
 ghost use Rattle.rv_trace.specs.Trace.{newest};
 ghost use Rattle.rv_lawful.specs.Headline.{Headline};
 ghost use Rattle.rv_machine.specs.Running.{AreRows, machine_at};
 ghost use Rattle.rv_machine.specs.Promises.{IsInOrder};
 
 use crate::laws::rows_laws;
+use ix_behaviour::behaviour_laws;
 use ix_bits::Memory;
 use ix_eval::Scratch;
 use ix_plan::Design;
@@ -55,12 +55,12 @@ impl<'a> Machine<'a> {
         waits: &'a Waits,
         cycles: u32,
     ) -> Result<Machine<'a>, Memory>
-        requires well_formed { IsWellFormed design.now.extension }
-        requires sheet { IsValidSheet design.now.sheet }
+        requires stands { Stands design.now }
         ensures setting { IfOk result (λ m. m.setting ≡ record { design = design.now; image = image.now; waits = waits.now }) }
         ensures rows { IfOk result (λ m. m.rows ≡ []) }
         ensures spare { IfOk result (λ m. m.spare ≡ cycles) }
     {
+        behaviour_laws();
         let trace = Trace::new(alloc, cycles)?;
         let asking = asking_of(alloc, design)?;
         let scratch = Scratch::new(alloc, &design.extension)?;

@@ -1,6 +1,5 @@
 ghost use Rattle.std.specs.Prelude.{◌≡◌, ℕ, ◌≤◌, List, [], length, None, OnOk, Err};
-ghost use Rattle.ix_extension.specs.WellFormed.{IsWellFormed};
-ghost use Rattle.ix_sheet.specs.Sheets.{IsValidSheet};
+ghost use Rattle.ix_standing.specs.Standing.{Stands};
 ghost use Rattle.ix_io.specs.Faults.{Rose};
 ghost use Rattle.ix_io.specs.Sink.{Appends, AppendsFront};
 ghost use Rattle.rv_trace.specs.Trace.{newest};
@@ -41,8 +40,7 @@ pub fn write_design_run<S: Sink>(
     cycles: u32,
     sink: &mut S,
 ) -> Result<(), RunErr>
-    requires well_formed { IsWellFormed design.now.extension }
-    requires sheet { IsValidSheet design.now.sheet }
+    requires stands { Stands design.now }
     ensures whole { OnOk result ((text : List ℕ) × IsDesignText (record { design = design.now; image = image.now; waits = waits.now }) cycles text × Appends (S.written sink.old) (S.written sink.new) text) }
     ensures fault { result ≡ Err RunErr.Fault → Rose (S.faults sink.old) (S.faults sink.new) × ((text : List ℕ) × IsDesignText (record { design = design.now; image = image.now; waits = waits.now }) cycles text × AppendsFront (S.written sink.old) (S.written sink.new) text) }
     ensures memory { result ≡ Err RunErr.Memory → S.written sink.new ≡ S.written sink.old }

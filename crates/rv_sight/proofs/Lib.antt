@@ -7,3 +7,4 @@ mod Spawning
 mod Quiet
 mod Seeing
 mod Sights
+mod Units

@@ -34,6 +34,7 @@ use Rattle.rv_effect.specs.WordEffects.{effect_of, over, blocks_effect, AreWide}
 use Rattle.rv_effect.specs.declared.decoded.Decoded.TheVariants as D
 use Rattle.rv_asks.specs.declared.asks.Asks.{Asks}
 use Rattle.rv_asks.specs.Acts as acts
+use Rattle.rv_unit.specs.Numbering.{unit_of}
 use Rattle.rv_asks.specs.Asks.{block_acts, where_so, base_asks, blank_in}
 use Rattle.rv_seq.specs.declared.arch.Arch.{Arch}
 use Rattle.rv_seq.specs.States.{zero_bit, state_at, inputs_at}
@@ -111,12 +112,12 @@ module _ (laws : Laws) (d : Design) (stands : Stands d) where
   abbrev AsksBlocks : Asks → Type 0
   AsksBlocks a = (r : ℕ) → r < 16 → list_any (acts.touches r) (block_acts d) ≡ true → get_or a.customs r false ≡ true
 
-  pub own_blocks : (code : ℕ) (p : Plan) → AsksBlocks (asks_of d code p)
-  own_blocks code p r few h =
+  pub own_blocks : (code : ℕ) (unit : Option ℕ) (p : Plan) → AsksBlocks (asks_of d code unit p)
+  own_blocks code unit p r few h =
       flags_at (λ m. list_any (acts.touches m) (acts.acts_of p) || list_any (acts.touches m) (block_acts d)) 16 r few
       ∙ or_right (list_any (acts.touches r) (acts.acts_of p)) (list_any (acts.touches r) (block_acts d)) h
 
-  pub base_blocks : (b : Base) → AsksBlocks (base_asks (blank_in d).customs b)
+  pub base_blocks : (b : Base) → AsksBlocks (base_asks d.sheet.shape (blank_in d).customs b)
   base_blocks b r few h = flags_at (λ m. list_any (acts.touches m) [] || list_any (acts.touches m) (block_acts d)) 16 r few ∙ h
 
   -- ---- in a state
@@ -146,30 +147,30 @@ module _ (laws : Laws) (d : Design) (stands : Stands d) where
         (λ less. ap (λ (z : Option Bits). option_or z (get_or (blocks_effect x there m).custom r None)) here ∙ rest)
 
     pub keeps_own : (n : ℕ) (l : n < length x.instructions) → (IsSpawning (plan_of d stands n l).plan.graph → ⊥)
-        → IsKept (asks_of d code (plan_of d stands n l).plan) s code (commit_of s.pc code (over (effect_at x (W.Instruction n) there) (blocks_effect x there (length x.blocks))))
+        → IsKept (asks_of d code (unit_of d.plans n) (plan_of d stands n l).plan) s code (commit_of s.pc code (over (effect_at x (W.Instruction n) there) (blocks_effect x there (length x.blocks))))
     keeps_own n l never =
         let p = plan_of d stands n l in
         let w = W.Instruction n in
-        let a = asks_of d code p.plan in
+        let a = asks_of d code (unit_of d.plans n) p.plan in
         let unwritten = laws.unwritten stands.well_formed.0 x w p.plan.graph.ops there stands.well_formed.1 l p.planned.graph.ops (there_inputs w) in
         kept_from a s code (effect_at x w there) (blocks_effect x there (length x.blocks))
         (record {
           rd = λ v is. by v is (list_any acts.writes_own (acts.acts_of p.plan)) refl;
           own = λ r few none. custom_none x w there r (unwritten (3 + r)
-              (λ m o e t. not_any (get_or a.customs r false) none (asks_customs d code p.plan r few m o e (ap (acts.is_custom r) (target_is_custom o.kind r t) ∙ eq-eqb r r refl))));
-          blocks = λ r few none. blocks_none a (own_blocks code p.plan) r few none (length x.blocks) (omega arith);
-          store = λ none. store_none x w there (unwritten 0 (λ m o e t. not_any a.stores none (asks_stores d code p.plan m o e (ap acts.is_store (target_is_memory o.kind t)))));
+              (λ m o e t. not_any (get_or a.customs r false) none (asks_customs d code (unit_of d.plans n) p.plan r few m o e (ap (acts.is_custom r) (target_is_custom o.kind r t) ∙ eq-eqb r r refl))));
+          blocks = λ r few none. blocks_none a (own_blocks code (unit_of d.plans n) p.plan) r few none (length x.blocks) (omega arith);
+          store = λ none. store_none x w there (unwritten 0 (λ m o e t. not_any a.stores none (asks_stores d code (unit_of d.plans n) p.plan m o e (ap acts.is_store (target_is_memory o.kind t)))));
         })
       where
         by : (v : ℕ) → (effect_at x (W.Instruction n) there).rd ≡ Some v → (b : Bool) → list_any acts.writes_own (acts.acts_of (plan_of d stands n l).plan) ≡ b
-            → (asks_of d code (plan_of d stands n l).plan).destination ≡ rd_of code
+            → (asks_of d code (unit_of d.plans n) (plan_of d stands n l).plan).destination ≡ rd_of code
         by v is true e = ap (λ (b : Bool). where_so b (rd_of code)) e
         by v is false e =
             let p = plan_of d stands n l in
             let w = W.Instruction n in
             let nothing = rd_none x w there
             (laws.unwritten stands.well_formed.0 x w p.plan.graph.ops there stands.well_formed.1 l p.planned.graph.ops (there_inputs w) 1
-            (λ m o g t. not_any (list_any acts.writes_own (acts.acts_of p.plan)) e (writes_any d code p.plan never m o g (target_is_rd o.kind t)))) in
+            (λ m o g t. not_any (list_any acts.writes_own (acts.acts_of p.plan)) e (writes_any d code (unit_of d.plans n) p.plan never m o g (target_is_rd o.kind t)))) in
             cc (sym is ∙ nothing)
 
     store_absent : (b : Base) (m n : ℕ) (o : Option Size) → is_some o ≡ false → option_map (base_store b m n) o ≡ None
@@ -177,9 +178,9 @@ module _ (laws : Laws) (d : Design) (stands : Stands d) where
     store_absent b m n (Some size) e = cc
 
     pub keeps_base : (b : Base) → decoded code ≡ Some b
-        → IsKept (base_asks (blank_in d).customs b) s code (commit_of s.pc code (over (base_effect b there) (blocks_effect x there (length x.blocks))))
+        → IsKept (base_asks d.sheet.shape (blank_in d).customs b) s code (commit_of s.pc code (over (base_effect b there) (blocks_effect x there (length x.blocks))))
     keeps_base b is =
-        let a = base_asks (blank_in d).customs b in
+        let a = base_asks d.sheet.shape (blank_in d).customs b in
         kept_from a s code (base_effect b there) (blocks_effect x there (length x.blocks))
         (record {
           rd = λ v e. (names b code is).target (base_rd_writes b there v e);
@@ -233,50 +234,50 @@ module _ (laws : Laws) (d : Design) (stands : Stands d) where
       all_blocks a asks seen = blocks_same a asks seen (length x.blocks) (omega arith)
 
       -- ---- an instruction of the extension
-      own_agrees : (p : Plan) → IsSeen (asks_of d code p) code s i → (n : ℕ) (o : Op) → slice_get p.graph.ops n ≡ Some o → (o.kind ≡ k.RdMem → peeked memory ≡ peeked s.mem) → Agrees here there o.kind
-      own_agrees p seen n o e m =
-          agrees here there o.kind seen.word seen.pc (λ q. seen.first (asks_first d code p n o e q)) (λ q. seen.second (asks_second d code p n o e q))
-          (λ r q. custom_agree x (asks_of d code p) s i code seen ws wi r (λ few. asks_customs d code p r few n o e (ap (acts.is_custom r) q ∙ eq-eqb r r refl))) m
+      own_agrees : (unit : Option ℕ) (p : Plan) → IsSeen (asks_of d code unit p) code s i → (n : ℕ) (o : Op) → slice_get p.graph.ops n ≡ Some o → (o.kind ≡ k.RdMem → peeked memory ≡ peeked s.mem) → Agrees here there o.kind
+      own_agrees unit p seen n o e m =
+          agrees here there o.kind seen.word seen.pc (λ q. seen.first (asks_first d code unit p n o e q)) (λ q. seen.second (asks_second d code unit p n o e q))
+          (λ r q. custom_agree x (asks_of d code unit p) s i code seen ws wi r (λ few. asks_customs d code unit p r few n o e (ap (acts.is_custom r) q ∙ eq-eqb r r refl))) m
 
-      pub exact_own : (n : ℕ) (l : n < length x.instructions) → IsSeen (asks_of d code (plan_of d stands n l).plan) code s i → ((asks_of d code (plan_of d stands n l).plan).loads ≡ true → memory ≡ s.mem)
+      pub exact_own : (n : ℕ) (l : n < length x.instructions) → IsSeen (asks_of d code (unit_of d.plans n) (plan_of d stands n l).plan) code s i → ((asks_of d code (unit_of d.plans n) (plan_of d stands n l).plan).loads ≡ true → memory ≡ s.mem)
           → effect_at x (W.Instruction n) here ≡ effect_at x (W.Instruction n) there
       exact_own n l seen loads =
           let p = plan_of d stands n l in
           let w = W.Instruction n in
           let ops = p.plan.graph.ops in
           let same = laws.depends stands.well_formed.0 x w ops here there stands.well_formed.1 l p.planned.graph.ops (here_inputs w) (there_inputs w)
-          (λ m o e. own_agrees p.plan seen m o e (λ is. ap peeked (loads (asks_loads d code p.plan m o e (ap acts.is_load is))))) in
+          (λ m o e. own_agrees (unit_of d.plans n) p.plan seen m o e (λ is. ap peeked (loads (asks_loads d code (unit_of d.plans n) p.plan m o e (ap acts.is_load is))))) in
           effect_from (effect_at x w here) (effect_at x w there) (rd_same x w ops here there (λ q. Unit {0}) same.values (λ m o e t. tt)) (pc_same x w ops here there (λ q. Unit {0}) same.values (λ m o e t. tt))
           (customs_same x w ops here there (λ q. Unit {0}) same.values (λ r m o e t. tt)) (load_same x w here there (same.reads (λ m o e t. tt))) (store_same x w here there (same.store (λ m o e t. tt)))
 
-      pub early_own : (n : ℕ) (l : n < length x.instructions) → IsSeen (asks_of d code (plan_of d stands n l).plan) code s i → (IsSpawning (plan_of d stands n l).plan.graph → ⊥)
-          → IsEarlyEffect (asks_of d code (plan_of d stands n l).plan) (effect_at x (W.Instruction n) here) (effect_at x (W.Instruction n) there)
+      pub early_own : (n : ℕ) (l : n < length x.instructions) → IsSeen (asks_of d code (unit_of d.plans n) (plan_of d stands n l).plan) code s i → (IsSpawning (plan_of d stands n l).plan.graph → ⊥)
+          → IsEarlyEffect (asks_of d code (unit_of d.plans n) (plan_of d stands n l).plan) (effect_at x (W.Instruction n) here) (effect_at x (W.Instruction n) there)
       early_own n l seen never =
           let p = plan_of d stands n l in
           let w = W.Instruction n in
           let ops = p.plan.graph.ops in
           let same = laws.by_execute stands.well_formed.0 x d.sheet w p.plan here there stands.well_formed.1 l stands.sheet p.planned (here_inputs w) (there_inputs w)
-          (λ m o e other. own_agrees p.plan seen m o e (λ is. absurd (other is))) in
+          (λ m o e other. own_agrees (unit_of d.plans n) p.plan seen m o e (λ is. absurd (other is))) in
           let times = laws.times stands.well_formed.0 x d.sheet w p.plan stands.well_formed.1 l stands.sheet p.planned in
           record {
             load = load_same x w here there (same.reads times.loads);
             store = store_same x w here there (same.store (λ m o e t. times.stores never m o e (target_is_memory o.kind t)));
-            pc = λ late. pc_same x w ops here there (IsByExecute d.sheet p.plan) same.values (λ m o e t. asks_late d code p.plan never late m o e (target_is_pc o.kind t));
+            pc = λ late. pc_same x w ops here there (IsByExecute d.sheet p.plan) same.values (λ m o e t. asks_late d code (unit_of d.plans n) p.plan never late m o e (target_is_pc o.kind t));
             customs = λ r late.
-                custom_same x w ops here there (IsByExecute d.sheet p.plan) same.values r (λ few m o e t. asks_late_customs d code p.plan never r few late m o e (target_is_custom o.kind r t));
+                custom_same x w ops here there (IsByExecute d.sheet p.plan) same.values r (λ few m o e t. asks_late_customs d code (unit_of d.plans n) p.plan never r few late m o e (target_is_custom o.kind r t));
           }
 
       -- ---- a base instruction
-      base_used : (b : Base) → decoded code ≡ Some b → IsSeen (base_asks (blank_in d).customs b) code s i → SameUsed b here.rs1 here.rs2 there.rs1 there.rs2
+      base_used : (b : Base) → decoded code ≡ Some b → IsSeen (base_asks d.sheet.shape (blank_in d).customs b) code s i → SameUsed b here.rs1 here.rs2 there.rs1 there.rs2
       base_used b is seen = (let n = names b code is in record { first = λ h. seen.first (sym (n.first h)); second = λ h. seen.second (sym (n.second h)) })
 
-      pub exact_base : (b : Base) → decoded code ≡ Some b → IsSeen (base_asks (blank_in d).customs b) code s i → (is_some (load_at b) ≡ true → memory ≡ s.mem) → base_effect b here ≡ base_effect b there
+      pub exact_base : (b : Base) → decoded code ≡ Some b → IsSeen (base_asks d.sheet.shape (blank_in d).customs b) code s i → (is_some (load_at b) ≡ true → memory ≡ s.mem) → base_effect b here ≡ base_effect b there
       exact_base b is seen loads =
           let used = base_used b is seen in
           let most = base_same b here there seen.pc used in
           effect_from (base_effect b here) (base_effect b there) (base_rd_same b here there seen.pc used (λ h. ap peeked (loads h))) most.pc most.custom most.load most.store
 
-      pub early_base : (b : Base) → decoded code ≡ Some b → IsSeen (base_asks (blank_in d).customs b) code s i → IsEarlyEffect (base_asks (blank_in d).customs b) (base_effect b here) (base_effect b there)
+      pub early_base : (b : Base) → decoded code ≡ Some b → IsSeen (base_asks d.sheet.shape (blank_in d).customs b) code s i → IsEarlyEffect (base_asks d.sheet.shape (blank_in d).customs b) (base_effect b here) (base_effect b there)
       early_base b is seen =
           let most = base_same b here there seen.pc (base_used b is seen) in
           record { load = most.load; store = most.store; pc = λ late. most.pc; customs = λ r late. refl }

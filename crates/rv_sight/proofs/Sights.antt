@@ -18,6 +18,7 @@ use Rattle.rv_effect.specs.WordEffects.{over, blocks_effect, AreWide}
 use Rattle.rv_effect.specs.declared.decoded.Decoded.{Decoded}
 use Rattle.rv_effect.specs.declared.decoded.Decoded.TheVariants as D
 use Rattle.rv_asks.specs.declared.asks.Asks.{Asks}
+use Rattle.rv_unit.specs.Numbering.{unit_of}
 use Rattle.rv_asks.specs.Asks.{tail_of, base_asks, blank_in, asks_in}
 use Rattle.rv_seq.specs.declared.arch.Arch.{Arch}
 use Rattle.rv_seq.specs.declared.commit.Commit.{Commit}
@@ -58,16 +59,16 @@ module _ (laws : Laws) (d : Design) (stands : Stands d) where
         let l = own_within x code n is in
         let p = plan_of d stands n l in
         let e = own_asks d code n p.plan p.there in
-        let saw : IsSeen (asks_of d code p.plan) code s i = subst (λ (z : Asks). IsSeen z code s i) e seen in
+        let saw : IsSeen (asks_of d code (unit_of d.plans n) p.plan) code s i = subst (λ (z : Asks). IsSeen z code s i) e seen in
         let word : code < 2 ^ 32 = subst (λ (z : ℕ). z < 2 ^ 32) saw.word aw.word in
         let pc : s.pc < 2 ^ 32 = subst (λ (z : ℕ). z < 2 ^ 32) saw.pc aw.pc in
         let same = exact_own laws d stands code s ws hw word pc i memory wi aw n l saw (λ h. loads (ap (λ (z : Asks). z.loads) e ∙ h)) in
-        let blocks = all_blocks laws d stands code s ws hw word pc i memory wi aw (asks_of d code p.plan) (own_blocks laws d stands code p.plan) saw in
+        let blocks = all_blocks laws d stands code s ws hw word pc i memory wi aw (asks_of d code (unit_of d.plans n) p.plan) (own_blocks laws d stands code (unit_of d.plans n) p.plan) saw in
         let effects : effect_seen x i memory (D.Own n) ≡ own_effect x s code (D.Own n) = own_is x n here ∙ same ∙ sym (own_is x n there) in
         exact_answer x i memory s code (D.Own n) saw.word saw.pc effects (over_same (effect_seen x i memory (D.Own n)) (own_effect x s code (D.Own n)) (blocks_of here) (blocks_of there) effects blocks)
     exact_of (Some (D.Base b)) is seen loads =
         let e = base_asks_are d code b in
-        let a = base_asks (blank_in d).customs b in
+        let a = base_asks d.sheet.shape (blank_in d).customs b in
         let saw : IsSeen a code s i = subst (λ (z : Asks). IsSeen z code s i) e seen in
         let word : code < 2 ^ 32 = subst (λ (z : ℕ). z < 2 ^ 32) saw.word aw.word in
         let pc : s.pc < 2 ^ 32 = subst (λ (z : ℕ). z < 2 ^ 32) saw.pc aw.pc in
@@ -89,12 +90,12 @@ module _ (laws : Laws) (d : Design) (stands : Stands d) where
         let l = own_within x code n is in
         let p = plan_of d stands n l in
         let e = own_asks d code n p.plan p.there in
-        let a = asks_of d code p.plan in
+        let a = asks_of d code (unit_of d.plans n) p.plan in
         let saw : IsSeen a code s i = subst (λ (z : Asks). IsSeen z code s i) e seen in
         let word : code < 2 ^ 32 = subst (λ (z : ℕ). z < 2 ^ 32) saw.word aw.word in
         let pc : s.pc < 2 ^ 32 = subst (λ (z : ℕ). z < 2 ^ 32) saw.pc aw.pc in
         let same = early_own laws d stands code s ws hw word pc i memory wi aw n l saw (never n p.plan p.there) in
-        let blocks = all_blocks laws d stands code s ws hw word pc i memory wi aw a (own_blocks laws d stands code p.plan) saw in
+        let blocks = all_blocks laws d stands code s ws hw word pc i memory wi aw a (own_blocks laws d stands code (unit_of d.plans n) p.plan) saw in
         let E : Effect → Effect → Type 0 = λ y z. IsEarlyEffect a y z in
         let effects : E (effect_seen x i memory (D.Own n)) (own_effect x s code (D.Own n)) =
         subst (λ (y : Effect). E y (own_effect x s code (D.Own n))) (sym (own_is x n here)) (subst (λ (z : Effect). E (effect_at x (W.Instruction n) here) z) (sym (own_is x n there)) same) in
@@ -109,7 +110,7 @@ module _ (laws : Laws) (d : Design) (stands : Stands d) where
         subst (λ (z : Asks). Early (Some (D.Own n)) z) (sym e) done
     early_of never (Some (D.Base b)) is seen =
         let e = base_asks_are d code b in
-        let a = base_asks (blank_in d).customs b in
+        let a = base_asks d.sheet.shape (blank_in d).customs b in
         let saw : IsSeen a code s i = subst (λ (z : Asks). IsSeen z code s i) e seen in
         let word : code < 2 ^ 32 = subst (λ (z : ℕ). z < 2 ^ 32) saw.word aw.word in
         let pc : s.pc < 2 ^ 32 = subst (λ (z : ℕ). z < 2 ^ 32) saw.pc aw.pc in
@@ -136,12 +137,12 @@ module _ (laws : Laws) (d : Design) (stands : Stands d) where
       let p = plan_of d stands n l in
       let there : Inputs = inputs_at code s in
       let kept = keeps_own laws d stands code s ws hw word pc n l (never n p.plan p.there) in
-      let P : Effect → Type 0 = λ z. IsKept (asks_of d code p.plan) s code (commit_of s.pc code (over z (blocks_effect x there (length x.blocks)))) in
-      subst (λ (z : Asks). IsKept z s code c) (sym (own_asks d code n p.plan p.there)) (kept_by (asks_of d code p.plan) x s code (D.Own n) c (subst P (sym (own_is x n there)) kept) e)
+      let P : Effect → Type 0 = λ z. IsKept (asks_of d code (unit_of d.plans n) p.plan) s code (commit_of s.pc code (over z (blocks_effect x there (length x.blocks)))) in
+      subst (λ (z : Asks). IsKept z s code c) (sym (own_asks d code n p.plan p.there)) (kept_by (asks_of d code (unit_of d.plans n) p.plan) x s code (D.Own n) c (subst P (sym (own_is x n there)) kept) e)
   keeps_of never code s c ws hw word pc (Some (D.Base b)) is e =
       let there : Inputs = inputs_at code s in
       let kept = keeps_base laws d stands code s ws hw word pc b (base_decoded x code b is) in
-      let a = base_asks (blank_in d).customs b in
+      let a = base_asks d.sheet.shape (blank_in d).customs b in
       let P : Effect → Type 0 = λ z. IsKept a s code (commit_of s.pc code (over z (blocks_effect x there (length x.blocks)))) in
       subst (λ (z : Asks). IsKept z s code c) (sym (base_asks_are d code b)) (kept_by a x s code (D.Base b) c (subst P (sym (base_is x b there)) kept) e)
 

@@ -3,17 +3,18 @@ ghost use Rattle.ix_extension.specs.Extensions.{view_extension};
 ghost use Rattle.ix_plan.specs.declared.design.Design.{Design};
 ghost use Rattle.ix_spawns.specs.Spawns.{first_spawning};
 ghost use Rattle.ix_standing.specs.Standing.{Stands};
-ghost use Rattle.rv_lawful.specs.Sight.{EarlyLaw, ExactLaw, KeepsLaw, TailLaw};
+ghost use Rattle.rv_lawful.specs.Sight.{EarlyLaw, ExactLaw, KeepsLaw, TailLaw, QuietLaw};
 
 use ix_depends::depend_laws;
 
 /// On the core of a design that stands for its extension a word that is tried with what agrees with a state where it is asked comes to the step of
 /// that state: wholly with the memory of the state, and by EX, where no `spawn` stands in the extension, but for rd and late writes; then what is not
-/// asked for is kept. No module goes on for long. It does nothing: its contract is what it is for.
+/// asked for is kept, and nothing is asked of a unit. No module goes on for long. It does nothing: its contract is what it is for.
 pub fn sight_laws()
     ensures early { (d : Design) → Stands d → first_spawning (view_extension d.extension) ≡ None → EarlyLaw d }
     ensures exact { (d : Design) → Stands d → ExactLaw d }
     ensures keeps { (d : Design) → Stands d → first_spawning (view_extension d.extension) ≡ None → KeepsLaw d }
+    ensures quiet { (d : Design) → Stands d → first_spawning (view_extension d.extension) ≡ None → QuietLaw d }
     ensures tails { (d : Design) → Stands d → TailLaw d }
 {
     depend_laws();

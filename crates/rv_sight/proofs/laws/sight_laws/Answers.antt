@@ -1,5 +1,6 @@
 use Rattle.rv_sight.proofs.Quiet.{quiet_design}
 use Rattle.rv_sight.proofs.Seeing.{Laws}
+use Rattle.rv_sight.proofs.Units.{quiet_law}
 use Rattle.rv_sight.proofs.Sights.{early_law, exact_law, keeps_law, tail_law}
 use Rattle.rv_sight.proofs.laws.sight_laws.Goals as goal
 
@@ -17,6 +18,9 @@ pub returns-clause-keeps : goal.returns-clause-keeps
 returns-clause-keeps c d stands quiet =
     let laws : Laws = record { depends = c.depend_laws.ensures.depends; by_execute = c.depend_laws.ensures.by_execute; times = c.depend_laws.ensures.times; blind = c.depend_laws.ensures.blind; unwritten = c.depend_laws.ensures.unwritten } in
     keeps_law laws d stands (quiet_design d stands quiet)
+
+pub returns-clause-quiet : goal.returns-clause-quiet
+returns-clause-quiet c d stands quiet = quiet_law d stands (quiet_design d stands quiet)
 
 pub returns-clause-tails : goal.returns-clause-tails
 returns-clause-tails c d stands =

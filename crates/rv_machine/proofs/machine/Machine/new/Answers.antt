@@ -10,5 +10,5 @@ invariant_of-result c =
     let few = c.ranges.cycles.fits in
     let fits : c.args.cycles < 2 ^ 32 = omega (arith, few) in
     rw (c.as_slice.ensures.words, ap (λ (l : List Row). reverse l) c.in_ok-trace.ensures.rows, c.in_ok-trace.ensures.spare)
-    (sound_first (setting c.args.design.now c.args.image.now c.args.waits.now) c.in_ok-asking.asking c.in_ok-scratch.scratch c.in_ok-kept.kept c.args.cycles fits c.requires.well_formed c.requires.sheet c.in_ok-asking.ensures.asking
+    (sound_first (setting c.args.design.now c.args.image.now c.args.waits.now) c.in_ok-asking.asking c.in_ok-scratch.scratch c.in_ok-kept.kept c.args.cycles fits c.requires.stands.well_formed c.requires.stands.sheet c.in_ok-asking.ensures.asking
     c.in_ok-scratch.ensures (c.in_ok-kept.ensures.machine c.args.image.now c.args.waits.now) (c.in_ok-kept.ensures.fit c.args.image.now c.args.waits.now))

@@ -1,0 +1,119 @@
+-- Where nothing is spawned, nothing is outstanding, and the parts of a record are the whole of it.
+use Rattle.std.proofs.Common.{◌≡◌, ◌∙◌, refl, sym, ap, ℕ, zero, suc, ◌<◌, ◌≤◌, arith, List, [], ◌∷◌, length, get_or, Option, Some, None, Bool, true, false, inl, inr}
+use Rattle.std.specs.Prelude.{if◌then◌else◌, is_some}
+use Rattle.std.proofs.lemmas.Bool.{false≢true}
+use Rattle.ix_bits.specs.declared.number.Bits.{Bits}
+use Rattle.ix_eval.specs.Tables.{table}
+use Rattle.ix_eval.proofs.Tables.{table_length, table_is}
+use Rattle.ix_extension.specs.Extensions.{ExtensionTree}
+use Rattle.ix_plan.specs.declared.design.Target.{Target}
+use Rattle.ix_plan.specs.declared.design.Target.TheVariants.{X, Custom}
+use Rattle.ix_plan.specs.Units.{Slots, unit_written, next_units}
+use Rattle.rv_asks.specs.declared.asks.Asks.{Asks}
+use Rattle.rv_effect.specs.declared.decoded.Decoded.{Decoded}
+use Rattle.rv_seq.specs.declared.arch.Arch.{Arch}
+use Rattle.rv_seq.specs.declared.answer.StepAnswer.{StepAnswer}
+use Rattle.rv_seq.specs.declared.answer.StepAnswer.TheVariants.{Done, Stopped}
+use Rattle.rv_seq.specs.declared.commit.Commit.{Commit}
+use Rattle.rv_seq.specs.declared.commit.Slot.{Slot}
+use Rattle.rv_seq.specs.declared.commit.Slot.TheVariants.{Absent, Later}
+use Rattle.rv_seq.specs.declared.commit.Stop.{Stop}
+use Rattle.rv_seq.specs.Commits.{applied, slot_of, slots_of, commit_of}
+use Rattle.rv_seq.specs.Steps.{word_at, own_effect, whole_effect, unless_stopped, attempted, of_decoded, of_word, step}
+use Rattle.rv_seq.specs.Stops.{stop_of}
+use Rattle.rv_tried.specs.Parts.{shown_index, shown_x, shown_customs, shown, native_index, native_x, native_customs, native}
+use Rattle.rv_trace.specs.declared.row.Row.{Row}
+use Rattle.rv_engine.specs.Rows.{arch_after}
+use Rattle.rv_lawful.specs.Settings.{Setting}
+use Rattle.rv_lawful.specs.Sight.{SpawnsNothing}
+use Rattle.rv_lawful.specs.LawfulTrace.{serial_in, IsUnwritten}
+use Rattle.rv_lawful.specs.Outstanding.{is_register, has_target, in_unit, entering, units_after, is_written, decoupled_in, decoupled, without, outstanding, after_retired}
+
+-- Records
+
+same_record : (at word : ℕ) (rd_index : ℕ) (rd : Slot ℕ) (custom : List (Slot Bits)) (c : Commit) → at ≡ c.at → word ≡ c.word → rd_index ≡ c.rd_index → rd ≡ c.rd → custom ≡ c.custom
+    → record { at = at; word = word; rd_index = rd_index; rd = rd; custom = custom; store = c.store; next = c.next } ≡ c
+same_record at word rd_index rd custom c a b e f g = rw (a, b, e, f, g) refl
+
+unless_so : {A : Type 0} (b : Bool) (x y : A) → b ≡ false → (if b then x else y) ≡ y
+unless_so true x y e = cc
+unless_so false x y e = refl
+
+-- a table whose entries are those of a list of sixteen is the list
+module _ (a : Asks) (quiet : SpawnsNothing a) (c : Commit) (long : length c.custom ≡ 16) where
+  pub shown_same : shown a c ≡ c
+  unfolding shown
+  shown_same =
+      same_record c.at c.word (shown_index a.spawned c.rd_index) (shown_x a.spawned c.rd) (shown_customs a.spawned_customs c.custom) c refl refl
+      (ap (λ o. shown_index o c.rd_index) quiet.x) (ap (λ o. shown_x o c.rd) quiet.x)
+      (sym (table_is c.custom (λ r. if get_or a.spawned_customs r false then Later else get_or c.custom r Absent) 16 Absent long
+      (λ r less. sym (unless_so (get_or a.spawned_customs r false) Later (get_or c.custom r Absent) (quiet.customs r)))))
+
+  pub native_same : (blocks : List (Option Bits)) → native a blocks c ≡ c
+  unfolding native
+  native_same blocks =
+      same_record c.at c.word (native_index a.spawned c.rd_index) (native_x a.spawned c.rd) (native_customs a.spawned_customs blocks c.custom) c refl refl
+      (ap (λ o. native_index o c.rd_index) quiet.x) (ap (λ o. native_x o c.rd) quiet.x)
+      (sym (table_is c.custom (λ r. if get_or a.spawned_customs r false then slot_of (get_or blocks r None) else get_or c.custom r Absent) 16 Absent long
+      (λ r less. sym (unless_so (get_or a.spawned_customs r false) (slot_of (get_or blocks r None)) (get_or c.custom r Absent) (quiet.customs r)))))
+
+-- a record of a step has sixteen custom registers
+long_done : (o : Option Stop) (c d : Commit) → length c.custom ≡ 16 → unless_stopped o (Done c) ≡ Done d → length d.custom ≡ 16
+long_done (Some stop) c d l e = cc
+long_done None c d l e = let same : c ≡ d = cc in ap (λ (z : Commit). length z.custom) (sym same) ∙ l
+
+long_decoded : (x : ExtensionTree) (s : Arch) (word : ℕ) (o : Option Decoded) (c : Commit) → of_decoded x s word o ≡ Done c → length c.custom ≡ 16
+unfolding attempted commit_of
+long_decoded x s word None c e = cc
+long_decoded x s word (Some d) c e =
+    long_done (stop_of d (own_effect x s word d)) (commit_of s.pc word (whole_effect x s word d)) c (table_length (λ r. slot_of (get_or (whole_effect x s word d).custom r None)) 16) e
+
+pub record_long : (x : ExtensionTree) (image : List ℕ) (s : Arch) (c : Commit) → step x image s ≡ Done c → length c.custom ≡ 16
+unfolding step
+record_long x image s c e = by (word_at image s.pc) e
+  where
+    by : (o : Option ℕ) → of_word x s o ≡ Done c → length c.custom ≡ 16
+    by None q = cc
+    by (Some word) q = long_decoded x s word _ c q
+
+-- Targets and units
+
+pub no_target : (a : Asks) → SpawnsNothing a → (t : Target) → has_target a t ≡ true → ⊥
+no_target a quiet (X r) h = false≢true (sym (ap (λ o. is_register o r) quiet.x) ∙ h)
+no_target a quiet (Custom c) h = false≢true (sym (quiet.customs c) ∙ h)
+
+pub no_entry : (a : Asks) → SpawnsNothing a → is_some a.unit ≡ true → ⊥
+no_entry a quiet h = false≢true (sym (ap (λ o. is_some o) quiet.unit) ∙ h)
+
+module _ (k : Setting) (quiet : (word : ℕ) → SpawnsNothing (k.asks word)) where
+  none_enters : (o : Option (ℕ × Commit)) → entering k o ≡ None
+  none_enters None = refl
+  none_enters (Some r) = ap (λ u. in_unit r.0 u) (quiet r.1.word).unit
+
+  none_decoupled : (o : Option (ℕ × Commit)) → decoupled_in k o ≡ []
+  none_decoupled None = refl
+  none_decoupled (Some r) = ap (λ (u : Option ℕ). if is_some u then (r.0, r.1.word) ∷ [] else []) (quiet r.1.word).unit
+
+  pub units_none : k.units ≡ [] → (rows : List Row) → units_after k rows ≡ []
+  unfolding units_after
+  units_none none [] = none
+  units_none none (row ∷ earlier) = ap (λ u. next_units (entering k row.retired) u) (units_none none earlier)
+
+  pub written_none : k.units ≡ [] → (rows : List Row) → serial_in (unit_written (units_after k rows)) ≡ None
+  written_none none rows = ap (λ u. serial_in (unit_written u)) (units_none none rows)
+
+  decoupled_none : (rows : List Row) → decoupled k rows ≡ []
+  unfolding decoupled
+  decoupled_none [] = refl
+  decoupled_none (row ∷ earlier) = rw (none_decoupled row.retired, decoupled_none earlier) refl
+
+  pub outstanding_none : (rows : List Row) → outstanding k rows ≡ []
+  outstanding_none rows = ap (λ l. without (is_written rows) l) (decoupled_none rows)
+
+  pub none_unwritten : (rows : List Row) (j : ℕ) → IsUnwritten k rows j → ⊥
+  none_unwritten rows j u = no_entry (k.asks u.decoupled.0) (quiet u.decoupled.0) u.decoupled.2
+
+  -- what retires is written whole
+  pub retired_whole : (p : ℕ) (o : Option (ℕ × Commit)) (s : Arch) → ((r : ℕ × Commit) → o ≡ Some r → length r.1.custom ≡ 16) → after_retired k p o s ≡ arch_after s o
+  retired_whole p None s long = refl
+  retired_whole p (Some r) s long = ap (λ c. applied c s) (native_same (k.asks r.1.word) (quiet r.1.word) r.1 (long r refl) (k.course.blocks p))
