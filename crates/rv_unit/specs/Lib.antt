@@ -1,6 +1,0 @@
-pub mod Numbering
-pub mod Entries
-pub mod Timed
-pub mod Slots
-pub mod Reservations
-pub mod UnitLaws
