@@ -1,0 +1,5 @@
+pub mod Finishing
+pub mod Moving
+pub mod Showing
+pub mod Fewer
+pub mod Numbered

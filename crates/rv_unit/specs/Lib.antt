@@ -1,0 +1,6 @@
+pub mod Numbering
+pub mod Entries
+pub mod Timed
+pub mod Slots
+pub mod Reservations
+pub mod UnitLaws
