@@ -16,8 +16,9 @@ use Rattle.rv_seq.specs.declared.answer.StepAnswer.TheVariants.{Done, Stopped}
 use Rattle.rv_seq.specs.declared.commit.Commit.{Commit}
 use Rattle.rv_seq.specs.declared.commit.Slot.TheVariants.{Absent}
 use Rattle.rv_seq.specs.Commits.{applied}
-use Rattle.rv_seq.specs.States.{zero_bit}
+use Rattle.rv_seq.specs.States.{zero_bit, state_at}
 use Rattle.rv_seq.specs.Steps.{of_decoded}
+use Rattle.rv_tried.specs.declared.trial.Trial.{Trial}
 use Rattle.rv_tried.specs.Tried.{tried}
 use Rattle.rv_lawful.specs.Settings.{does_access}
 
@@ -57,23 +58,33 @@ IsEarly a (Stopped stop) (Stopped other) = stop ≡ other
 IsEarly a (Done c) (Stopped stop) = ⊥
 IsEarly a (Stopped stop) (Done c) = ⊥
 
--- a word tried with what agrees with a state comes to the step of that state, whatever the memory holds, but for rd and late writes; and it accesses the memory where that
--- step does
+-- what a word comes to with what the instruction sees of a state
+abbrev pub state_tried : Design → ℕ → Arch → Trial
+state_tried d word s = tried (view_extension d.extension) (state_at word s) s.mem (decoded_in (view_extension d.extension) word)
+
+-- a word tried with what agrees with a state comes to the step of that state, whatever the memory holds, but for rd and late writes; it accesses the memory where that step
+-- does, and the always-blocks write the same
 pub record ComesEarly (d : Design) (word : ℕ) (s : Arch) (i : State) (memory : List ℕ) : Type 0 where
   pub answer : IsEarly (asked d word) (tried (view_extension d.extension) i memory (decoded_in (view_extension d.extension) word)).answer (of_decoded (view_extension d.extension) s word (decoded_in (view_extension d.extension) word))
   pub accesses : (tried (view_extension d.extension) i memory (decoded_in (view_extension d.extension) word)).accesses ≡ does_access (view_extension d.extension) s word (decoded_in (view_extension d.extension) word)
+  pub blocks : (tried (view_extension d.extension) i memory (decoded_in (view_extension d.extension) word)).blocks ≡ (state_tried d word s).blocks
 
 abbrev pub EarlyLaw : Design → Type 0
 EarlyLaw d =
     (word : ℕ) (s : Arch) (i : State) (memory : List ℕ) → AreWide (view_extension d.extension) s.custom → AreWide (view_extension d.extension) i.custom →
     HasWords s → AreWords i → IsSeen (asked d word) word s i → ComesEarly d word s i memory
 
+-- it comes to the step of the state, and the instruction itself writes the same custom registers
+pub record ComesExact (d : Design) (word : ℕ) (s : Arch) (i : State) (memory : List ℕ) : Type 0 where
+  pub answer : (tried (view_extension d.extension) i memory (decoded_in (view_extension d.extension) word)).answer ≡ of_decoded (view_extension d.extension) s word (decoded_in (view_extension d.extension) word)
+  pub own : (tried (view_extension d.extension) i memory (decoded_in (view_extension d.extension) word)).own ≡ (state_tried d word s).own
+
 -- with the memory of the state, where it loads, it comes to that step
 abbrev pub ExactLaw : Design → Type 0
 ExactLaw d =
     (word : ℕ) (s : Arch) (i : State) (memory : List ℕ) → AreWide (view_extension d.extension) s.custom → AreWide (view_extension d.extension) i.custom →
     HasWords s → AreWords i → IsSeen (asked d word) word s i → ((asked d word).loads ≡ true → memory ≡ s.mem) →
-    (tried (view_extension d.extension) i memory (decoded_in (view_extension d.extension) word)).answer ≡ of_decoded (view_extension d.extension) s word (decoded_in (view_extension d.extension) word)
+    ComesExact d word s i memory
 
 -- what a record leaves as it was, where the instruction does not ask to write it
 pub record IsKept (a : Asks) (s : Arch) (code : ℕ) (c : Commit) : Type 0 where

@@ -256,7 +256,7 @@ module _ (k : Setting) (ready : IsReady k) (r reg : ℕ) (lt : reg < 16) where
       let c = done_of g.0.answer g.2 in
       ap (λ o. get_or (with_writes true t.asks o file) reg zero_bit) (commit_is t g.0 c.0 g.1 c.1)
       ∙ mark_at true t.asks c.0 file reg lt
-      ∙ by_case (late_at reg t.asks) refl c.0 (sym exact ∙ c.1) where
+      ∙ by_case (late_at reg t.asks) refl c.0 (sym exact.answer ∙ c.1) where
         up : (a : ℕ) → a + 1 ≡ suc a
         up a = omega arith
 

@@ -12,7 +12,7 @@ use Rattle.rv_holds.specs.Tokens.{Slots, or_else, stop_in, tried_stop}
 use Rattle.rv_holds.specs.Holds.{oldest, is_late, waiting_hold, own_hold, stops_now, is_blocked, shown}
 use Rattle.rv_engine.specs.Settings.{Setting, shape_of}
 use Rattle.rv_engine.specs.Rows.{going, first_slot}
-use Rattle.rv_machine.specs.Placed.{run, count, expected, IsPlaced, IsPlacedSlot, Placed, IsReady}
+use Rattle.rv_machine.specs.Placed.{run, count, expected, IsPlaced, IsPlacedSlot, Placed, IsReady, IsExact}
 use Rattle.rv_machine.specs.Told.{Decided, NoStops}
 use Rattle.rv_machine.proofs.Deciding.{or_else_none_b, is_none_of, if_none, test_eq, test_past, own_none, not_due, no_waiting, waits_operand, waits_late, decided_tail, no_stops_tail}
 use Rattle.rv_machine.proofs.Runs.{answer}
@@ -119,7 +119,7 @@ module _ (k : Setting) (ready : IsReady k) (r stage : ℕ) (t : Token) (older : 
       let at = test_eq stage (shape_of k).ex e in
       one_tried t.trial (h.ripe.0 at waiting) (not_due (shape_of k) stage t older own stops at)
 
-  exact_case : (b : Bool) → (stage == (shape_of k).mem) ≡ b → (trial : Trial) → t.trial ≡ Some trial → (t.asks.loads ≡ true → (shape_of k).mem < suc stage) → trial.answer ≡ answer k (r + count older)
+  exact_case : (b : Bool) → (stage == (shape_of k).mem) ≡ b → (trial : Trial) → t.trial ≡ Some trial → (t.asks.loads ≡ true → (shape_of k).mem < suc stage) → IsExact k (r + count older) trial
   exact_case false e trial q past = here.exact trial q (λ l. test_past (shape_of k).mem stage e (past l))
   exact_case true e trial q past = h.loaded.0 (test_eq stage (shape_of k).mem e) free trial q
 

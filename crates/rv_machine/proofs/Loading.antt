@@ -19,7 +19,7 @@ use Rattle.rv_holds.specs.Holds.{oldest, is_late, does_store, operand, waits_for
 use Rattle.rv_engine.specs.Settings.{Setting, shape_of, tree_of}
 use Rattle.rv_engine.specs.Rows.{tried_with, is_loading, loading}
 use Rattle.rv_lawful.specs.Sight.{asked, IsSeen, IsEarly}
-use Rattle.rv_machine.specs.Placed.{run, count, expected, IsTried, IsPlaced, IsPlacedSlot, Placed, IsReady}
+use Rattle.rv_machine.specs.Placed.{run, count, expected, IsTried, IsExact, IsPlaced, IsPlacedSlot, Placed, IsReady}
 use Rattle.rv_machine.specs.Told.{Decided}
 use Rattle.rv_machine.proofs.Deciding.{test_eq, same_test, own_none, no_store, address_of_run}
 use Rattle.rv_machine.proofs.Runs.{answer}
@@ -225,7 +225,7 @@ module _ (k : Setting) (ready : IsReady k) (r stage : ℕ) (older : Slots) (t : 
       }
 
   -- what it reads is what the run reads
-  reads : store_hold older t.asks ≡ None → result.answer ≡ answer k (r + count older)
+  reads : store_hold older t.asks ≡ None → IsExact k (r + count older) result
   reads none =
       exact_trial k ready (r + count older) t t.inputs (run k r).mem here.decoded here.asks word_there here.wide here.words agrees
       (λ l. memory_ready k ready r (suc stage) older t.asks (omega (arith, past)) behind (on_path k r (suc stage) older (omega (arith, past)) behind) none l)
@@ -233,7 +233,7 @@ module _ (k : Setting) (ready : IsReady k) (r stage : ℕ) (older : Slots) (t : 
 -- a token that leaves MEM comes to what the run comes to
 abbrev pub LoadedSlot : Setting → ℕ → ℕ → Option Token → Type 0
 LoadedSlot k p stage None = Unit {0}
-LoadedSlot k p stage (Some t) = stage ≡ (shape_of k).mem → is_some t.cell.hold ≡ false → (trial : Trial) → t.trial ≡ Some trial → trial.answer ≡ answer k p
+LoadedSlot k p stage (Some t) = stage ≡ (shape_of k).mem → is_some t.cell.hold ≡ false → (trial : Trial) → t.trial ≡ Some trial → IsExact k p trial
 
 abbrev pub Loaded : Setting → ℕ → ℕ → Slots → Type 0
 Loaded k r stage [] = Unit {0}
@@ -274,15 +274,15 @@ loading_loaded k ready r stage (Some t ∷ older) h d = (by_case (is_loading (sh
   later : Slots
   later = loading (tree_of k) (shape_of k) (run k r).mem (suc stage) older
 
-  same_place : answer k (r + count older) ≡ answer k (r + count later)
-  same_place = ap (λ n. answer k (r + n)) (sym (alike_count older later (loading_alike (tree_of k) (shape_of k) (run k r).mem (suc stage) older)))
+  same_place : (trial : Trial) → IsExact k (r + count older) trial → IsExact k (r + count later) trial
+  same_place trial h = subst (λ n. IsExact k (r + n) trial) (sym (alike_count older later (loading_alike (tree_of k) (shape_of k) (run k r).mem (suc stage) older))) h
 
   same_some : (a b : Trial) → ◌≡◌ {A = Option Trial} (Some a) (Some b) → a ≡ b
   same_some a b e = cc
 
   by_case : (b : Bool) → is_loading (shape_of k) stage t ≡ b → LoadedSlot k (r + count later) stage (if b then Some (tried_with (tree_of k) (run k r).mem t.inputs t) else Some t)
   by_case true e = λ at free trial q.
-      sym (ap (λ (u : Trial). u.answer) (same_some (tried (tree_of k) t.inputs (run k r).mem t.decoded) trial q))
-      ∙ reads k ready r stage older t h.0 h.1 at (free_store k ready stage t older at free d.0)
-      ∙ same_place
-  by_case false e = λ at free trial q. h.0.exact trial q (λ l. absurd (cc (is_no_load (shape_of k) stage t e at free, l))) ∙ same_place
+      same_place trial
+      (subst (λ u. IsExact k (r + count older) u) (same_some (tried (tree_of k) t.inputs (run k r).mem t.decoded) trial q)
+      (reads k ready r stage older t h.0 h.1 at (free_store k ready stage t older at free d.0)))
+  by_case false e = λ at free trial q. same_place trial (h.0.exact trial q (λ l. absurd (cc (is_no_load (shape_of k) stage t e at free, l))))

@@ -141,6 +141,7 @@ same_trial k p t u trial e a i =
       tried = e ∙ i.tried;
       early = subst (λ x. IsEarly x trial.answer ((judged k).course.answer p)) (sym a) i.early;
       accesses = i.accesses;
+      blocks = i.blocks;
     }
 
 pub placed_over : (k : Setting) (p address stage : ℕ) (older later : Slots) (t : Token) → Alike older later → IsPlaced k p address stage older t → IsPlaced k p address stage later t

@@ -160,7 +160,7 @@ module _ (k : Setting) (ready : IsReady k) (earlier : List Row) (m : Machine) (r
         commit = c.0;
         comes_to = e;
         is_retired = ap (λ o. with_serial t.cell.serial o) e;
-        recorded = sym exact ∙ c.1;
+        recorded = sym exact.answer ∙ c.1;
       }
 
   -- either nothing goes out, or a token that retires

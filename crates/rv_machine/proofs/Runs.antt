@@ -15,12 +15,13 @@ use Rattle.rv_seq.specs.declared.commit.Commit.{Commit}
 use Rattle.rv_seq.specs.declared.commit.Slot.TheVariants.{Absent}
 use Rattle.rv_seq.specs.declared.commit.Stop.{Stop}
 use Rattle.rv_seq.specs.Commits.{applied, with_slot, with_customs}
-use Rattle.rv_seq.specs.States.{zero_bit}
+use Rattle.rv_seq.specs.States.{zero_bit, state_at}
 use Rattle.rv_seq.specs.States.{first as first_state}
 use Rattle.rv_seq.specs.Steps.{word_at, of_word, of_decoded, after, step}
 use Rattle.rv_seq.specs.Runs.{run as seq_run}
 use Rattle.rv_engine.specs.Settings.{Setting, tree_of}
-use Rattle.rv_lawful.specs.Settings.{does_access, word_accesses}
+use Rattle.rv_tried.specs.Tried.{tried}
+use Rattle.rv_lawful.specs.Settings.{does_access, word_accesses, state_trial, run_trial}
 use Rattle.rv_lawful.specs.Sight.{asked, IsKept}
 use Rattle.rv_machine.specs.Placed.{judged, run, IsReady}
 
@@ -43,6 +44,10 @@ step_word k p word w = step_at (tree_of k) k.image (run k p) (Some word) w
 -- and it accesses the memory where that does
 pub access_word : (k : Setting) (p word : ℕ) → word_at k.image (run k p).pc ≡ Some word → (judged k).course.accesses p ≡ does_access (tree_of k) (run k p) word (decoded_in (tree_of k) word)
 access_word k p word w = ap (λ o. word_accesses (tree_of k) (run k p) o) w
+
+-- and it comes to what the word is tried to with what the state shows of it
+pub trial_word : (k : Setting) (p word : ℕ) → word_at k.image (run k p).pc ≡ Some word → run_trial (tree_of k) k.image p ≡ tried (tree_of k) (state_at word (run k p)) (run k p).mem (decoded_in (tree_of k) word)
+trial_word k p word w = ap (λ o. state_trial (tree_of k) (run k p) o) w
 
 -- what its record leaves as it is
 pub kept_word : (k : Setting) (ready : IsReady k) (p word : ℕ) (c : Commit) → word_at k.image (run k p).pc ≡ Some word → answer k p ≡ Done c → IsKept (asked k.design word) (run k p) word c

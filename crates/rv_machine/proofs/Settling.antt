@@ -132,7 +132,7 @@ next_is k ready p address stage older t lt i w past =
     let d = done_of (answer k p) (sym (early_stop t.asks g.0.answer (answer k p) early) ∙ g.2) in
     ap (λ o. next_in t (tried_commit o)) g.1
     ∙ ap (λ a. next_in t (commit_in a)) c.1
-    ∙ by_case t.asks.late refl c.0 d.0 g.0.answer (i.exact g.0 g.1) c.1 d.1 early
+    ∙ by_case t.asks.late refl c.0 d.0 g.0.answer (λ l. (i.exact g.0 g.1 l).answer) c.1 d.1 early
     ∙ sym (goes_on k ready p t.cell.word d.0 w d.1).pc where
       by_case : (b : Bool) → t.asks.late ≡ b → (c d : Commit) (x : StepAnswer) → ((t.asks.loads ≡ true → (shape_of k).mem < stage) → x ≡ answer k p) → x ≡ Done c → answer k p ≡ Done d → IsEarly t.asks x (answer k p) → c.next ≡ d.next
       by_case false e c d x exact ex ey h = early_next t.asks x (answer k p) c d ex ey h e

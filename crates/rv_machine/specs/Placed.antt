@@ -78,11 +78,17 @@ abbrev pub expected : Setting → ℕ → ℕ → Slots → ℕ
 expected k r stage [] = (run k r).pc
 expected k r stage (s ∷ older) = expected_after k (r + count older) stage s (expected k r (suc stage) older)
 
--- the token was tried, comes to what the step of place p comes to but for rd and late writes, and accesses the memory where that step does
+-- the token was tried, comes to what the step of place p comes to but for rd and late writes, and accesses the memory where that step does; the always-blocks write the same
 pub record IsTried (k : Setting) (p : ℕ) (t : Token) (trial : Trial) : Type 0 where
   pub tried : t.trial ≡ Some trial
   pub early : IsEarly t.asks trial.answer ((judged k).course.answer p)
   pub accesses : trial.accesses ≡ (judged k).course.accesses p
+  pub blocks : trial.blocks ≡ (judged k).course.blocks p
+
+-- a trial is what the step of place p comes to
+pub record IsExact (k : Setting) (p : ℕ) (trial : Trial) : Type 0 where
+  pub answer : trial.answer ≡ (judged k).course.answer p
+  pub own : trial.own ≡ (judged k).course.own p
 
 -- the token of the place p stands in this stage, at this address, with these older ones
 pub record IsPlaced (k : Setting) (p address stage : ℕ) (older : Slots) (t : Token) : Type 0 where
@@ -106,7 +112,7 @@ pub record IsPlaced (k : Setting) (p address stage : ℕ) (older : Slots) (t : T
   -- past EX it was tried, and goes on
   pub gone : (shape_of k).ex < stage → (trial : Trial) × (t.trial ≡ Some trial) × (stop_in trial.answer ≡ None)
   -- what it was tried to is the run's, where it loads once it is past MEM
-  pub exact : (trial : Trial) → t.trial ≡ Some trial → (t.asks.loads ≡ true → (shape_of k).mem < stage) → trial.answer ≡ (judged k).course.answer p
+  pub exact : (trial : Trial) → t.trial ≡ Some trial → (t.asks.loads ≡ true → (shape_of k).mem < stage) → IsExact k p trial
 
 abbrev pub IsPlacedSlot : Setting → ℕ → ℕ → ℕ → Slots → Option Token → Type 0
 IsPlacedSlot k p address stage older None = Unit {0}

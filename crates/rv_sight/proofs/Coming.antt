@@ -24,7 +24,8 @@ use Rattle.rv_seq.specs.Commits.{x_index, x_slot, slot_of, commit_of, with_x, wi
 use Rattle.rv_seq.specs.Runs.{stored_at, access_in}
 use Rattle.rv_seq.specs.Steps.{own_effect, whole_effect, unless_stopped, attempted, of_decoded}
 use Rattle.rv_seq.specs.Stops.{call_stop, load_stop, store_stop, target_stop, stop_of}
-use Rattle.rv_tried.specs.Tried.{effect_seen, whole_seen, tried_instruction, tried}
+use Rattle.rv_seq.specs.States.{state_at}
+use Rattle.rv_tried.specs.Tried.{effect_seen, whole_seen, tried_instruction, tried, blocks_seen, unless_stopping, marked}
 use Rattle.rv_lawful.specs.Settings.{does_access}
 use Rattle.rv_lawful.specs.Sight.{IsEarlyCommit, IsEarly, IsKept}
 use Rattle.rv_sight.proofs.Parts.{effect_from, table_get, table_none}
@@ -101,6 +102,26 @@ same_access x i memory s code d e l t =
     ap (λ (z : Option Stop). is_none z && is_some (access_in (effect_seen x i memory d))) e
     ∙ ap (λ (z : Option Access). is_none (stop_of d (own_effect x s code d)) && is_some (option_or z (option_map stored_at (effect_seen x i memory d).store))) l
     ∙ ap (λ (z : Option (Access × ℕ)). is_none (stop_of d (own_effect x s code d)) && is_some (option_or (own_effect x s code d).load (option_map stored_at z))) t
+
+-- what the always-blocks write, and which registers the instruction itself does
+pub same_blocks : (x : ExtensionTree) (i : State) (memory : List ℕ) (s : Arch) (code : ℕ) (d : Decoded) → stop_of d (effect_seen x i memory d) ≡ stop_of d (own_effect x s code d)
+    → (blocks_seen x i memory).custom ≡ (blocks_seen x (state_at code s) s.mem).custom → (tried x i memory (Some d)).blocks ≡ (tried x (state_at code s) s.mem (Some d)).blocks
+unfolding tried tried_instruction
+same_blocks x i memory s code d e h =
+    ap (λ (z : Option Stop). unless_stopping z (blocks_seen x i memory).custom) e ∙ ap (unless_stopping (stop_of d (own_effect x s code d))) h
+
+pub same_own : (x : ExtensionTree) (i : State) (memory : List ℕ) (s : Arch) (code : ℕ) (d : Decoded) → effect_seen x i memory d ≡ own_effect x s code d
+    → (tried x i memory (Some d)).own ≡ (tried x (state_at code s) s.mem (Some d)).own
+unfolding tried tried_instruction
+same_own x i memory s code d e = ap (λ (z : Effect). marked (unless_stopping (stop_of d z) z.custom)) e
+
+pub none_blocks : (x : ExtensionTree) (i : State) (memory : List ℕ) (s : Arch) (code : ℕ) → (tried x i memory None).blocks ≡ (tried x (state_at code s) s.mem None).blocks
+unfolding tried
+none_blocks x i memory s code = refl
+
+pub none_writes : (x : ExtensionTree) (i : State) (memory : List ℕ) (s : Arch) (code : ℕ) → (tried x i memory None).own ≡ (tried x (state_at code s) s.mem None).own
+unfolding tried
+none_writes x i memory s code = refl
 
 -- an instruction of an extension stops by its load or its store
 pub own_stop : (n : ℕ) (e f : Effect) → e.load ≡ f.load → e.store ≡ f.store → stop_of (D.Own n) e ≡ stop_of (D.Own n) f

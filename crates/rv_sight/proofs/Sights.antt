@@ -24,14 +24,14 @@ use Rattle.rv_seq.specs.declared.arch.Arch.{Arch}
 use Rattle.rv_seq.specs.declared.commit.Commit.{Commit}
 use Rattle.rv_seq.specs.declared.answer.StepAnswer.TheVariants.{Done}
 use Rattle.rv_seq.specs.Commits.{commit_of}
-use Rattle.rv_seq.specs.States.{inputs_at}
+use Rattle.rv_seq.specs.States.{inputs_at, state_at}
 use Rattle.rv_seq.specs.Steps.{own_effect, whole_effect, of_decoded}
 use Rattle.rv_tried.specs.Tried.{effect_seen, whole_seen, tried}
 use Rattle.rv_lawful.specs.Settings.{does_access}
 use Rattle.rv_lawful.specs.Sight.{IsSeen, HasWords, AreWords, IsEarlyCommit, IsEarly, EarlyLaw, ExactLaw, IsKept, KeepsLaw, TailLaw}
 use Rattle.rv_sight.proofs.Spawning.{NeverSpawns}
 use Rattle.rv_sight.proofs.Asking.{asks_of, own_asks, base_asks_are, none_asks}
-use Rattle.rv_sight.proofs.Coming.{over_same, exact_answer, early_commit, early_answer, same_access, own_stop, base_stop, kept_by, IsEarlyEffect}
+use Rattle.rv_sight.proofs.Coming.{over_same, exact_answer, early_commit, early_answer, same_access, same_blocks, same_own, none_blocks, none_writes, own_stop, base_stop, kept_by, IsEarlyEffect}
 use Rattle.rv_sight.proofs.Plans.{plan_of, own_within, base_decoded}
 use Rattle.rv_sight.proofs.Seeing.{Laws, own_is, base_is, none_tried, own_blocks, base_blocks, keeps_own, keeps_base, all_blocks, exact_own, early_own, exact_base, early_base}
 use Rattle.rv_seq.specs.declared.answer.StepAnswer.{StepAnswer}
@@ -47,14 +47,18 @@ module _ (laws : Laws) (d : Design) (stands : Stands d) where
     abbrev there : Inputs
     there = inputs_at code s
 
+    pub record Exact (o : Option Decoded) : Type 0 where
+      pub answer : (tried x i memory o).answer ≡ of_decoded x s code o
+      pub own : (tried x i memory o).own ≡ (tried x (state_at code s) s.mem o).own
+
     abbrev ExactOf : Option Decoded → Type 0
-    ExactOf o = IsSeen (asks_in d code o) code s i → ((asks_in d code o).loads ≡ true → memory ≡ s.mem) → (tried x i memory o).answer ≡ of_decoded x s code o
+    ExactOf o = IsSeen (asks_in d code o) code s i → ((asks_in d code o).loads ≡ true → memory ≡ s.mem) → Exact o
 
     abbrev blocks_of : Inputs → Effect
     blocks_of inputs = blocks_effect x inputs (length x.blocks)
 
     exact_of : (o : Option Decoded) → decoded_in x code ≡ o → ExactOf o
-    exact_of None is seen loads = (none_tried x i memory s code).0
+    exact_of None is seen loads = record { answer = (none_tried x i memory s code).0; own = none_writes x i memory s code }
     exact_of (Some (D.Own n)) is seen loads =
         let l = own_within x code n is in
         let p = plan_of d stands n l in
@@ -65,7 +69,10 @@ module _ (laws : Laws) (d : Design) (stands : Stands d) where
         let same = exact_own laws d stands code s ws hw word pc i memory wi aw n l saw (λ h. loads (ap (λ (z : Asks). z.loads) e ∙ h)) in
         let blocks = all_blocks laws d stands code s ws hw word pc i memory wi aw (asks_of d code (unit_of d.plans n) p.plan) (own_blocks laws d stands code (unit_of d.plans n) p.plan) saw in
         let effects : effect_seen x i memory (D.Own n) ≡ own_effect x s code (D.Own n) = own_is x n here ∙ same ∙ sym (own_is x n there) in
-        exact_answer x i memory s code (D.Own n) saw.word saw.pc effects (over_same (effect_seen x i memory (D.Own n)) (own_effect x s code (D.Own n)) (blocks_of here) (blocks_of there) effects blocks)
+        record {
+          answer = exact_answer x i memory s code (D.Own n) saw.word saw.pc effects (over_same (effect_seen x i memory (D.Own n)) (own_effect x s code (D.Own n)) (blocks_of here) (blocks_of there) effects blocks);
+          own = same_own x i memory s code (D.Own n) effects;
+        }
     exact_of (Some (D.Base b)) is seen loads =
         let e = base_asks_are d code b in
         let a = base_asks d.sheet.shape (blank_in d).customs b in
@@ -75,17 +82,21 @@ module _ (laws : Laws) (d : Design) (stands : Stands d) where
         let same = exact_base laws d stands code s ws hw word pc i memory wi aw b (base_decoded x code b is) saw (λ h. loads (ap (λ (z : Asks). z.loads) e ∙ h)) in
         let blocks = all_blocks laws d stands code s ws hw word pc i memory wi aw a (base_blocks laws d stands b) saw in
         let effects : effect_seen x i memory (D.Base b) ≡ own_effect x s code (D.Base b) = base_is x b here ∙ same ∙ sym (base_is x b there) in
-        exact_answer x i memory s code (D.Base b) saw.word saw.pc effects (over_same (effect_seen x i memory (D.Base b)) (own_effect x s code (D.Base b)) (blocks_of here) (blocks_of there) effects blocks)
+        record {
+          answer = exact_answer x i memory s code (D.Base b) saw.word saw.pc effects (over_same (effect_seen x i memory (D.Base b)) (own_effect x s code (D.Base b)) (blocks_of here) (blocks_of there) effects blocks);
+          own = same_own x i memory s code (D.Base b) effects;
+        }
 
     -- ---- by EX
     pub record Early (o : Option Decoded) (a : Asks) : Type 0 where
       pub answer : IsEarly a (tried x i memory o).answer (of_decoded x s code o)
       pub accesses : (tried x i memory o).accesses ≡ does_access x s code o
+      pub blocks : (tried x i memory o).blocks ≡ (tried x (state_at code s) s.mem o).blocks
 
     early_of : NeverSpawns d → (o : Option Decoded) → decoded_in x code ≡ o → IsSeen (asks_in d code o) code s i → Early o (asks_in d code o)
     early_of never None is seen =
         let r = none_tried x i memory s code in
-        record { answer = subst (λ (z : StepAnswer). IsEarly (asks_in d code None) z (of_decoded x s code None)) (sym r.0) refl; accesses = r.1 }
+        record { answer = subst (λ (z : StepAnswer). IsEarly (asks_in d code None) z (of_decoded x s code None)) (sym r.0) refl; accesses = r.1; blocks = none_blocks x i memory s code }
     early_of never (Some (D.Own n)) is seen =
         let l = own_within x code n is in
         let p = plan_of d stands n l in
@@ -106,6 +117,7 @@ module _ (laws : Laws) (d : Design) (stands : Stands d) where
         record {
           answer = early_answer a x i memory s code (D.Own n) saw.word saw.pc stops commits;
           accesses = same_access x i memory s code (D.Own n) stops effects.load effects.store;
+          blocks = same_blocks x i memory s code (D.Own n) stops blocks.custom;
         } in
         subst (λ (z : Asks). Early (Some (D.Own n)) z) (sym e) done
     early_of never (Some (D.Base b)) is seen =
@@ -126,6 +138,7 @@ module _ (laws : Laws) (d : Design) (stands : Stands d) where
         record {
           answer = early_answer a x i memory s code (D.Base b) saw.word saw.pc stops commits;
           accesses = same_access x i memory s code (D.Base b) stops effects.load effects.store;
+          blocks = same_blocks x i memory s code (D.Base b) stops blocks.custom;
         } in
         subst (λ (z : Asks). Early (Some (D.Base b)) z) (sym e) done
 
@@ -162,12 +175,14 @@ module _ (laws : Laws) (d : Design) (stands : Stands d) where
       subst (λ (z : Asks). z.tail ≤ 64) (sym (own_asks d code n p.plan p.there)) (tail_most p.plan.mode d.sheet.shape.stages p.plan.last times.last)
 
   pub exact_law : ExactLaw d
-  exact_law code s i memory ws wi hw aw seen loads = exact_of code s i memory ws wi hw aw (decoded_in x code) refl seen loads
+  exact_law code s i memory ws wi hw aw seen loads =
+      let r = exact_of code s i memory ws wi hw aw (decoded_in x code) refl seen loads in
+      record { answer = r.answer; own = r.own }
 
   pub early_law : NeverSpawns d → EarlyLaw d
   early_law never code s i memory ws wi hw aw seen =
       let r = early_of code s i memory ws wi hw aw never (decoded_in x code) refl seen in
-      record { answer = r.answer; accesses = r.accesses }
+      record { answer = r.answer; accesses = r.accesses; blocks = r.blocks }
 
   pub keeps_law : NeverSpawns d → KeepsLaw d
   keeps_law never code s c ws hw word pc e = keeps_of never code s c ws hw word pc (decoded_in x code) refl e
