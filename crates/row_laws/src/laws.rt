@@ -1,7 +1,7 @@
 ghost use Rattle.rv_lawful.specs.Headline.{Agreeing};
 ghost use Rattle.rv_lawful.specs.LawfulTrace.{Lawful};
 ghost use Rattle.rv_seq.specs.Bare.{bare};
-ghost use Rattle.row_laws.specs.Adding.{adding, adding_image, adding_rows, IsOther, wrong_value, wrong_order, other_stop};
+ghost use Rattle.row_laws.specs.Adding.{adding, adding_rows, IsOther, wrong_value, wrong_order, other_stop};
 ghost use Rattle.row_laws.specs.Detour as leap;
 ghost use Rattle.row_laws.specs.Holding.{holding, holding_rows, IsUnlawful, untrue_hold, later_hold, tail_one_more, tail_one_less, tail_left_out, custom_left_out, idle_cell, skipped_word, wrong_stop, missing_stop, after_stop, cell_behind, untrue_trap, taken_unasked};
 ghost use Rattle.row_laws.specs.Turning as turn;
@@ -44,7 +44,7 @@ pub fn turning_run()
 /// that retire another value, or in another order, or stop for another cause, are not the run's.
 pub fn adding_run()
     ensures rows { Lawful adding adding_rows }
-    ensures agrees { Agreeing bare adding_image adding_rows }
+    ensures agrees { Agreeing bare adding adding_rows }
     ensures wrong_value { IsOther wrong_value }
     ensures wrong_order { IsOther wrong_order }
     ensures other_stop { IsOther other_stop }
