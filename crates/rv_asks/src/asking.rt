@@ -1,7 +1,7 @@
 ghost use Rattle.std.specs.Prelude.{◌≡◌, ◌≤◌, ℕ, None, length, map, drop, IfOk, slice_index_or};
 ghost use Rattle.ix_plan.specs.declared.design.Design.{Design};
 ghost use Rattle.rv_asks.specs.Asks.{plan_outline as specified_plan_outline, block_acts as specified_block_acts, base_time as specified_base_time, base_asks as specified_base_asks, with_word as specified_with_word, where_so as specified_where_so, some_so as specified_some_so, asks_with, asks_in, IsAskingOf};
-ghost use Rattle.rv_unit.specs.Numbering.{unit_of as specified_unit_of};
+ghost use Rattle.rv_unit.specs.Numbering.{lasts_of, unit_of as specified_unit_of};
 
 use crate::acts::add_all_acts;
 use crate::asks::{Act, Asks, Outline};
@@ -65,7 +65,7 @@ fn outlines(
 
 // The unit of each plan's instruction.
 fn units_of(alloc: Global, plans: &[Plan]) -> Result<List<Option<u8>>, Memory>
-    requires few { length plans.now ≤ 72 }
+    requires few { length (lasts_of plans.now) ≤ 72 }
     ensures { IfOk result (λ units. (n : ℕ) → slice_index_or units n None ≡ specified_unit_of plans.now n) }
 {
     let mut units = List::new(alloc);
@@ -76,9 +76,9 @@ fn units_of(alloc: Global, plans: &[Plan]) -> Result<List<Option<u8>>, Memory>
     Ok(units)
 }
 
-/// What is asked of each instruction of a design, so that `asks_of` looks at no operation. The design has at most 72 plans.
+/// What is asked of each instruction of a design, so that `asks_of` looks at no operation. At most 72 of its plans are decoupled.
 pub fn asking_of(alloc: Global, design: &Design) -> Result<Asking, Memory>
-    requires few { length design.now.plans ≤ 72 }
+    requires few { length (lasts_of design.now.plans) ≤ 72 }
     ensures asking { IfOk result (λ a. IsAskingOf design.now a) }
 {
     let blocks = block_acts(alloc, design)?;

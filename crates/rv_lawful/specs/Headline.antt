@@ -1,5 +1,5 @@
 -- What a trace of a pipeline with an extension shows is the sequential run, and it goes on (this project's choice).
-use Rattle.std.specs.Prelude.{◌≡◌, ℕ, List, [], ◌∷◌, length, Some}
+use Rattle.std.specs.Prelude.{◌≡◌, ℕ, List, [], ◌∷◌, length, Some, true, false}
 use Rattle.ix_extension.specs.Extensions.{ExtensionTree, view_extension}
 use Rattle.ix_plan.specs.declared.design.Design.{Design}
 use Rattle.rv_seq.specs.declared.commit.Commit.{Commit}
@@ -12,7 +12,7 @@ use Rattle.rv_trace.specs.Trace.{place, is_retired, retirements}
 use Rattle.rv_trace.specs.Progress.{progress_bound, Progressing}
 use Rattle.rv_waits.specs.Waits.{greatest}
 use Rattle.rv_lawful.specs.Settings.{Setting, setting}
-use Rattle.rv_lawful.specs.Outstanding.{Written, is_written, outstanding, applied_state}
+use Rattle.rv_lawful.specs.Outstanding.{Written, writes_of, is_written, outstanding, applied_state}
 use Rattle.rv_lawful.specs.LawfulTrace.{Lawful}
 
 -- the record is that of the step at this place, with what its `spawn` body writes shown as coming later
@@ -23,7 +23,7 @@ IsRecord k p c = (d : Commit) × (k.course.answer p ≡ Done d) × (c ≡ shown 
 pub record IsSpawnWrite (k : Setting) (earlier : List Row) (w : Written) : Type 0 where
   pub commit : Commit
   pub step : k.course.answer (place earlier w.0) ≡ Done commit
-  pub values : (w.1, w.2, w.3) ≡ ((spawned (k.asks commit.word) (k.course.own (place earlier w.0)) commit).rd_index, (spawned (k.asks commit.word) (k.course.own (place earlier w.0)) commit).rd, (spawned (k.asks commit.word) (k.course.own (place earlier w.0)) commit).custom)
+  pub values : writes_of w ≡ spawned (k.asks commit.word) (k.course.own (place earlier w.0)) commit
   pub retired : is_retired earlier w.0 ≡ true
   pub once : is_written earlier w.0 ≡ false
 

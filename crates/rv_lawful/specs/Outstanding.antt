@@ -124,12 +124,16 @@ abbrev pub after_retired : Setting → ℕ → Option (ℕ × Commit) → Arch �
 after_retired k p None s = s
 after_retired k p (Some (t, c)) s = applied (native (k.asks c.word) (k.course.blocks p) c) s
 
+-- the writes of what a unit writes
+abbrev pub writes_of : Written → Spawned
+writes_of w = record { rd_index = w.1; rd = w.2; custom = w.3 }
+
 -- the state behind what a unit writes in a row, if one does
 abbrev pub after_written : Option Written → Arch → Arch
 after_written None s = s
-after_written (Some w) s = paid (record { rd_index = w.1; rd = w.2; custom = w.3 }) s
+after_written (Some w) s = paid (writes_of w) s
 
--- the architectural state after these rows: that of the writes which the rows show
+-- the architectural state after these rows: that of the writes which the rows show, and of what the blocks write to the spawn targets of what is retired
 unfoldable pub architecture : ExtensionTree → Setting → List Row → Arch
 architecture x k [] = first x
 architecture x k (row ∷ earlier) = after_written row.written (after_retired k (retirements earlier) row.retired (architecture x k earlier))

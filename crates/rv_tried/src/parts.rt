@@ -1,4 +1,5 @@
-ghost use Rattle.std.specs.Prelude.{◌≡◌};
+ghost use Rattle.std.specs.Prelude.{◌≡◌, ◌&&◌, if◌then◌else◌};
+ghost use Rattle.rv_seq.specs.declared.commit.Slot.TheVariants.{Absent, Later};
 ghost use Rattle.rv_seq.specs.Commits.{slot_of as specified_slot_of};
 ghost use Rattle.rv_tried.specs.Parts as specified;
 
@@ -25,15 +26,20 @@ fn slot_of(value: Option<Bits>) -> Slot<Bits>
     }
 }
 
+// What a retirement shows of a custom register.
+fn shown_slot(is_spawned: bool, slot: Slot<Bits>) -> Slot<Bits>
+    ensures { result ≡ (if is_spawned then Later else slot) }
+{
+    if is_spawned { Slot::Later } else { slot }
+}
+
 // What a retirement shows of the custom registers.
 fn shown_customs(spawned: &[bool; 16], slots: &[Slot<Bits>; 16]) -> [Slot<Bits>; 16]
     ensures { result ≡ specified.shown_customs spawned.now slots.now }
 {
-    let mut all = *slots;
+    let mut all = [Slot::Absent; 16];
     for number in 0..16usize {
-        if spawned[number] {
-            all[number] = Slot::Later;
-        }
+        all[number] = shown_slot(spawned[number], slots[number]);
     }
     all
 }
@@ -55,6 +61,13 @@ pub fn shown(asks: &Asks, commit: &Commit) -> Commit
     }
 }
 
+// What is written to a custom register at retirement, where the blocks write this to it.
+fn native_slot(is_spawned: bool, block: Option<Bits>, slot: Slot<Bits>) -> Slot<Bits>
+    ensures { result ≡ (if is_spawned then specified_slot_of block else slot) }
+{
+    if is_spawned { slot_of(block) } else { slot }
+}
+
 // What is written to the custom registers at retirement.
 fn native_customs(
     spawned: &[bool; 16],
@@ -63,11 +76,9 @@ fn native_customs(
 ) -> [Slot<Bits>; 16]
     ensures { result ≡ specified.native_customs spawned.now blocks.now slots.now }
 {
-    let mut all = *slots;
+    let mut all = [Slot::Absent; 16];
     for number in 0..16usize {
-        if spawned[number] {
-            all[number] = slot_of(blocks[number]);
-        }
+        all[number] = native_slot(spawned[number], blocks[number], slots[number]);
     }
     all
 }
@@ -89,6 +100,17 @@ pub fn native(asks: &Asks, blocks: &[Option<Bits>; 16], commit: &Commit) -> Comm
     }
 }
 
+// What a `spawn` body writes to a custom register, where the instruction itself writes it.
+fn spawned_slot(is_spawned: bool, is_own: bool, slot: Slot<Bits>) -> Slot<Bits>
+    ensures { result ≡ (if is_spawned && is_own then slot else Absent) }
+{
+    if is_spawned && is_own {
+        slot
+    } else {
+        Slot::Absent
+    }
+}
+
 // What a `spawn` body writes to the custom registers.
 fn spawned_customs(
     spawned: &[bool; 16],
@@ -99,16 +121,14 @@ fn spawned_customs(
 {
     let mut all = [Slot::Absent; 16];
     for number in 0..16usize {
-        if spawned[number] && own[number] {
-            all[number] = slots[number];
-        }
+        all[number] = spawned_slot(spawned[number], own[number], slots[number]);
     }
     all
 }
 
 /// What the `spawn` body writes, where the instruction itself writes these custom registers.
 #[tactic(auto, unfolding(crate::specs::Parts::spawned))]
-pub fn spawned(asks: &Asks, own: &[bool; 16], commit: &Commit) -> Spawned
+pub fn spawn_writes(asks: &Asks, own: &[bool; 16], commit: &Commit) -> Spawned
     ensures { result ≡ specified.spawned asks.now own.now commit.now }
 {
     let custom = spawned_customs(&asks.spawned_customs, own, &commit.custom);

@@ -4,7 +4,9 @@
 
 mod entry;
 mod laws;
+mod numbering;
 
 pub use entry::Entry;
 pub use ix_plan::Target;
 pub use laws::unit_laws;
+pub use numbering::unit_of;

@@ -1,10 +1,9 @@
-use Rattle.std.proofs.Common.{◌<◌, ℕ, get_or, None, false, ◌&&◌, arith}
+use Rattle.std.proofs.Common.{◌<◌, ℕ, get_or, false, ◌&&◌, arith}
 use Rattle.std.specs.Prelude.{if◌then◌else◌}
 use Rattle.ix_bits.specs.declared.number.Bits.{Bits}
 use Rattle.ix_eval.proofs.Tables.{table_is}
 use Rattle.rv_seq.specs.declared.commit.Slot.{Slot}
-use Rattle.rv_seq.specs.declared.commit.Slot.TheVariants.{Absent, Later}
-use Rattle.rv_seq.specs.Commits.{slot_of}
+use Rattle.rv_seq.specs.declared.commit.Slot.TheVariants.{Absent}
 use Rattle.rv_tried.proofs.parts.spawned_customs.Goals as goal
 
 pub returns : goal.returns

@@ -1,7 +1,6 @@
-use Rattle.std.proofs.Common.{◌≡◌, ◌<◌, ◌≤◌, ℕ, length, get_or, None, false, ◌&&◌}
+use Rattle.std.proofs.Common.{◌≡◌, ◌<◌, ℕ, length, get_or, false, ◌&&◌}
 use Rattle.std.specs.Prelude.{if◌then◌else◌}
-use Rattle.rv_seq.specs.declared.commit.Slot.TheVariants.{Absent, Later}
-use Rattle.rv_seq.specs.Commits.{slot_of}
+use Rattle.rv_seq.specs.declared.commit.Slot.TheVariants.{Absent}
 use Rattle.rv_tried.proofs.parts.spawned_customs.Given as goal
 
 abbrev pub invariant-loop-number : goal.invariant-loop-number
