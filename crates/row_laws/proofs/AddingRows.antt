@@ -33,8 +33,9 @@ use Rattle.rv_trace.specs.declared.row.Hold.{Hold}
 use Rattle.rv_trace.specs.declared.row.Hold.TheVariants.{Operand, Behind}
 use Rattle.rv_trace.specs.declared.row.Row.{Row}
 use Rattle.row_laws.specs.Adding.{adding_image, adding_asks, adding_hand, adding, writes, five, seven, sum, break, row_0, row_1, row_2, row_3, row_4, last_row, row_5, two_rows, five_rows, adding_rows, IsOther, wrong_value, wrong_order, other_stop}
+use Rattle.rv_lawful.specs.Sight.{SpawnsNothing}
 use Rattle.row_laws.specs.Hands.{three, no_customs}
-use Rattle.row_laws.proofs.Stages.{true_not_false, no_register, no_custom, same_cell, AllNamed, named, word_is, Free, free_outside, free_behind, done_below, no_own, goes_before, shows_none, shows_behind, shows_own, operand_first, shows_last, settles_at_ex, no_turn, none_settles, no_stop, some_left, none_retires, one_retires}
+use Rattle.row_laws.proofs.Stages.{SpawnsNone, left_unretired, none_written, true_not_false, no_register, no_custom, same_cell, AllNamed, named, word_is, Free, free_outside, free_behind, done_below, no_own, goes_before, shows_none, shows_behind, shows_own, operand_first, shows_last, settles_at_ex, no_turn, none_settles, no_stop, some_left, none_retires, one_retires}
 
 -- The run
 
@@ -174,10 +175,18 @@ IsPlain a = (a.late ≡ false) × (a.tail ≡ 0) × (a.customs ≡ no_customs)
 
 plain : (word : ℕ) → IsPlain (adding_asks word)
 plain word = by_instruction (decoded_in bare word) where
-  by_instruction : (o : Option Decoded) → IsPlain (asks_with [] (blank_outline three []) word o)
+  by_instruction : (o : Option Decoded) → IsPlain (asks_with three [] (λ n. None) (blank_outline three []) word o)
   by_instruction None = (refl, refl, refl)
   by_instruction (Some (D.Base b)) = (refl, refl, refl)
   by_instruction (Some (D.Own n)) = (refl, refl, refl)
+
+-- nor does one spawn
+none_spawned : SpawnsNone adding_hand
+none_spawned word = by_instruction (decoded_in bare word) where
+  by_instruction : (o : Option Decoded) → SpawnsNothing (asks_with three [] (λ n. None) (blank_outline three []) word o)
+  by_instruction None = record { x = refl; customs = λ r. no_custom r; unit = refl }
+  by_instruction (Some (D.Base b)) = record { x = refl; customs = λ r. no_custom r; unit = refl }
+  by_instruction (Some (D.Own n)) = record { x = refl; customs = λ r. no_custom r; unit = refl }
 
 -- these load nothing, and all but the sum read nothing
 abbrev IsQuiet : ℕ → Type 0
@@ -231,10 +240,10 @@ free_plain earlier row c operand drain = record {
 }
 
 free_front : (earlier : List Row) (row : Row) (c : Cell) → (adding_asks c.word).loads ≡ false → (g : Hold) → OwnHold adding earlier row 0 c g → ⊥
-free_front earlier row c loads g o = no_own adding_hand earlier row 0 c (free_outside adding_hand earlier row 0 c at_front) loads (done_below adding_hand earlier row 0 c (omega arith)) g o
+free_front earlier row c loads g o = no_own adding_hand none_spawned earlier row 0 c (free_outside adding_hand earlier row 0 c at_front) loads (done_below adding_hand earlier row 0 c (omega arith)) g o
 
 free_ex : (earlier : List Row) (row : Row) (c : Cell) → Free adding_hand earlier row 1 c → (adding_asks c.word).loads ≡ false → (g : Hold) → OwnHold adding earlier row 1 c g → ⊥
-free_ex earlier row c free loads g o = no_own adding_hand earlier row 1 c free loads (done_below adding_hand earlier row 1 c (omega arith)) g o
+free_ex earlier row c free loads g o = no_own adding_hand none_spawned earlier row 1 c free loads (done_below adding_hand earlier row 1 c (omega arith)) g o
 
 -- a quiet cell of EX whose step does not stop
 free_quiet : (earlier : List Row) (row : Row) (c : Cell) → IsQuiet c.word → ((stop : Stop) → IsDueToStop adding (row ∷ earlier) c stop → ⊥) → (g : Hold) → OwnHold adding earlier row 1 c g → ⊥
@@ -242,7 +251,7 @@ free_quiet earlier row c q runs g o = free_ex earlier row c (free_plain earlier 
 
 -- a cell of the last stage that goes
 shows_out : (earlier : List Row) (row : Row) (c : Cell) → c.hold ≡ None → (adding_asks c.word).loads ≡ false → ShowsHold adding earlier row 2 c
-shows_out earlier row c e loads = let none = (plain c.word).1 in shows_last adding_hand earlier row c e loads (omega (arith, none))
+shows_out earlier row c e loads = let none = (plain c.word).1 in shows_last adding_hand none_spawned earlier row c e loads (omega (arith, none))
 
 -- The first row
 
@@ -254,7 +263,7 @@ lawful_0 = record {
   retires = none_retires adding_hand row_0 refl (λ c s l. cc);
   holds = shows;
   successors = none_settles adding_hand [] row_0 refl refl (λ stage c stands s. no_second c (subst (λ n. Stands adding row_0 n c) (at_ex [] row_0 stage c s) stands));
-  units = refl;
+  units = none_written adding_hand [] row_0 refl refl;
   untaken = refl;
   stops = no_stop adding_hand [] row_0 refl (λ c stop stands s. no_second c stands) (some_left adding_hand row_0 0 five (omega arith) refl refl);
 } where
@@ -287,7 +296,7 @@ lawful_1 = record {
   holds = shows;
   successors = no_turn adding_hand (row_0 ∷ []) row_1 refl refl (λ stage c stands s.
       (at_ex (row_0 ∷ []) row_1 stage c s, (seven, refl, goes_on c (subst (λ n. Stands adding row_1 n c) (at_ex (row_0 ∷ []) row_1 stage c s) stands))));
-  units = refl;
+  units = none_written adding_hand (row_0 ∷ []) row_1 refl refl;
   untaken = refl;
   stops = no_stop adding_hand (row_0 ∷ []) row_1 refl (λ c stop stands s. same_cell (λ d. StopsRun adding (row_0 ∷ []) row_1 1 d stop → ⊥) five c stands (λ r. runs_0 stop r.due) s)
       (some_left adding_hand row_1 0 seven (omega arith) refl refl);
@@ -326,7 +335,7 @@ lawful_2 = record {
   holds = shows;
   successors = no_turn adding_hand two_rows row_2 refl refl (λ stage c stands s.
       (at_ex two_rows row_2 stage c s, (sum None, refl, goes_on c (subst (λ n. Stands adding row_2 n c) (at_ex two_rows row_2 stage c s) stands))));
-  units = refl;
+  units = none_written adding_hand two_rows row_2 refl refl;
   untaken = refl;
   stops = no_stop adding_hand two_rows row_2 refl (λ c stop stands s. same_cell (λ d. StopsRun adding two_rows row_2 1 d stop → ⊥) seven c stands (λ r. runs_1 stop r.due) s)
       (some_left adding_hand row_2 0 (sum None) (omega arith) refl refl);
@@ -393,7 +402,7 @@ lawful_3 = record {
   retires = one_retires adding_hand row_3 seven (writes 4 7340307 2 7) refl refl refl;
   holds = shows;
   successors = none_settles adding_hand three_rows row_3 refl refl settles;
-  units = refl;
+  units = none_written adding_hand three_rows row_3 refl refl;
   untaken = refl;
   stops = no_stop adding_hand three_rows row_3 refl (λ c stop stands s. same_cell (λ d. StopsRun adding three_rows row_3 1 d stop → ⊥) (sum (Some (Operand 2 1))) c stands (λ r. r.free (Operand 2 1) sum_waits) s)
       (some_left adding_hand row_3 0 (break (Some Behind)) (omega arith) refl refl);
@@ -408,7 +417,7 @@ lawful_3 = record {
       (shows_behind adding_hand three_rows row_3 0 (break (Some Behind)) refl refl at_front (sum (Some (Operand 2 1)), refl, inl refl) (free_front three_rows row_3 (break (Some Behind)) break_quiet.0))
   shows (suc zero) c s =
       same_cell (λ d. ShowsHold adding three_rows row_3 1 d) (sum (Some (Operand 2 1))) c s
-      (shows_own adding_hand three_rows row_3 1 (sum (Some (Operand 2 1))) (Operand 2 1) refl refl sum_waits (operand_first adding_hand three_rows row_3 1 (sum (Some (Operand 2 1))) 2 1 sum_first) (inl (omega arith)))
+      (shows_own adding_hand three_rows row_3 1 (sum (Some (Operand 2 1))) (Operand 2 1) refl refl sum_waits (operand_first adding_hand none_spawned three_rows row_3 1 (sum (Some (Operand 2 1))) 2 1 sum_first) (inl (omega arith)))
   shows (suc (suc zero)) c s = same_cell (λ d. ShowsHold adding three_rows row_3 2 d) seven c s (shows_out three_rows row_3 seven refl seven_quiet.0)
   shows (suc (suc (suc n))) c s = cc
 
@@ -433,7 +442,7 @@ lawful_4 = record {
   holds = shows;
   successors = no_turn adding_hand four_rows row_4 refl refl (λ stage c stands s.
       (at_ex four_rows row_4 stage c s, (break None, refl, goes_on c (subst (λ n. Stands adding row_4 n c) (at_ex four_rows row_4 stage c s) stands))));
-  units = refl;
+  units = none_written adding_hand four_rows row_4 refl refl;
   untaken = refl;
   stops = no_stop adding_hand four_rows row_4 refl (λ c stop stands s. same_cell (λ d. StopsRun adding four_rows row_4 1 d stop → ⊥) (sum None) c stands (λ r. runs_2 stop r.due) s)
       (some_left adding_hand row_4 0 (break None) (omega arith) refl refl);
@@ -451,7 +460,7 @@ lawful_4 = record {
   shows (suc zero) c s =
       same_cell (λ d. ShowsHold adding four_rows row_4 1 d) (sum None) c s
       (shows_none adding_hand four_rows row_4 1 (sum None) refl (λ alive runs g t. elim t [
-        | inl o ↦ free_ex four_rows row_4 (sum None) (free_behind adding_hand four_rows row_4 1 (sum None) (λ j lt _. retired_1 j lt)) sum_loads g o
+        | inl o ↦ free_ex four_rows row_4 (sum None) (free_behind adding_hand none_spawned four_rows row_4 1 (sum None) (λ j lt _. retired_1 j lt)) sum_loads g o
         | inr b ↦ cc (b.1.1)
       ]))
   shows (suc (suc zero)) c s = cc
@@ -477,7 +486,7 @@ break_stops : StopsRun adding five_rows row_5 1 (break None) Ebreak
 break_stops = record {
   executing = refl;
   due = break_due;
-  free = free_ex five_rows row_5 (break None) (free_plain five_rows row_5 (break None) (λ r j w. true_not_false (sym w.reads ∙ no_register (adding_asks 1048691) r break_quiet.1 break_quiet.2)) (λ j w. true_not_false (sym (all_retired j w.older.lower) ∙ w.unretired))) break_quiet.0;
+  free = free_ex five_rows row_5 (break None) (free_plain five_rows row_5 (break None) (λ r j w. true_not_false (sym w.reads ∙ no_register (adding_asks 1048691) r break_quiet.1 break_quiet.2)) (λ j w. true_not_false (sym (all_retired j w.older.lower) ∙ left_unretired adding_hand none_spawned (row_5 ∷ five_rows) j w.left))) break_quiet.0;
 }
 
 one_stop : (stop : Stop) → ◌≡◌ {A = StepAnswer} (Stopped Ebreak) (Stopped stop) → Ebreak ≡ stop
@@ -491,12 +500,12 @@ lawful_5 = record {
   retires = one_retires adding_hand row_5 (sum None) (writes 8 2130355 3 12) refl refl refl;
   holds = shows;
   successors = none_settles adding_hand five_rows row_5 refl refl settles;
-  units = refl;
+  units = none_written adding_hand five_rows row_5 refl refl;
   untaken = refl;
   stops = record {
     cause = λ stop e. inl (1, break None, refl, subst (λ x. StopsRun adding five_rows row_5 1 (break None) x) (the stop e) break_stops);
     of_cell = λ stage c stop stands s. of_cell c stop (subst (λ n. Stands adding row_5 n c) s.executing stands) s.due;
-    of_fetch = λ f w. absurd (some_left adding_hand row_5 1 (break None) (omega arith) refl refl f);
+    of_fetch = λ f o w. absurd (some_left adding_hand row_5 1 (break None) (omega arith) refl refl f);
   };
 } where
   the : (stop : Stop) → ◌≡◌ {A = Option Stop} (Some Ebreak) (Some stop) → Ebreak ≡ stop
