@@ -31,41 +31,41 @@ pub both_true : (a b : Bool) → (a && b) ≡ true → (a ≡ true) × (b ≡ tr
 both_true true b e = (refl, e)
 both_true false b e = absurd (true_not_false (sym e))
 
-either : (a b : Bool) → (a || b) ≡ true → a ≡ false → b ≡ true
+pub either : (a b : Bool) → (a || b) ≡ true → a ≡ false → b ≡ true
 either true b e f = absurd (true_not_false f)
 either false b e f = e
 
-either_not : (a b : Bool) → (not a || b) ≡ true → a ≡ true → b ≡ true
+pub either_not : (a b : Bool) → (not a || b) ≡ true → a ≡ true → b ≡ true
 either_not true b e f = e
 either_not false b e f = absurd (true_not_false (sym f))
 
-negated : (a : Bool) → not a ≡ true → a ≡ false
+pub negated : (a : Bool) → not a ≡ true → a ≡ false
 negated true e = absurd (true_not_false (sym e))
 negated false e = refl
 
-known : (a : Bool) → (a ≡ true) ⊎ (a ≡ false)
+pub known : (a : Bool) → (a ≡ true) ⊎ (a ≡ false)
 known true = inl refl
 known false = inr refl
 
-or_left : (a b : Bool) → a ≡ true → (a || b) ≡ true
+pub or_left : (a b : Bool) → a ≡ true → (a || b) ≡ true
 or_left true b e = refl
 or_left false b e = absurd (true_not_false (sym e))
 
-or_right : (a b : Bool) → b ≡ true → (a || b) ≡ true
+pub or_right : (a b : Bool) → b ≡ true → (a || b) ≡ true
 or_right true b e = refl
 or_right false b e = e
 
-and_both : (a b : Bool) → a ≡ true → b ≡ true → (a && b) ≡ true
+pub and_both : (a b : Bool) → a ≡ true → b ≡ true → (a && b) ≡ true
 and_both true b e f = f
 and_both false b e f = absurd (true_not_false (sym e))
 
-same_number : (n r : ℕ) → (n == r) ≡ true → n ≡ r
+pub same_number : (n r : ℕ) → (n == r) ≡ true → n ≡ r
 same_number n r e = grind (arith, nat_tests)
 
-less : (a b : ℕ) → nat_lt a b ≡ true → a < b
+pub less : (a b : ℕ) → nat_lt a b ≡ true → a < b
 less a b e = grind (arith, nat_tests)
 
-not_less : (a b : ℕ) → nat_lt a b ≡ false → b ≤ a
+pub not_less : (a b : ℕ) → nat_lt a b ≡ false → b ≤ a
 not_less a b e = grind (arith, nat_tests)
 
 -- true of each number below this one
@@ -73,12 +73,12 @@ abbrev pub all_below : (ℕ → Bool) → ℕ → Bool
 all_below f zero = true
 all_below f (suc n) = f 0 && all_below (λ i. f (suc i)) n
 
-below : (f : ℕ → Bool) (n j : ℕ) → all_below f n ≡ true → j < n → f j ≡ true
+pub below : (f : ℕ → Bool) (n j : ℕ) → all_below f n ≡ true → j < n → f j ≡ true
 below f zero j e lt = absurd (omega (arith, lt))
 below f (suc n) zero e lt = (both_true (f 0) (all_below (λ i. f (suc i)) n) e).0
 below f (suc n) (suc j) e lt = below (λ i. f (suc i)) n j (both_true (f 0) (all_below (λ i. f (suc i)) n) e).1 (omega (arith, lt))
 
-register_there : (o : Option ℕ) (n : ℕ) → is_register o n ≡ true → o ≡ Some n
+pub register_there : (o : Option ℕ) (n : ℕ) → is_register o n ≡ true → o ≡ Some n
 register_there None n e = absurd (true_not_false (sym e))
 register_there (Some m) n e = ap Some (same_number m n e)
 
@@ -112,7 +112,7 @@ stands_there : (h : Hand) (row : Row) (rows : List Row) (j : ℕ) → Named h ro
 stands_there h row rows j names n e =
     let x = cell_there (slice_get (take 3 row.cells) n) j e in inl (n, x.0, x.1, x.2, names n x.0 x.1 ∙ ap (λ m. get_or h.image m 0) x.2)
 
-has_word : (h : Hand) (rows : List Row) (j : ℕ) → AllNamed h rows → in_rows rows j ≡ true → IsWordOf (by_hand h) rows j (get_or h.image j 0)
+pub has_word : (h : Hand) (rows : List Row) (j : ℕ) → AllNamed h rows → in_rows rows j ≡ true → IsWordOf (by_hand h) rows j (get_or h.image j 0)
 has_word h [] j all e = absurd (true_not_false (sym e))
 has_word h (row ∷ rows) j all e = elim (known (at 0)) [
   | inl x ↦ stands_there h row rows j all.0 0 x
@@ -142,7 +142,7 @@ is_older rows c j = nat_lt j c.serial && not (is_flushed rows j)
 abbrev pub operand_clear : Hand → List Row → Cell → ℕ → Bool
 operand_clear h earlier c j = is_retired earlier j || not (reads_of (h.asks c.word) (asks_of h j).destination)
 
-no_operand : (h : Hand) (earlier : List Row) (row : Row) (stage : ℕ) (c : Cell) → AllNamed h (row ∷ earlier) → all_below (operand_clear h earlier c) c.serial ≡ true → (r j : ℕ) → WaitsForOperand (by_hand h) earlier row stage c r j → ⊥
+pub no_operand : (h : Hand) (earlier : List Row) (row : Row) (stage : ℕ) (c : Cell) → AllNamed h (row ∷ earlier) → all_below (operand_clear h earlier c) c.serial ≡ true → (r j : ℕ) → WaitsForOperand (by_hand h) earlier row stage c r j → ⊥
 no_operand h earlier row stage c all e r j w =
     let word = word_is h (row ∷ earlier) all j w.writes.0 w.writes.1 in
     let goes : r ≡ (asks_of h j).destination = sym w.writes.2 ∙ ap (λ n. (h.asks n).destination) word in
@@ -183,15 +183,15 @@ meets_at a b (custom_target c) e f = or_right (x_meets a b.spawned) (both_at a.c
 abbrev pub board_clear : Hand → List Row → Cell → ℕ → Bool
 board_clear h earlier c j = is_written earlier j || not (meets (h.asks c.word) (asks_of h j))
 
-has_its : (h : Hand) (earlier : List Row) (row : Row) (stage : ℕ) (c : Cell) → AllNamed h (row ∷ earlier) → (t : Target) (j : ℕ) → WaitsForWrite (by_hand h) earlier row stage c t j → has_target (asks_of h j) t ≡ true
+pub has_its : (h : Hand) (earlier : List Row) (row : Row) (stage : ℕ) (c : Cell) → AllNamed h (row ∷ earlier) → (t : Target) (j : ℕ) → WaitsForWrite (by_hand h) earlier row stage c t j → has_target (asks_of h j) t ≡ true
 has_its h earlier row stage c all t j w = sym (ap (λ n. has_target (h.asks n) t) (word_is h (row ∷ earlier) all j w.spawns.0 w.spawns.1)) ∙ w.spawns.2
 
-clear_at : (h : Hand) (earlier : List Row) (row : Row) (stage : ℕ) (c : Cell) → AllNamed h (row ∷ earlier) → (t : Target) (j : ℕ) → board_clear h earlier c j ≡ true → WaitsForWrite (by_hand h) earlier row stage c t j → ⊥
+pub clear_at : (h : Hand) (earlier : List Row) (row : Row) (stage : ℕ) (c : Cell) → AllNamed h (row ∷ earlier) → (t : Target) (j : ℕ) → board_clear h earlier c j ≡ true → WaitsForWrite (by_hand h) earlier row stage c t j → ⊥
 clear_at h earlier row stage c all t j e w =
     true_not_false (sym (meets_at (h.asks c.word) (asks_of h j) t w.touches (has_its h earlier row stage c all t j w))
         ∙ negated (meets (h.asks c.word) (asks_of h j)) (either (is_written earlier j) (not (meets (h.asks c.word) (asks_of h j))) e w.unwritten))
 
-no_board : (h : Hand) (earlier : List Row) (row : Row) (stage : ℕ) (c : Cell) → AllNamed h (row ∷ earlier) → all_below (board_clear h earlier c) c.serial ≡ true → (t : Target) (j : ℕ) → WaitsForWrite (by_hand h) earlier row stage c t j → ⊥
+pub no_board : (h : Hand) (earlier : List Row) (row : Row) (stage : ℕ) (c : Cell) → AllNamed h (row ∷ earlier) → all_below (board_clear h earlier c) c.serial ≡ true → (t : Target) (j : ℕ) → WaitsForWrite (by_hand h) earlier row stage c t j → ⊥
 no_board h earlier row stage c all e t j w = clear_at h earlier row stage c all t j (below (board_clear h earlier c) c.serial j e w.older.lower) w
 
 -- Drain
@@ -206,11 +206,11 @@ stop_at h rows c = stop_in (h.course.answer (place rows c.serial))
 abbrev pub is_due : Hand → List Row → Cell → Bool
 is_due h rows c = is_some (stop_at h rows c)
 
-stop_there : (a : StepAnswer) → is_some (stop_in a) ≡ true → (stop : Stop) × (a ≡ Stopped stop)
+pub stop_there : (a : StepAnswer) → is_some (stop_in a) ≡ true → (stop : Stop) × (a ≡ Stopped stop)
 stop_there (Done c) e = absurd (true_not_false (sym e))
 stop_there (Stopped stop) e = (stop, refl)
 
-due_now : (h : Hand) (rows : List Row) (c : Cell) (stop : Stop) → IsDueToStop (by_hand h) rows c stop → is_due h rows c ≡ true
+pub due_now : (h : Hand) (rows : List Row) (c : Cell) (stop : Stop) → IsDueToStop (by_hand h) rows c stop → is_due h rows c ≡ true
 due_now h rows c stop e = ap (λ a. is_some (stop_in a)) e
 
 abbrev pub settled : Hand → List Row → ℕ → Bool
@@ -219,7 +219,7 @@ settled h rows j = is_retired rows j && (is_written rows j || not (is_some (asks
 abbrev pub drained : Hand → List Row → Cell → Bool
 drained h rows c = all_below (settled h rows) c.serial
 
-unsettled : (h : Hand) (rows : List Row) (j : ℕ) → AllNamed h rows → settled h rows j ≡ true → (is_retired rows j ≡ false) ⊎ IsUnwritten (by_hand h) rows j → ⊥
+pub unsettled : (h : Hand) (rows : List Row) (j : ℕ) → AllNamed h rows → settled h rows j ≡ true → (is_retired rows j ≡ false) ⊎ IsUnwritten (by_hand h) rows j → ⊥
 unsettled h rows j all e left =
     let parts = both_true (is_retired rows j) (is_written rows j || not (is_some (asks_of h j).unit)) e in
     elim left [
@@ -245,10 +245,10 @@ abbrev pub full_of : List Slots → Option ℕ → Bool
 full_of units None = false
 full_of units (Some u) = full_in u (slice_get units u) (unit_written units)
 
-not_full : (units : List Slots) (o : Option ℕ) (u : ℕ) (slots : Slots) → full_of units o ≡ false → o ≡ Some u → slice_get units u ≡ Some slots → frozen_with u slots (unit_written units) ≡ true → ⊥
+pub not_full : (units : List Slots) (o : Option ℕ) (u : ℕ) (slots : Slots) → full_of units o ≡ false → o ≡ Some u → slice_get units u ≡ Some slots → frozen_with u slots (unit_written units) ≡ true → ⊥
 not_full units o u slots e enters at freezes = true_not_false (sym freezes ∙ sym (ap (λ x. full_in u x (unit_written units)) at) ∙ sym (ap (full_of units) enters) ∙ e)
 
-slots_there : (u : ℕ) (o : Option Slots) (written : Option (ℕ × ℕ)) → full_in u o written ≡ true → (slots : Slots) × (o ≡ Some slots) × (frozen_with u slots written ≡ true)
+pub slots_there : (u : ℕ) (o : Option Slots) (written : Option (ℕ × ℕ)) → full_in u o written ≡ true → (slots : Slots) × (o ≡ Some slots) × (frozen_with u slots written ≡ true)
 slots_there u None written e = absurd (true_not_false (sym e))
 slots_there u (Some slots) written e = (slots, refl, e)
 
@@ -259,7 +259,7 @@ abbrev pub takes_port : Hand → Option Written → Bool
 takes_port h None = false
 takes_port h (Some w) = is_some (asks_of h w.0).spawned
 
-some_same : (a b : ℕ) → ◌≡◌ {A = Option ℕ} (Some a) (Some b) → a ≡ b
+pub some_same : (a b : ℕ) → ◌≡◌ {A = Option ℕ} (Some a) (Some b) → a ≡ b
 some_same a b e = cc
 
 takes_at : (h : Hand) (o : Option Written) (j : ℕ) → serial_written o ≡ Some j → takes_port h o ≡ is_some (asks_of h j).spawned
@@ -280,10 +280,10 @@ pub record IsClear (h : Hand) (earlier : List Row) (row : Row) (stage : ℕ) (c 
   pub full : (u : ℕ) → WaitsForUnit (by_hand h) earlier row stage c u → ⊥
   pub port : (j : ℕ) → WaitsForPort (by_hand h) earlier row stage c j → ⊥
 
-no_tail : (h : Hand) → IsSimple h → (earlier : List Row) (row : Row) (stage : ℕ) (c : Cell) (left : ℕ) → OwnHold (by_hand h) earlier row stage c (Tail left) → ⊥
+pub no_tail : (h : Hand) → IsSimple h → (earlier : List Row) (row : Row) (stage : ℕ) (c : Cell) (left : ℕ) → OwnHold (by_hand h) earlier row stage c (Tail left) → ⊥
 no_tail h simple earlier row stage c left o = let e = o.still in let some = o.some in let none = simple.tail c.word in absurd (omega (arith, e, some, none))
 
-none_own : (h : Hand) → IsSimple h → (earlier : List Row) (row : Row) (stage : ℕ) (c : Cell) → IsClear h earlier row stage c → (g : Hold) → OwnHold (by_hand h) earlier row stage c g → ⊥
+pub none_own : (h : Hand) → IsSimple h → (earlier : List Row) (row : Row) (stage : ℕ) (c : Cell) → IsClear h earlier row stage c → (g : Hold) → OwnHold (by_hand h) earlier row stage c g → ⊥
 none_own h simple earlier row stage c clear (Operand r j) o = clear.operand r j o
 none_own h simple earlier row stage c clear (Board t j) o = clear.board t j o
 none_own h simple earlier row stage c clear (Custom r j) o = true_not_false (sym o.writes.2 ∙ simple.unlate o.writes.0 r)
@@ -297,10 +297,10 @@ none_own h simple earlier row stage c clear (UnitFull u) o = clear.full u o
 none_own h simple earlier row stage c clear (Port j) o = clear.port j o
 none_own h simple earlier row stage c clear Behind o = o
 
-front_not_ex : ◌≡◌ {A = ℕ} 0 1 → ⊥
+pub front_not_ex : ◌≡◌ {A = ℕ} 0 1 → ⊥
 front_not_ex e = absurd (omega (arith, e))
 
-last_not_ex : ◌≡◌ {A = ℕ} 2 1 → ⊥
+pub last_not_ex : ◌≡◌ {A = ℕ} 2 1 → ⊥
 last_not_ex e = absurd (omega (arith, e))
 
 front_not_last : ◌≡◌ {A = ℕ} 1 3 → ⊥
