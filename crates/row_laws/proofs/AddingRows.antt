@@ -13,7 +13,9 @@ use Rattle.rv_effect.specs.Decoding.{decoded_in}
 use Rattle.rv_effect.specs.WordEffects.{effect_of, over, blocks_effect}
 use Rattle.rv_lawful.specs.Headline.{AgreesWithRun, Agreeing}
 use Rattle.rv_lawful.specs.LawfulTrace.{fetch_address, next_serial, reads_of, IsDueToStop, WaitsForOperand, WaitsToDrain, OwnHold, StopsRun, ShowsHold, Settles, successor, LawfulRow, Lawful}
-use Rattle.rv_lawful.specs.Settings.{Stands, architecture}
+use Rattle.rv_lawful.specs.Settings.{Stands}
+use Rattle.rv_lawful.specs.Outstanding.{is_written, decoupled, architecture}
+use Rattle.rv_tried.specs.Parts.{shown, native}
 use Rattle.rv_seq.specs.Bare.{bare}
 use Rattle.rv_seq.specs.Commits.{commit_of, applied}
 use Rattle.rv_seq.specs.Runs.{run, answer_at}
@@ -27,7 +29,7 @@ use Rattle.rv_seq.specs.declared.commit.Slot.TheVariants.{Absent, Now, Later}
 use Rattle.rv_seq.specs.declared.commit.Stop.{Stop}
 use Rattle.rv_seq.specs.declared.commit.Stop.TheVariants.{Ebreak, Fetch}
 use Rattle.rv_trace.specs.RowParts.{name_of, leaves, ComesFirst}
-use Rattle.rv_trace.specs.Trace.{is_flushed, is_retired, place, retirements, with_retired}
+use Rattle.rv_trace.specs.Trace.{is_flushed, is_retired, place, retirements}
 use Rattle.rv_trace.specs.declared.row.Cell.{Cell}
 use Rattle.rv_trace.specs.declared.row.Hold.{Hold}
 use Rattle.rv_trace.specs.declared.row.Hold.TheVariants.{Operand, Behind}
@@ -35,6 +37,7 @@ use Rattle.rv_trace.specs.declared.row.Row.{Row}
 use Rattle.row_laws.specs.Adding.{adding_image, adding_asks, adding_hand, adding, writes, five, seven, sum, break, row_0, row_1, row_2, row_3, row_4, last_row, row_5, two_rows, five_rows, adding_rows, IsOther, wrong_value, wrong_order, other_stop}
 use Rattle.rv_lawful.specs.Sight.{SpawnsNothing}
 use Rattle.row_laws.specs.Hands.{three, no_customs}
+use Rattle.row_laws.proofs.Agreement.{agrees}
 use Rattle.row_laws.proofs.Stages.{SpawnsNone, left_unretired, none_written, true_not_false, no_register, no_custom, same_cell, AllNamed, named, word_is, Free, free_outside, free_behind, done_below, no_own, goes_before, shows_none, shows_behind, shows_own, operand_first, shows_last, settles_at_ex, no_turn, none_settles, no_stop, some_left, none_retires, one_retires}
 
 -- The run
@@ -57,85 +60,43 @@ answer_3 = refl
 
 -- What the rows retire is the run's
 
--- the state behind the rows is the run's
-abbrev IsRun : List Row → Type 0
-IsRun rows = architecture bare rows ≡ run bare adding_image (retirements rows)
-
--- a row that retires nothing
-still_run : (earlier : List Row) (row : Row) → row.retired ≡ None → IsRun earlier → IsRun (row ∷ earlier)
-unfolding architecture retirements
-still_run earlier row e h =
-    ap (λ o. with_retired o (architecture bare earlier)) e ∙ h ∙ ap (λ o. run bare adding_image (if is_some o then suc (retirements earlier) else retirements earlier)) (sym e)
-
-none_agrees : (earlier : List Row) (row : Row) → row.retired ≡ None → row.stop ≡ None → IsRun earlier → AgreesWithRun bare adding_image earlier row
-none_agrees earlier row e f h = record {
-  placed = λ s c q. cc (e, q);
-  recorded = λ s c q. cc (e, q);
-  state = still_run earlier row e h;
-  stop = λ stop q. cc (f, q);
-}
-
--- a row that retires the next record
-next_run : (earlier : List Row) (row : Row) (s : ℕ) (c : Commit) → row.retired ≡ Some (s, c) → answer_at bare adding_image (retirements earlier) ≡ Done c → IsRun earlier → IsRun (row ∷ earlier)
-unfolding architecture retirements run
-next_run earlier row s c e a h =
-    ap (λ o. with_retired o (architecture bare earlier)) e
-    ∙ ap (applied c) h
-    ∙ ap (after (run bare adding_image (retirements earlier))) (sym a)
-    ∙ ap (λ o. run bare adding_image (if is_some o then suc (retirements earlier) else retirements earlier)) (sym e)
-
-same_serial : (s t : ℕ) (c d : Commit) → ◌≡◌ {A = Option (ℕ × Commit)} (Some (s, c)) (Some (t, d)) → (s ≡ t) × (c ≡ d)
-same_serial s t c d e = let pair : ◌≡◌ {A = ℕ × Commit} (s, c) (t, d) = cc in (ap (λ (p : ℕ × Commit). p.0) pair, ap (λ (p : ℕ × Commit). p.1) pair)
-
-one_agrees : (earlier : List Row) (row : Row) (s : ℕ) (c : Commit) → row.retired ≡ Some (s, c) → place (row ∷ earlier) s ≡ retirements earlier → answer_at bare adding_image (retirements earlier) ≡ Done c → IsRun earlier
-    → ((stop : Stop) → row.stop ≡ Some stop → answer_at bare adding_image (retirements (row ∷ earlier)) ≡ Stopped stop) → AgreesWithRun bare adding_image earlier row
-one_agrees earlier row s c e p a h f = record {
-  placed = λ t d q. ap (place (row ∷ earlier)) (sym (same_serial s t c d (sym e ∙ q)).0) ∙ p;
-  recorded = λ t d q. a ∙ ap Done (same_serial s t c d (sym e ∙ q)).1;
-  state = next_run earlier row s c e a h;
-  stop = f;
-}
-
 abbrev three_rows : List Row
 three_rows = row_2 ∷ two_rows
 
 abbrev four_rows : List Row
 four_rows = row_3 ∷ three_rows
 
-run_2 : IsRun two_rows
-unfolding architecture retirements run
-run_2 = still_run (row_0 ∷ []) row_1 refl (still_run [] row_0 refl refl)
-
-run_3 : IsRun three_rows
-unfolding retirements
-run_3 = next_run two_rows row_2 0 (writes 0 5243027 1 5) refl answer_0 run_2
-
-run_4 : IsRun four_rows
-unfolding retirements
-run_4 = next_run three_rows row_3 1 (writes 4 7340307 2 7) refl answer_1 run_3
-
-run_5 : IsRun five_rows
-run_5 = still_run four_rows row_4 refl run_4
-
 -- the stop of the last row, whichever it shows
 last_answer : (stop : Option Stop) → answer_at bare adding_image (retirements (last_row stop ∷ five_rows)) ≡ Stopped Ebreak
 unfolding retirements
 last_answer stop = answer_3
 
-pub adding_agrees : Agreeing bare adding_image adding_rows
-unfolding retirements place is_flushed architecture run
-adding_agrees = (
-  one_agrees five_rows row_5 2 (writes 8 2130355 3 12) refl refl answer_2 run_5 (λ stop e. last_answer (Some Ebreak) ∙ ap Stopped (the stop e)),
-  (
-    none_agrees four_rows row_4 refl refl run_4,
-    (
-      one_agrees three_rows row_3 1 (writes 4 7340307 2 7) refl refl answer_1 run_3 (λ stop e. cc),
-      (one_agrees two_rows row_2 0 (writes 0 5243027 1 5) refl refl answer_0 run_2 (λ stop e. cc), (none_agrees (row_0 ∷ []) row_1 refl refl (still_run [] row_0 refl refl), (none_agrees [] row_0 refl refl refl, tt))),
-    ),
-  ),
-) where
-  the : (stop : Stop) → ◌≡◌ {A = Option Stop} (Some Ebreak) (Some stop) → Ebreak ≡ stop
-  the stop e = cc
+agrees_0 : AgreesWithRun bare adding [] row_0
+unfolding architecture decoupled is_written retirements is_flushed is_retired place shown native step run decoded_in attempted effect_of over blocks_effect commit_of first applied decoded base_row base_patterns fields_of format_of base_formats
+agrees_0 = agrees adding [] row_0 tt tt tt refl
+
+agrees_1 : AgreesWithRun bare adding (row_0 ∷ []) row_1
+unfolding architecture decoupled is_written retirements is_flushed is_retired place shown native step run decoded_in attempted effect_of over blocks_effect commit_of first applied decoded base_row base_patterns fields_of format_of base_formats
+agrees_1 = agrees adding (row_0 ∷ []) row_1 tt tt tt refl
+
+agrees_2 : AgreesWithRun bare adding two_rows row_2
+unfolding architecture decoupled is_written retirements is_flushed is_retired place shown native step run decoded_in attempted effect_of over blocks_effect commit_of first applied decoded base_row base_patterns fields_of format_of base_formats
+agrees_2 = agrees adding two_rows row_2 (refl, (writes 0 5243027 1 5, answer_0, refl)) tt tt refl
+
+agrees_3 : AgreesWithRun bare adding three_rows row_3
+unfolding architecture decoupled is_written retirements is_flushed is_retired place shown native step run decoded_in attempted effect_of over blocks_effect commit_of first applied decoded base_row base_patterns fields_of format_of base_formats
+agrees_3 = agrees adding three_rows row_3 (refl, (writes 4 7340307 2 7, answer_1, refl)) tt tt refl
+
+agrees_4 : AgreesWithRun bare adding four_rows row_4
+unfolding architecture decoupled is_written retirements is_flushed is_retired place shown native step run decoded_in attempted effect_of over blocks_effect commit_of first applied decoded base_row base_patterns fields_of format_of base_formats
+agrees_4 = agrees adding four_rows row_4 tt tt tt refl
+
+agrees_5 : AgreesWithRun bare adding five_rows row_5
+unfolding architecture decoupled is_written retirements is_flushed is_retired place shown native step run decoded_in attempted effect_of over blocks_effect commit_of first applied decoded base_row base_patterns fields_of format_of base_formats
+agrees_5 = agrees adding five_rows row_5 (refl, (writes 8 2130355 3 12, answer_2, refl)) tt (last_answer (Some Ebreak), refl) refl
+
+pub adding_agrees : Agreeing bare adding adding_rows
+adding_agrees = (agrees_5, (agrees_4, (agrees_3, (agrees_2, (agrees_1, (agrees_0, tt))))))
 
 -- what is written to the x register
 abbrev written : Slot ℕ → ℕ
@@ -143,13 +104,18 @@ written Absent = 0
 written (Now v) = v
 written Later = 0
 
-abbrev value_in : StepAnswer → ℕ
-value_in (Stopped stop) = 0
-value_in (Done c) = written c.rd
+done_same : (a : StepAnswer) (c d : Commit) → a ≡ Done c → a ≡ Done d → c ≡ d
+done_same a c d e f = the (sym e ∙ f) where
+  the : ◌≡◌ {A = StepAnswer} (Done c) (Done d) → c ≡ d
+  the q = cc
 
 pub wrong_value_refused : IsOther wrong_value
-unfolding retirements
-wrong_value_refused h = let e : ◌≡◌ {A = ℕ} 5 6 = ap value_in (sym answer_0 ∙ h.0.recorded 0 (writes 0 5243027 1 6) refl) in absurd (omega (arith, e))
+unfolding architecture decoupled is_written retirements is_flushed is_retired place shown native step run decoded_in attempted effect_of over blocks_effect commit_of first applied decoded base_row base_patterns fields_of format_of base_formats
+wrong_value_refused h =
+    let r = h.0.recorded 0 (writes 0 5243027 1 6) refl in
+    let same = done_same (answer_at bare adding_image 0) (writes 0 5243027 1 5) r.0 answer_0 r.1 in
+    let e : ◌≡◌ {A = ℕ} 6 5 = ap (λ (c : Commit). written c.rd) r.2 ∙ ap (λ (c : Commit). written (shown (adding_asks c.word) c).rd) (sym same) in
+    absurd (omega (arith, e))
 
 pub wrong_order_refused : IsOther wrong_order
 unfolding retirements place is_flushed

@@ -275,7 +275,7 @@ names_right h a b c = cell_named h a && (cell_named h b && cell_named h c)
 abbrev pub cells_right : Hand → List Row → Option Cell → Option Cell → Option Cell → Option (ℕ × Commit) → Row → Bool
 cells_right h earlier a b c ret row = front_right h earlier row a b && (ex_right h earlier row b c && (last_right h earlier row c && (follows h earlier row a b && retiring ret c)))
 
-row_named : (h : Hand) (a b c : Option Cell) (ret : Option (ℕ × Commit)) (wr : Option Written) (stop : Option Stop) → names_right h a b c ≡ true → Named h (full_row a b c ret wr stop)
+pub row_named : (h : Hand) (a b c : Option Cell) (ret : Option (ℕ × Commit)) (wr : Option Written) (stop : Option Stop) → names_right h a b c ≡ true → Named h (full_row a b c ret wr stop)
 row_named h a b c ret wr stop e =
     let x = both_true (cell_named h a) (cell_named h b && cell_named h c) e in let y = both_true (cell_named h b) (cell_named h c) x.1 in
     named h (full_row a b c ret wr stop) a b c (None ∷ None ∷ []) refl (names_cell h a x.0) (names_cell h b y.0) (names_cell h c y.1)
