@@ -26,7 +26,7 @@ use Rattle.rv_trace.specs.Trace.{is_flushed, is_retired, place, retirements}
 use Rattle.rv_trace.specs.declared.row.Row.{Row}
 use Rattle.rv_tried.specs.declared.parts.Spawned.{Spawned}
 use Rattle.rv_tried.specs.Parts.{shown, native, spawned, paid}
-use Rattle.row_laws.specs.Spawning.{IsOther, IsOtherFrozen, early_spawn, frozen, frozen_0, frozen_1, frozen_2, frozen_3, frozen_4, frozen_5, frozen_6, frozen_7, frozen_8, frozen_eight, frozen_five, frozen_hand, frozen_rows, frozen_seven, frozen_six, late_native, later_left_out, passing, passing_0, passing_1, passing_2, passing_3, passing_4, passing_5, passing_6, passing_7, passing_five, passing_four, passing_hand, passing_rows, passing_seven, passing_six, passing_three, port, port_0, port_1, port_2, port_3, port_4, port_5, port_6, port_five, port_four, port_hand, port_rows, port_six, port_three, record_of, write_of, wrong_write}
+use Rattle.row_laws.specs.Spawning.{OwesBoth, OwesOne, WritesOne, AppliesBoth, IsOther, IsOtherFrozen, early_spawn, frozen, frozen_0, frozen_1, frozen_2, frozen_3, frozen_4, frozen_5, frozen_6, frozen_7, frozen_8, frozen_eight, frozen_five, frozen_hand, frozen_rows, frozen_seven, frozen_six, late_native, later_left_out, passing, passing_0, passing_1, passing_2, passing_3, passing_4, passing_5, passing_6, passing_7, passing_five, passing_four, passing_hand, passing_rows, passing_seven, passing_six, passing_three, port, port_0, port_1, port_2, port_3, port_4, port_5, port_6, port_five, port_four, port_hand, port_rows, port_six, port_three, record_of, write_of, wrong_write}
 use Rattle.row_laws.proofs.Agreement.{agrees}
 
 -- Out of order
@@ -240,3 +240,21 @@ later_left_out_refused h =
     let same = done_same (answer_at bare frozen_hand.image 3) (record_of 12 15 0 Absent) r.0 frozen_answer_3 r.1 in
     let e : ◌≡◌ {A = ℕ} 0 1 = ap (λ (c : Commit). told c.rd) r.2 ∙ ap (λ (c : Commit). told (shown (frozen.asks c.word) c).rd) (sym same) in
     absurd (omega (arith, e))
+
+-- What is outstanding
+
+pub owes_both : OwesBoth
+unfolding decoupled is_written
+owes_both = refl
+
+pub owes_one : OwesOne
+unfolding decoupled is_written
+owes_one = refl
+
+pub writes_one : WritesOne
+unfolding architecture decoupled is_written retirements is_flushed is_retired place shown native spawned paid step run decoded_in attempted effect_of over blocks_effect commit_of first applied decoded base_row base_patterns fields_of format_of base_formats
+writes_one = (refl, refl)
+
+pub applies_both : AppliesBoth
+unfolding architecture decoupled is_written retirements is_flushed is_retired place shown native spawned paid step run decoded_in attempted effect_of over blocks_effect commit_of first applied decoded base_row base_patterns fields_of format_of base_formats
+applies_both = (refl, refl)

@@ -4,3 +4,4 @@ pub mod Turning
 pub mod Detour
 pub mod Adding
 pub mod Spawning
+pub mod Sharing

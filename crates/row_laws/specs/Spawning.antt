@@ -1,11 +1,11 @@
 -- Three runs of the base set on a core that takes some of its instructions as decoupled, so that their writes come later: writes out of order, a conflict at the port of
 -- the register file, and a unit that is frozen. And rows that no pipeline may show (SCAIE-V, decoupled execution; which unit writes is this project's choice).
-use Rattle.std.specs.Prelude.{ℕ, ◌+◌, List, [], ◌∷◌, replicate, Option, Some, None, false, if◌then◌else◌, ◌==◌}
+use Rattle.std.specs.Prelude.{◌≡◌, ℕ, ◌+◌, List, [], ◌∷◌, replicate, slice_index, Option, Some, None, false, if◌then◌else◌, ◌==◌}
 use Rattle.ix_plan.specs.Units.{Slots}
 use Rattle.rv_asks.specs.declared.asks.Asks.{Asks}
 use Rattle.rv_lawful.specs.Headline.{Agreeing}
 use Rattle.rv_lawful.specs.LawfulTrace.{Lawful}
-use Rattle.rv_lawful.specs.Outstanding.{Written}
+use Rattle.rv_lawful.specs.Outstanding.{Written, outstanding_targets, architecture, applied_state}
 use Rattle.rv_lawful.specs.Settings.{Setting, course_of}
 use Rattle.rv_seq.specs.Bare.{bare}
 use Rattle.rv_seq.specs.declared.commit.Commit.{Commit}
@@ -475,3 +475,19 @@ drain_left_out = full_row None (Some (break 4 16 None)) None None (Some brisk_wr
 -- a spawn target is not shown where the condition of its write is false
 abbrev pub later_left_out : List Row
 later_left_out = thawing (hollow_record 0 Absent) quick_write ∷ frozen_six
+
+-- what is outstanding when both are retired, in the order of retirement
+abbrev pub OwesBoth : Type 0
+OwesBoth = outstanding_targets passing passing_four ≡ (0, X 5) ∷ (1, X 6) ∷ []
+
+-- and behind the write of the younger one
+abbrev pub OwesOne : Type 0
+OwesOne = outstanding_targets passing passing_five ≡ (0, X 5) ∷ []
+
+-- then the younger write is in the architectural state, and the older one is not
+abbrev pub WritesOne : Type 0
+WritesOne = (slice_index (architecture bare passing passing_five).x 5 ≡ 0) × (slice_index (architecture bare passing passing_five).x 6 ≡ 4)
+
+-- and both are in the applied one
+abbrev pub AppliesBoth : Type 0
+AppliesBoth = (slice_index (applied_state bare passing passing_five).x 5 ≡ 3) × (slice_index (applied_state bare passing passing_five).x 6 ≡ 4)
