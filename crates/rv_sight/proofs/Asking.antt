@@ -1,5 +1,5 @@
 -- What is asked of an instruction, operation by operation.
-use Rattle.std.proofs.Common.{◌≡◌, refl, sym, ap, subst, ◌∙◌, ⊎_elim, ℕ, zero, suc, ◌+◌, ◌<◌, ◌≤◌, arith, List, [], ◌∷◌, ◌++◌, get_or, length, drop, Some, None, Bool, true, false}
+use Rattle.std.proofs.Common.{Option, ◌≡◌, refl, sym, ap, subst, ◌∙◌, ⊎_elim, ℕ, zero, suc, ◌+◌, ◌<◌, ◌≤◌, arith, List, [], ◌∷◌, ◌++◌, get_or, length, drop, Some, None, Bool, true, false}
 use Rattle.std.specs.Prelude.{option_map, slice_get, slice_index, slice_index_or, ◌||◌, ◌&&◌, nat_lt, Contains}
 use Rattle.std.specs.List.{list_any}
 use Rattle.std.proofs.lemmas.Bool.{or_left, or_right, or_cases, false≢true, ltb-false, eq-eqb}
