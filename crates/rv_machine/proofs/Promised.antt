@@ -99,5 +99,5 @@ text_law sights d image waits cycles text h t =
       headline = rows_law sights d image waits t.rows h t.are_rows;
       few = t.few;
       whole = t.whole;
-      text_is = t.text_is ∙ ap (λ (a : Arch). trace_text d.sheet.shape.stages 0 (reverse t.rows) ++ state_text (view_extension d.extension) a) (arch_is (setting d image waits) t.rows t.are_rows);
+      text_is = t.text_is ∙ ap (λ (a : Arch). trace_text d.sheet.shape.stages 0 (reverse t.rows) ++ state_text (view_extension d.extension) [] a) (arch_is (setting d image waits) t.rows t.are_rows);
     }
