@@ -1,5 +1,5 @@
 -- The text of lawful rows of a pipeline with an extension (this project's choice): the lines of each row, and the state behind the last one.
-use Rattle.std.specs.Prelude.{◌≡◌, ℕ, ◌≤◌, List, ◌++◌, length, reverse, None}
+use Rattle.std.specs.Prelude.{◌≡◌, ℕ, ◌≤◌, List, [], ◌++◌, length, reverse, None}
 use Rattle.ix_extension.specs.Extensions.{view_extension}
 use Rattle.ix_plan.specs.declared.design.Design.{Design}
 use Rattle.rv_trace.specs.declared.row.Row.{Row}
@@ -17,4 +17,4 @@ pub record IsLawfulText (d : Design) (image waits : List ℕ) (cycles : ℕ) (te
   pub headline : Headline d image waits rows
   pub few : length rows ≤ cycles
   pub whole : (newest rows).stop ≡ None → length rows ≡ cycles
-  pub text_is : text ≡ trace_text d.sheet.shape.stages 0 (reverse rows) ++ state_text (view_extension d.extension) (architecture (view_extension d.extension) (setting d image waits) rows)
+  pub text_is : text ≡ trace_text d.sheet.shape.stages 0 (reverse rows) ++ state_text (view_extension d.extension) (outstanding_targets (setting d image waits) rows) (architecture (view_extension d.extension) (setting d image waits) rows)
