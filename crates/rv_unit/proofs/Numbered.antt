@@ -1,6 +1,8 @@
 -- Units by number.
-use Rattle.std.proofs.Common.{◌≡◌, ℕ, zero, suc, ◌+◌, ◌<◌, ◌≤◌, List, [], ◌∷◌, length, take, Option, Some, None, Bool, true, false, refl, sym, ap, ◌∙◌, subst, arith, replicate}
+use Rattle.std.proofs.Common.{◌≡◌, ℕ, zero, suc, ◌+◌, ◌<◌, ◌≤◌, List, [], ◌∷◌, length, take, drop, get_or, Option, Some, None, Bool, true, false, refl, sym, ap, ◌∙◌, subst, arith, replicate}
 use Rattle.std.specs.Prelude.{if◌then◌else◌, slice_get, ◌-◌}
+use Rattle.std.proofs.Math.Seq.{drop-cons}
+use Rattle.std.proofs.lemmas.Option.{slice_get_past, slice_get-get_or}
 use Rattle.ix_graph.specs.declared.graph.Mode.{Mode}
 use Rattle.ix_graph.specs.declared.graph.Mode.TheVariants.{InPipeline, Tight, Decoupled, Always}
 use Rattle.ix_plan.specs.declared.design.Plan.{Plan}
@@ -99,3 +101,32 @@ pub apart_law : ApartLaw
 apart_law plans n m u h g =
     let none : (k : ℕ) → k ≡ 0 + k = λ k. omega arith in
     apart 0 plans n m u (subst (λ c. unit_after c (slice_get plans n) ≡ Some u) (none _) h) (subst (λ c. unit_after c (slice_get plans m) ≡ Some u) (none _) g)
+
+-- ---- plans one after another
+pub lasts_rest : (plans : List Plan) (i : ℕ) (p : Plan) → i < length plans → p ≡ get_or plans i p →
+    lasts_of (drop i plans) ≡ with_last (is_decoupled p.mode) p.last (lasts_of (drop (i + 1) plans))
+lasts_rest plans i p lt q =
+    ap lasts_of (drop-cons plans i p lt) ∙ ap (λ x. with_last (is_decoupled x.mode) x.last (lasts_of (drop (suc i) plans))) (sym q)
+    ∙ ap (λ k. with_last (is_decoupled p.mode) p.last (lasts_of (drop k plans))) more where
+      more : suc i ≡ i + 1
+      more = omega arith
+
+-- the first plans have no more units than all
+pub lasts_taken : (plans : List Plan) (n : ℕ) → length (lasts_of (take n plans)) ≤ length (lasts_of plans)
+lasts_taken plans zero = omega arith
+lasts_taken [] (suc n) = omega arith
+lasts_taken (p ∷ plans) (suc n) = by_case (is_decoupled p.mode) (lasts_taken plans n) where
+  by_case : (b : Bool) → length (lasts_of (take n plans)) ≤ length (lasts_of plans) →
+      length (with_last b p.last (lasts_of (take n plans))) ≤ length (with_last b p.last (lasts_of plans))
+  by_case true h = omega (arith, h)
+  by_case false h = h
+
+-- ---- the unit of a behaviour, as it is found
+pub unit_past : (plans : List Plan) (n : ℕ) → length plans ≤ n → unit_of plans n ≡ None
+unit_past plans n le = ap (λ o. unit_after (length (lasts_of (take n plans))) o) (slice_get_past plans n le)
+
+pub unit_there : (plans : List Plan) (n : ℕ) (p : Plan) → n < length plans → p ≡ get_or plans n p →
+    unit_of plans n ≡ (if is_decoupled p.mode then Some (length (lasts_of (take n plans))) else None)
+unit_there plans n p lt q =
+    ap (λ o. unit_after (length (lasts_of (take n plans))) o) (slice_get-get_or plans n p lt)
+    ∙ ap (λ x. if is_decoupled x.mode then Some (length (lasts_of (take n plans))) else None) (sym q)
