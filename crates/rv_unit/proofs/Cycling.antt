@@ -8,7 +8,9 @@ use Rattle.rv_unit.specs.declared.survey.Survey.{Survey}
 use Rattle.rv_unit.specs.Entries.{last_time, is_finished, has_finished, writer, is_number, is_frozen, does_write, written_among, written_entry, unit_and_serial, moved, cons_unless, stepped, entered, next_entries}
 use Rattle.rv_unit.specs.Timed.{AreUnits, IsEntry, IsBehind, IsTimed, CanEnter, room}
 use Rattle.rv_unit.specs.Surveys.{IsSurvey, is_frozen_by, moved_by, HasNext, staying, IsWrittenAt, IsWrittenPlace}
-use Rattle.rv_unit.proofs.Finishing.{none_finished, writer_finished, finished_below, nothing_written, same_test}
+use Rattle.rv_unit.proofs.Finishing.{none_finished, writer_finished, finished_below, nothing_written, same_test, has_serial_at, written_serial}
+use Rattle.rv_unit.specs.Slots.{serial_at}
+use Rattle.ix_plan.specs.Units.{has_some, with_unit}
 use Rattle.rv_unit.proofs.Moving.{writes_alone, timed_law}
 use Rattle.rv_unit.proofs.Fewer.{room_law}
 use Rattle.rv_unit.proofs.Surveying.{frozen_found}
@@ -190,3 +192,38 @@ writer_none lasts all = (λ h u. none_finished lasts u all h, λ h. by_case (wri
   by_case : (o : Option ℕ) → writer lasts all ≡ o → ((u : ℕ) → has_finished lasts u all ≡ false) → o ≡ None
   by_case None q h = refl
   by_case (Some w) q h = (let f = writer_finished lasts w all q in let n = h w in cc)
+
+-- ---- one row
+pub row_gone : (stages : ℕ) (lasts : List ℕ) (all taken gone : List Entry) (s : Survey) → AreUnits stages lasts → IsTimed stages lasts all →
+    IsSurvey lasts all s → taken ≡ staying lasts all all → gone ≡ map (moved_by s) taken → gone ≡ stepped lasts all all
+row_gone stages lasts all taken gone s units t h q r = r ∙ ap (λ l. map (moved_by s) l) q ∙ moved_found lasts all s stages all h units.few t
+
+pub survey_below : (stages : ℕ) (lasts : List ℕ) (all : List Entry) (s : Survey) → IsTimed stages lasts all → IsSurvey lasts all s →
+    IfSome s.granted (λ w. w < length lasts)
+survey_below stages lasts all s t h = subst (λ o. IfSome o (λ w. w < length lasts)) (sym h.granted) (writer_below stages lasts all t)
+
+-- what is told of the entry that writes is of a unit, and is none where no unit has a finished one
+pub written_below : (stages : ℕ) (lasts : List ℕ) (all : List Entry) → IsTimed stages lasts all →
+    IfSome (unit_and_serial (written_entry lasts all)) (λ w. w.0 < length lasts)
+written_below stages lasts all t = by_list all t where
+  by_list : (l : List Entry) → IsTimed stages lasts l → IfSome (unit_and_serial (written_among lasts all l)) (λ w. w.0 < length lasts)
+  by_list [] t = tt
+  by_list (e ∷ l) t = by_case (does_write lasts all e) (by_list l t.2) where
+    by_case : (b : Bool) → IfSome (unit_and_serial (written_among lasts all l)) (λ w. w.0 < length lasts) →
+        IfSome (unit_and_serial (if b then Some e else written_among lasts all l)) (λ w. w.0 < length lasts)
+    by_case true ih = t.0.below
+    by_case false ih = ih
+
+pub written_none : (lasts : List ℕ) (all : List Entry) → (unit_and_serial (written_entry lasts all) ≡ None) ↔ ((u : ℕ) → has_finished lasts u all ≡ false)
+written_none lasts all = (
+  λ h. (writer_none lasts all).0 (by_case (writer lasts all) refl h),
+  λ h. ap unit_and_serial (nothing_written lasts all all ((writer_none lasts all).1 h)),
+) where
+  some : (w : ℕ) (o : Option ℕ) → has_some o ≡ true → with_unit w o None ≡ None → ⊥
+  some w None f h = cc
+  some w (Some s) f h = cc
+
+  by_case : (o : Option ℕ) → writer lasts all ≡ o → unit_and_serial (written_entry lasts all) ≡ None → o ≡ None
+  by_case None q h = refl
+  by_case (Some w) q h =
+      absurd (some w (serial_at w (last_time lasts w) all) (has_serial_at lasts w all ∙ writer_finished lasts w all q) (sym (written_serial lasts all w all q) ∙ h))

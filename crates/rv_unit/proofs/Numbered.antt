@@ -130,3 +130,8 @@ pub unit_there : (plans : List Plan) (n : ℕ) (p : Plan) → n < length plans �
 unit_there plans n p lt q =
     ap (λ o. unit_after (length (lasts_of (take n plans))) o) (slice_get-get_or plans n p lt)
     ∙ ap (λ x. if is_decoupled x.mode then Some (length (lasts_of (take n plans))) else None) (sym q)
+
+pub unit_found : (plans : List Plan) (n count : ℕ) (p : Plan) → n < length plans → p ≡ get_or plans n p → is_decoupled p.mode ≡ true →
+    count ≡ length (lasts_of (take n plans)) → Some count ≡ unit_of plans n
+unit_found plans n count p lt q d e =
+    ap Some e ∙ sym (unit_there plans n p lt q ∙ ap (λ b. if b then Some (length (lasts_of (take n plans))) else None) d)

@@ -9,7 +9,7 @@ use Rattle.rv_unit.specs.Entries.{last_time, is_finished, has_finished, lower, w
 use Rattle.rv_unit.specs.Surveys.{IsSurvey, is_frozen_by}
 
 -- ---- nothing is found at first
-pub none_anywhere : (m n : ℕ) → slice_index_or (replicate m (None {A = ℕ})) n None ≡ None
+pub none_anywhere : (m n : ℕ) → slice_index_or {A = Option ℕ} (replicate m None) n None ≡ None
 none_anywhere zero n = refl
 none_anywhere (suc m) zero = refl
 none_anywhere (suc m) (suc n) = none_anywhere m n

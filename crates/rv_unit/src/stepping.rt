@@ -1,7 +1,7 @@
 ghost use Rattle.std.specs.Prelude.{◌≡◌, ◌==◌, ◌&&◌, ℕ, ◌+◌, ◌<◌, ◌≤◌, ◌++◌, All, Some, length, map, IfSome, vec_capacity};
-ghost use Rattle.rv_unit.specs.Entries.{writer, written_entry, unit_and_serial, entered};
-ghost use Rattle.rv_unit.specs.Timed.{IsTimed};
-ghost use Rattle.rv_unit.specs.Surveys.{HasNext, IsWrittenPlace, moved_by, staying};
+ghost use Rattle.rv_unit.specs.Entries.{writer, written_entry, unit_and_serial, entered, next_entries};
+ghost use Rattle.rv_unit.specs.Timed.{IsTimed, CanEnter};
+ghost use Rattle.rv_unit.specs.Surveys.{HasNext, IsWrittenPlace, AreKept, moved_by, staying};
 
 use crate::entry::Entry;
 use crate::survey::Survey;
@@ -29,7 +29,7 @@ fn is_at(entry: Entry, unit: u8, time: u8) -> bool
 }
 
 /// Takes the entry that writes, and tells its unit and serial.
-pub fn take_written(
+fn take_written(
     lasts: &[u8],
     entries: &mut Vec<Entry>,
     granted: Option<u8>,
@@ -53,7 +53,7 @@ pub fn take_written(
 }
 
 /// Lets each entry go one time on, unless its unit is frozen.
-pub fn go_on(entries: &mut [Entry], found: &Survey)
+fn go_on(entries: &mut [Entry], found: &Survey)
     requires { All HasNext entries.old }
     ensures { entries.new ≡ map (moved_by found.now) entries.old }
 {
@@ -79,8 +79,17 @@ fn moved(entry: Entry, found: &Survey) -> Entry
     }
 }
 
+/// The same, of a vector.
+fn let_all_go_on(entries: &mut Vec<Entry>, found: &Survey)
+    requires { All HasNext entries.old.items }
+    ensures items { entries.new.items ≡ map (moved_by found.now) entries.old.items }
+    ensures capacity { vec_capacity entries.new ≡ vec_capacity entries.old }
+{
+    go_on(entries.as_mut_slice(), found);
+}
+
 /// Puts what enters, if anything, before all others, into reserved room.
-pub fn put_first(entries: &mut Vec<Entry>, stages: u8, enter: Option<(u8, u32)>)
+fn put_first(entries: &mut Vec<Entry>, stages: u8, enter: Option<(u8, u32)>)
     requires { length (entered stages enter ++ entries.old.items) ≤ vec_capacity entries.old }
     ensures items { entries.new.items ≡ entered stages enter ++ entries.old.items }
     ensures capacity { vec_capacity entries.new ≡ vec_capacity entries.old }
@@ -93,4 +102,24 @@ pub fn put_first(entries: &mut Vec<Entry>, stages: u8, enter: Option<(u8, u32)>)
         };
         entries.insert(0, entry).unwrap();
     }
+}
+
+/// One row: takes the entry that writes, lets all others go on and puts in what enters. Takes no memory.
+pub fn one_row(
+    stages: u8,
+    lasts: &[u8],
+    entries: &mut Vec<Entry>,
+    found: &Survey,
+    enter: Option<(u8, u32)>,
+) -> Option<(u8, u32)>
+    requires kept { AreKept (record { stages = stages; lasts = lasts.now; entries = entries.old.items }) found.now (vec_capacity entries.old) }
+    requires enters { CanEnter lasts.now entries.old.items enter }
+    ensures written { result ≡ unit_and_serial (written_entry lasts.now entries.old.items) }
+    ensures entries { entries.new.items ≡ next_entries stages lasts.now enter entries.old.items }
+    ensures capacity { vec_capacity entries.new ≡ vec_capacity entries.old }
+{
+    let written = take_written(lasts, entries, found.granted);
+    let_all_go_on(entries, found);
+    put_first(entries, stages, enter);
+    written
 }

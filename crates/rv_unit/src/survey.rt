@@ -6,6 +6,7 @@ ghost use Rattle.rv_unit.specs.Surveys.{IsSurvey, is_frozen_by};
 use crate::entry::Entry;
 
 /// What is found once a row of the entries.
+#[derive(Clone, Copy)]
 pub struct Survey {
     /// The unit that writes: the lowest with an entry at its last time.
     pub granted: Option<u8>,

@@ -5,7 +5,7 @@ ghost use Rattle.rv_unit.specs.Timed.{AreUnits, IsTimed, CanEnter, room};
 
 use crate::entry::Entry;
 use crate::numbering::lasts_of;
-use crate::stepping::{go_on, put_first, take_written};
+use crate::stepping::one_row;
 use crate::survey::{Survey, nothing, survey_of};
 use ix_bits::Memory;
 use ix_plan::Design;
@@ -86,10 +86,8 @@ impl Units {
         if enter.is_none() && self.entries.is_empty() {
             return None;
         }
-        let granted = self.survey.granted;
-        let written = take_written(self.lasts.as_slice(), &mut self.entries, granted);
-        go_on(self.entries.as_mut_slice(), &self.survey);
-        put_first(&mut self.entries, self.stages, enter);
+        let lasts = self.lasts.as_slice();
+        let written = one_row(self.stages, lasts, &mut self.entries, &self.survey, enter);
         self.survey = survey_of(self.lasts.as_slice(), self.entries.as_slice());
         written
     }

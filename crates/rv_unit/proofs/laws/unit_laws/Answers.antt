@@ -2,6 +2,7 @@ use Rattle.rv_unit.proofs.Numbered.{first_law, numbering_law, apart_law}
 use Rattle.rv_unit.proofs.Moving.{timed_law, goes_on_law, leaves_law}
 use Rattle.rv_unit.proofs.Showing.{written_law, frozen_law, next_law}
 use Rattle.rv_unit.proofs.Fewer.{room_law}
+use Rattle.rv_unit.proofs.Cycling.{next_few}
 use Rattle.rv_unit.proofs.laws.unit_laws.Goals as goal
 
 pub returns-clause-first : goal.returns-clause-first
