@@ -6,7 +6,7 @@ use Rattle.rv_unit.specs.declared.entry.Entry.{Entry}
 use Rattle.rv_unit.specs.Entries.{last_time, is_finished, has_finished, writer, is_number, is_frozen, does_write, written_among, written_entry, moved, cons_unless, stepped, entered, next_entries}
 use Rattle.rv_unit.specs.Timed.{AreUnits, IsEntry, IsBehind, IsTimed, CanEnter}
 use Rattle.rv_unit.specs.Slots.{serial_at}
-use Rattle.rv_unit.specs.UnitLaws.{TimedLaw, GoesOnLaw, LeavesLaw, one_later}
+use Rattle.rv_unit.specs.UnitLaws.{TimedLaw, AloneLaw, GoesOnLaw, LeavesLaw, one_later}
 use Rattle.rv_unit.proofs.Finishing.{none_finished, writer_finished, Within, within_rest, not_finished}
 
 -- ---- times stay within the units
@@ -121,6 +121,9 @@ writes_alone stages lasts all e (p ∷ rest) d b t = by_case (does_write lasts a
       let lt = b.0 same in
       let last : last_time lasts p.unit ≡ last_time lasts e.unit = ap (λ u. last_time lasts u) same in
       absurd (omega (arith, of_e.0, of_p.0, lt, last))
+
+pub alone_law : AloneLaw
+alone_law stages lasts all e older t d = writes_alone stages lasts all e older d t.1 t.2
 
 -- where none of them writes they stay as many
 none_leaves : (lasts : List ℕ) (all l : List Entry) → written_among lasts all l ≡ None → length (stepped lasts all l) ≡ length l

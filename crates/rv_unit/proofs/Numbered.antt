@@ -10,7 +10,8 @@ use Rattle.ix_plan.specs.Units.{unit_in, first_units}
 use Rattle.rv_unit.specs.Numbering.{is_decoupled, with_last, lasts_of, unit_after, unit_of}
 use Rattle.rv_unit.specs.Entries.{last_time}
 use Rattle.rv_unit.specs.Slots.{slots_from, units_from, units_of}
-use Rattle.rv_unit.specs.UnitLaws.{FirstLaw, NumberingLaw, ApartLaw}
+use Rattle.rv_unit.specs.UnitLaws.{FirstLaw, NumberingLaw, UnitsLaw, ApartLaw}
+use Rattle.rv_unit.specs.Timed.{AreUnits}
 
 -- ---- at first
 no_slots : (u t n : ℕ) → slots_from u t n [] ≡ replicate n None
@@ -135,3 +136,29 @@ pub unit_found : (plans : List Plan) (n count : ℕ) (p : Plan) → n < length p
     count ≡ length (lasts_of (take n plans)) → Some count ≡ unit_of plans n
 unit_found plans n count p lt q d e =
     ap Some e ∙ sym (unit_there plans n p lt q ∙ ap (λ b. if b then Some (length (lasts_of (take n plans))) else None) d)
+
+-- ---- the units of a design can be
+lasts_few : (plans : List Plan) → length (lasts_of plans) ≤ length plans
+lasts_few [] = omega arith
+lasts_few (p ∷ plans) = by_case (is_decoupled p.mode) (lasts_few plans) where
+  by_case : (b : Bool) → length (lasts_of plans) ≤ length plans → length (with_last b p.last (lasts_of plans)) ≤ suc (length plans)
+  by_case true h = omega (arith, h)
+  by_case false h = omega (arith, h)
+
+-- what holds of the last time of each decoupled plan holds of each unit's
+lasts_each : (P : ℕ → Type 0) (plans : List Plan) → ((n : ℕ) (p : Plan) → slice_get plans n ≡ Some p → is_decoupled p.mode ≡ true → P p.last) →
+    (k d : ℕ) → k < length (lasts_of plans) → P (get_or (lasts_of plans) k d)
+lasts_each P [] h k d lt = absurd (omega arith)
+lasts_each P (p ∷ plans) h k d lt = by_case (is_decoupled p.mode) refl k lt (λ j lt'. lasts_each P plans (λ n. h (suc n)) j d lt') where
+  by_case : (b : Bool) → is_decoupled p.mode ≡ b → (k : ℕ) → k < length (with_last b p.last (lasts_of plans)) →
+      ((j : ℕ) → j < length (lasts_of plans) → P (get_or (lasts_of plans) j d)) → P (get_or (with_last b p.last (lasts_of plans)) k d)
+  by_case true q zero lt ih = h 0 p refl q
+  by_case true q (suc k) lt ih = ih k (omega arith)
+  by_case false q k lt ih = ih k lt
+
+pub units_law : UnitsLaw
+units_law stages plans few h = record {
+  few = (let less = lasts_few plans in omega (arith, less));
+  first = lasts_each (λ last. stages ≤ last) plans (λ n p g q. (h n p g q).0);
+  most = lasts_each (λ last. last ≤ 64) plans (λ n p g q. (h n p g q).1);
+}

@@ -6,6 +6,7 @@ use std::marker::Model;
 
 /// Which registers have an outstanding write, and of which serial. Contracts see the list of the serials: first those of the
 /// 32 registers of the base, then those of the 16 custom ones.
+#[derive(Drop)]
 pub struct Board {
     holders: [Option<u32>; 48],
 }

@@ -13,6 +13,7 @@ use std::alloc::Global;
 use std::marker::Model;
 
 /// The units of a design, and what stands in them. All memory is taken when it is made.
+#[derive(Drop)]
 pub struct Units {
     stages: u8,
     // The last time of each unit.
