@@ -1,6 +1,6 @@
 -- From the entries of a row to those of the next.
 use Rattle.std.proofs.Common.{◌≡◌, ℕ, zero, suc, ◌+◌, ◌<◌, ◌≤◌, ◌≢◌, List, [], ◌∷◌, ◌++◌, length, map, take, drop, Option, Some, None, Bool, true, false, refl, sym, ap, ◌∙◌, subst, arith, All, get_or, set}
-use Rattle.std.specs.Prelude.{◌&&◌, ◌||◌, not, if◌then◌else◌, ◌==◌, ◌↔◌, slice_index_or, slice_set, slice_index, IfSome}
+use Rattle.std.specs.Prelude.{◌&&◌, ◌||◌, not, if◌then◌else◌, ◌==◌, ◌↔◌, slice_index_or, slice_set, slice_index, IfSome, is_some}
 use Rattle.std.proofs.Math.Seq.{drop-cons}
 use Rattle.std.proofs.lemmas.Bool.Decides.{nat_tests}
 use Rattle.rv_unit.specs.declared.entry.Entry.{Entry}
@@ -227,3 +227,12 @@ written_none lasts all = (
   by_case None q h = refl
   by_case (Some w) q h =
       absurd (some w (serial_at w (last_time lasts w) all) (has_serial_at lasts w all ∙ writer_finished lasts w all q) (sym (written_serial lasts all w all q) ∙ h))
+
+-- ---- where nothing stands and nothing enters
+pub nothing_in : (l : List Entry) (n : ℕ) → length l ≡ n → true ≡ (n == 0) → l ≡ []
+nothing_in [] n q h = refl
+nothing_in (e ∷ l) n q h = absurd (grind (arith, nat_tests))
+
+pub nothing_enters : (enter : Option (ℕ × ℕ)) → is_some enter ≡ false → enter ≡ None
+nothing_enters None h = refl
+nothing_enters (Some e) h = cc

@@ -6,7 +6,7 @@ use Rattle.ix_plan.specs.Units.{Slots, finished, with_unit, written_from, unit_w
 use Rattle.rv_unit.specs.declared.entry.Entry.{Entry}
 use Rattle.rv_unit.specs.Entries.{last_time, is_finished, has_finished, writer, is_number, is_frozen, written_among, written_entry, unit_and_serial, moved, stepped, entered, next_entries}
 use Rattle.rv_unit.specs.Timed.{AreUnits, IsEntry, IsBehind, IsTimed, CanEnter}
-use Rattle.rv_unit.specs.Slots.{serial_at, slots_from, units_from, units_of}
+use Rattle.rv_unit.specs.Slots.{serial_at, slots_from, units_from, units_of, unit_named}
 use Rattle.rv_unit.specs.UnitLaws.{WrittenLaw, FrozenLaw, NextLaw}
 use Rattle.rv_unit.proofs.Finishing.{none_finished, writer_finished, writer_least, finished_below, has_serial_at, nothing_written, written_serial}
 use Rattle.rv_unit.proofs.Moving.{first_time, serial_frozen, serial_moved, serial_first}
@@ -113,6 +113,20 @@ written_law stages lasts es units t = by_case (writer lasts es) refl where
   by_case (Some w) h =
       shown w h (serial_at w (last_time lasts w) es) refl (has_serial_at lasts w es ∙ writer_finished lasts w es h)
       ∙ sym (written_serial lasts es w es h)
+
+-- the unit that writes is the one that is shown
+pub shows_writer : (stages : ℕ) (lasts : List ℕ) (es : List Entry) → AreUnits stages lasts → IsTimed stages lasts es →
+    writer lasts es ≡ unit_named (unit_written (units_of stages lasts es))
+shows_writer stages lasts es units t = by_case (writer lasts es) refl ∙ ap unit_named (sym (written_law stages lasts es units t)) where
+  shown : (w : ℕ) (o : Option ℕ) → has_some o ≡ true → Some w ≡ unit_named (with_unit w o None)
+  shown w None f = cc
+  shown w (Some s) f = refl
+
+  by_case : (o : Option ℕ) → writer lasts es ≡ o → o ≡ unit_named (unit_and_serial (written_entry lasts es))
+  by_case None h = ap (λ e. unit_named (unit_and_serial e)) (sym (nothing_written lasts es es h))
+  by_case (Some w) h =
+      shown w (serial_at w (last_time lasts w) es) (has_serial_at lasts w es ∙ writer_finished lasts w es h)
+      ∙ ap unit_named (sym (written_serial lasts es w es h))
 
 -- ---- what is frozen
 -- it is the unit that writes of which is shown that it is written
@@ -260,3 +274,14 @@ next_all stages lasts es enter u (last ∷ ls) units t c r =
 
 pub next_law : NextLaw
 next_law stages lasts es enter units t c = next_all stages lasts es enter 0 lasts units t c (whole lasts)
+
+-- ---- where nothing stands and nothing enters
+pub idle_written : (stages : ℕ) (lasts : List ℕ) (es : List Entry) → AreUnits stages lasts → IsTimed stages lasts es → es ≡ [] →
+    unit_written (units_of stages lasts es) ≡ None
+idle_written stages lasts es units t q = written_law stages lasts es units t ∙ ap (λ l. unit_and_serial (written_entry lasts l)) q
+
+pub idle_next : (stages : ℕ) (lasts : List ℕ) (es : List Entry) (enter : Option (ℕ × ℕ)) → AreUnits stages lasts → IsTimed stages lasts es →
+    CanEnter lasts es enter → es ≡ [] → enter ≡ None → next_units enter (units_of stages lasts es) ≡ units_of stages lasts es
+idle_next stages lasts es enter units t c q r =
+    next_law stages lasts es enter units t c ∙ ap (λ o. units_of stages lasts (next_entries stages lasts o es)) r
+    ∙ ap (λ l. units_of stages lasts (stepped lasts l l)) q ∙ ap (λ l. units_of stages lasts l) (sym q)

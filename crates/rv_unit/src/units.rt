@@ -1,6 +1,8 @@
-ghost use Rattle.std.specs.Prelude.{◌≡◌, ◌↔◌, ℕ, ◌+◌, ◌<◌, ◌≤◌, All, [], None, false, length, IfOk, IfSome};
+ghost use Rattle.std.specs.Prelude.{◌≡◌, ◌↔◌, ℕ, ◌+◌, ◌<◌, ◌≤◌, All, [], Some, None, false, length, slice_get, IfOk, IfSome};
+ghost use Rattle.ix_plan.specs.Units.{Slots, unit_written, frozen_with, next_units};
 ghost use Rattle.rv_unit.specs.Numbering.{lasts_of as specified_lasts_of};
 ghost use Rattle.rv_unit.specs.Entries.{has_finished, writer, is_frozen, written_entry, unit_and_serial, next_entries};
+ghost use Rattle.rv_unit.specs.Slots.{unit_named, units_of};
 ghost use Rattle.rv_unit.specs.Timed.{AreUnits, IsTimed, CanEnter, room};
 
 use crate::entry::Entry;
@@ -62,6 +64,7 @@ impl Units {
         ensures unit { result ≡ writer self.now.lasts self.now.entries }
         ensures below { IfSome result (λ unit. unit < length self.now.lasts) }
         ensures none { (result ≡ None) ↔ ((u : ℕ) → has_finished self.now.lasts u self.now.entries ≡ false) }
+        ensures rule { result ≡ unit_named (unit_written (units_of self.now.stages self.now.lasts self.now.entries)) }
     {
         self.survey.granted
     }
@@ -69,7 +72,8 @@ impl Units {
     /// Whether the unit is frozen in this row: it has an entry at its last time, and does not write.
     pub fn frozen(&self, unit: u8) -> bool
         requires { unit < length self.now.lasts }
-        ensures { result ≡ is_frozen self.now.lasts self.now.entries unit }
+        ensures frozen { result ≡ is_frozen self.now.lasts self.now.entries unit }
+        ensures rule { (slots : Slots) → slice_get (units_of self.now.stages self.now.lasts self.now.entries) unit ≡ Some slots → frozen_with unit slots (unit_written (units_of self.now.stages self.now.lasts self.now.entries)) ≡ result }
     {
         self.survey.is_frozen(unit)
     }
@@ -83,6 +87,8 @@ impl Units {
         ensures entries { self.new.entries ≡ next_entries self.old.stages self.old.lasts enter self.old.entries }
         ensures lasts { self.new.lasts ≡ self.old.lasts }
         ensures stages { self.new.stages ≡ self.old.stages }
+        ensures rule_written { unit_written (units_of self.old.stages self.old.lasts self.old.entries) ≡ result }
+        ensures rule_next { next_units enter (units_of self.old.stages self.old.lasts self.old.entries) ≡ units_of self.new.stages self.new.lasts self.new.entries }
     {
         if enter.is_none() && self.entries.is_empty() {
             return None;
