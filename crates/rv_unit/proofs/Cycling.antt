@@ -1,13 +1,13 @@
 -- From the entries of a row to those of the next.
-use Rattle.std.proofs.Common.{◌≡◌, ℕ, zero, suc, ◌+◌, ◌<◌, ◌≤◌, ◌≢◌, List, [], ◌∷◌, ◌++◌, length, map, take, drop, Option, Some, None, Bool, true, false, refl, sym, ap, ◌∙◌, subst, arith, All, get_or, set}
-use Rattle.std.specs.Prelude.{◌&&◌, ◌||◌, not, if◌then◌else◌, ◌==◌, ◌↔◌, slice_index_or, slice_set, slice_index, IfSome, is_some}
+use Rattle.std.proofs.Common.{◌≡◌, ℕ, zero, suc, ◌+◌, ◌<◌, ◌≤◌, List, [], ◌∷◌, ◌++◌, length, map, take, drop, Option, Some, None, Bool, true, false, refl, sym, ap, ◌∙◌, subst, arith, All, get_or, set}
+use Rattle.std.specs.Prelude.{◌&&◌, if◌then◌else◌, ◌==◌, ◌↔◌, IfSome, is_some}
 use Rattle.std.proofs.Math.Seq.{drop-cons}
 use Rattle.std.proofs.lemmas.Bool.Decides.{nat_tests}
 use Rattle.rv_unit.specs.declared.entry.Entry.{Entry}
 use Rattle.rv_unit.specs.declared.survey.Survey.{Survey}
-use Rattle.rv_unit.specs.Entries.{last_time, is_finished, has_finished, writer, is_number, is_frozen, does_write, written_among, written_entry, unit_and_serial, moved, cons_unless, stepped, entered, next_entries}
-use Rattle.rv_unit.specs.Timed.{AreUnits, IsEntry, IsBehind, IsTimed, CanEnter, room}
-use Rattle.rv_unit.specs.Surveys.{IsSurvey, is_frozen_by, moved_by, HasNext, staying, IsWrittenAt, IsWrittenPlace}
+use Rattle.rv_unit.specs.Entries.{last_time, is_finished, has_finished, writer, is_number, is_frozen, does_write, written_among, written_entry, unit_and_serial, moved, cons_unless, stepped, next_entries}
+use Rattle.rv_unit.specs.Timed.{AreUnits, IsEntry, IsTimed, CanEnter, room}
+use Rattle.rv_unit.specs.Surveys.{IsSurvey, is_frozen_by, moved_by, HasNext, staying, IsWrittenAt}
 use Rattle.rv_unit.proofs.Finishing.{none_finished, writer_finished, finished_below, nothing_written, same_test, has_serial_at, written_serial}
 use Rattle.rv_unit.specs.Slots.{serial_at}
 use Rattle.ix_plan.specs.Units.{has_some, with_unit}
@@ -105,7 +105,7 @@ pub stays_without : (stages : ℕ) (lasts : List ℕ) (all : List Entry) (k : �
 stays_without stages lasts all k d t h =
     let lt = h.below in
     let timed : IsTimed stages lasts (get_or all k d ∷ drop (k + 1) all) =
-        subst (λ l. IsTimed stages lasts l) (at_drop all k d lt) (timed_drop stages lasts all k t) in
+    subst (λ l. IsTimed stages lasts l) (at_drop all k d lt) (timed_drop stages lasts all k t) in
     let writes = written_writes lasts all all (get_or all k d) (h.written d) in
     h.others ∙ ap (λ l. take k all ++ l)
     (none_stays lasts all (drop (k + 1) all) (writes_alone stages lasts all (get_or all k d) (drop (k + 1) all) writes timed.1 timed.2))
@@ -132,15 +132,15 @@ pub moved_found : (lasts : List ℕ) (all : List Entry) (s : Survey) (stages : �
 moved_found lasts all s stages [] h few t = refl
 moved_found lasts all s stages (e ∷ l) h few t =
     by_case (does_write lasts all e) (is_frozen_by s e.unit) (frozen_found lasts all s e.unit h within) (moved_found lasts all s stages l h few t.2) where
-  within : e.unit < 72
-  within = (let lt = t.0.below in omega (arith, lt))
+      within : e.unit < 72
+      within = (let lt = t.0.below in omega (arith, lt))
 
-  by_case : (b f : Bool) → f ≡ is_frozen lasts all e.unit → map (moved_by s) (staying lasts all l) ≡ stepped lasts all l →
-      map (moved_by s) (cons_unless b e (staying lasts all l)) ≡ cons_unless b (moved lasts all e) (stepped lasts all l)
-  by_case true f q ih = ih
-  by_case false f q ih =
-      ap (λ g. record { serial = e.serial; unit = e.unit; time = if g then e.time else suc e.time } ∷ map (moved_by s) (staying lasts all l)) (frozen_found lasts all s e.unit h within)
-      ∙ ap (λ r. moved lasts all e ∷ r) ih
+      by_case : (b f : Bool) → f ≡ is_frozen lasts all e.unit → map (moved_by s) (staying lasts all l) ≡ stepped lasts all l →
+          map (moved_by s) (cons_unless b e (staying lasts all l)) ≡ cons_unless b (moved lasts all e) (stepped lasts all l)
+      by_case true f q ih = ih
+      by_case false f q ih =
+          ap (λ g. record { serial = e.serial; unit = e.unit; time = if g then e.time else suc e.time } ∷ map (moved_by s) (staying lasts all l)) (frozen_found lasts all s e.unit h within)
+          ∙ ap (λ r. moved lasts all e ∷ r) ih
 
 -- ---- entries by their number
 pub each_entry : (stages : ℕ) (lasts : List ℕ) (l : List Entry) → IsTimed stages lasts l → (k : ℕ) (d : Entry) → k < length l → IsEntry stages lasts (get_or l k d)

@@ -9,9 +9,8 @@ use Rattle.ix_plan.specs.declared.design.Plan.{Plan}
 use Rattle.ix_plan.specs.Units.{unit_in, first_units}
 use Rattle.rv_unit.specs.Numbering.{is_decoupled, with_last, lasts_of, unit_after, unit_of}
 use Rattle.rv_unit.specs.Entries.{last_time}
-use Rattle.rv_unit.specs.Slots.{slots_from, units_from, units_of}
+use Rattle.rv_unit.specs.Slots.{slots_from, units_from}
 use Rattle.rv_unit.specs.UnitLaws.{FirstLaw, NumberingLaw, UnitsLaw, ApartLaw}
-use Rattle.rv_unit.specs.Timed.{AreUnits}
 
 -- ---- at first
 no_slots : (u t n : ℕ) → slots_from u t n [] ≡ replicate n None
@@ -47,7 +46,7 @@ numbered before (q ∷ plans) zero u p h g = by_case (is_decoupled q.mode) h whe
 numbered before (q ∷ plans) (suc n) u p h g = by_case (is_decoupled q.mode) h (λ c h'. numbered c plans n u p h' g) where
   by_case : (b : Bool) → unit_after (before + length (with_last b q.last (lasts_of (take n plans)))) (slice_get plans n) ≡ Some u →
       ((c : ℕ) → unit_after (c + length (lasts_of (take n plans))) (slice_get plans n) ≡ Some u →
-          (v : ℕ) × (u ≡ c + v) × (v < length (lasts_of plans)) × (last_time (lasts_of plans) v ≡ p.last)) →
+      (v : ℕ) × (u ≡ c + v) × (v < length (lasts_of plans)) × (last_time (lasts_of plans) v ≡ p.last)) →
       (v : ℕ) × (u ≡ before + v) × (v < length (with_last b q.last (lasts_of plans))) × (last_time (with_last b q.last (lasts_of plans)) v ≡ p.last)
   by_case true h ih =
       let more : before + suc (length (lasts_of (take n plans))) ≡ suc before + length (lasts_of (take n plans)) = omega arith in
@@ -92,7 +91,7 @@ apart before (q ∷ plans) (suc n) (suc m) u h g = ap suc (by_case (is_decoupled
   by_case : (b : Bool) → unit_after (before + length (with_last b q.last (lasts_of (take n plans)))) (slice_get plans n) ≡ Some u →
       unit_after (before + length (with_last b q.last (lasts_of (take m plans)))) (slice_get plans m) ≡ Some u →
       ((c : ℕ) → unit_after (c + length (lasts_of (take n plans))) (slice_get plans n) ≡ Some u →
-          unit_after (c + length (lasts_of (take m plans))) (slice_get plans m) ≡ Some u → n ≡ m) → n ≡ m
+      unit_after (c + length (lasts_of (take m plans))) (slice_get plans m) ≡ Some u → n ≡ m) → n ≡ m
   by_case true h g ih =
       let more : (k : ℕ) → before + suc k ≡ suc before + k = λ k. omega arith in
       ih (suc before) (subst (λ c. unit_after c (slice_get plans n) ≡ Some u) (more _) h) (subst (λ c. unit_after c (slice_get plans m) ≡ Some u) (more _) g)

@@ -1,5 +1,5 @@
 -- The one list of entries against the units of a design, and what a bound on rows needs of it (this project's choice).
-use Rattle.std.specs.Prelude.{◌≡◌, ◌≢◌, ℕ, suc, ◌+◌, ◌<◌, ◌≤◌, Bool, true, false, List, [], ◌∷◌, length, map, Option, Some, None, slice_get}
+use Rattle.std.specs.Prelude.{◌≡◌, ◌≢◌, ℕ, suc, ◌+◌, ◌<◌, ◌≤◌, true, false, List, [], ◌∷◌, length, map, Option, Some, None, slice_get}
 use Rattle.ix_plan.specs.declared.design.Plan.{Plan}
 use Rattle.ix_plan.specs.declared.design.Target.{Target}
 use Rattle.ix_plan.specs.Units.{Slots, unit_written, frozen_with, next_units, first_units}

@@ -29,11 +29,7 @@ fn is_at(entry: Entry, unit: u8, time: u8) -> bool
 }
 
 /// Takes the entry that writes, and tells its unit and serial.
-fn take_written(
-    lasts: &[u8],
-    entries: &mut Vec<Entry>,
-    granted: Option<u8>,
-) -> Option<(u8, u32)>
+fn take_written(lasts: &[u8], entries: &mut Vec<Entry>, granted: Option<u8>) -> Option<(u8, u32)>
     requires granted { granted ≡ writer lasts.now entries.old.items }
     requires below { IfSome granted (λ unit. unit < length lasts.now) }
     ensures written { result ≡ unit_and_serial (written_entry lasts.now entries.old.items) }

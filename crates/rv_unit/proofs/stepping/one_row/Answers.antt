@@ -1,8 +1,6 @@
-use Rattle.std.proofs.Common.{◌≡◌, ◌≤◌, ◌++◌, ◌∙◌, List, All, length, sym, ap, subst, arith}
-use Rattle.rv_unit.specs.declared.entry.Entry.{Entry}
-use Rattle.rv_unit.specs.Entries.{entered, stepped, next_entries}
-use Rattle.rv_unit.specs.Timed.{room}
-use Rattle.rv_unit.specs.Surveys.{HasNext, staying}
+use Rattle.std.proofs.Common.{◌++◌, ◌∙◌, All, length, sym, ap, subst, arith}
+use Rattle.rv_unit.specs.Entries.{entered}
+use Rattle.rv_unit.specs.Surveys.{HasNext}
 use Rattle.rv_unit.proofs.Cycling.{row_gone, survey_below, staying_next, next_few}
 use Rattle.rv_unit.proofs.stepping.one_row.Goals as goal
 
@@ -25,7 +23,7 @@ put_first-requires c =
     let all = c.args.entries.now.items in
     let kept = c.requires.kept in
     let gone = row_gone stages lasts all c.take_written-written.new.entries.items c.let_all_go_on.new.entries.items c.args.found.now kept.units kept.timed kept.survey
-        (c.take_written-written.ensures.entries stages kept.timed) c.let_all_go_on.ensures.items in
+    (c.take_written-written.ensures.entries stages kept.timed) c.let_all_go_on.ensures.items in
     let few = next_few stages lasts all c.args.enter kept.units kept.timed c.requires.enters in
     let places = kept.capacity in
     let same = ap (λ l. length (entered stages c.args.enter ++ l)) gone in
@@ -39,5 +37,5 @@ returns-clause-entries c =
     let all = c.args.entries.now.items in
     let kept = c.requires.kept in
     let gone = row_gone stages lasts all c.take_written-written.new.entries.items c.let_all_go_on.new.entries.items c.args.found.now kept.units kept.timed kept.survey
-        (c.take_written-written.ensures.entries stages kept.timed) c.let_all_go_on.ensures.items in
+    (c.take_written-written.ensures.entries stages kept.timed) c.let_all_go_on.ensures.items in
     c.put_first.ensures.items ∙ ap (λ l. entered stages c.args.enter ++ l) gone

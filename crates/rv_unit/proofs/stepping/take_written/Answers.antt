@@ -1,5 +1,5 @@
 use Rattle.std.proofs.Common.{◌≡◌, ◌∙◌, sym, ap, subst, None}
-use Rattle.rv_unit.specs.Entries.{writer, written_entry, unit_and_serial}
+use Rattle.rv_unit.specs.Entries.{written_entry, unit_and_serial}
 use Rattle.rv_unit.specs.Surveys.{IsWrittenAt}
 use Rattle.rv_unit.proofs.Finishing.{nothing_written}
 use Rattle.rv_unit.proofs.Cycling.{none_stays, stays_without}

@@ -19,7 +19,7 @@ returns-clause-none c =
     let s = c.self.inside in
     subst (λ v. (s.survey.granted ≡ None) ↔ ((u : ℕ) → has_finished v.lasts u v.entries ≡ false)) c.self.view_is
     (subst (λ o. (o ≡ None) ↔ ((u : ℕ) → has_finished s.lasts.items u s.entries.items ≡ false)) (sym c.self.invariant.survey.granted)
-        (writer_none s.lasts.items s.entries.items))
+    (writer_none s.lasts.items s.entries.items))
 
 pub returns-clause-rule : goal.returns-clause-rule
 returns-clause-rule c =
