@@ -1,4 +1,5 @@
-ghost use Rattle.std.specs.Prelude.{◌≡◌, ◌<◌, ℕ, true, None, slice_index_or, is_some};
+ghost use Rattle.std.specs.Prelude.{◌≡◌, ◌≢◌, ◌<◌, ℕ, true, Some, None, length, slice_index_or, is_some};
+ghost use Rattle.ix_plan.specs.declared.design.Target.{Target};
 ghost use Rattle.rv_unit.specs.Reservations.{IsTarget, target_number, holder_of, reserved, freed};
 
 use ix_plan::Target;
@@ -24,7 +25,8 @@ impl Model for Board {
 impl Board {
     /// All registers are free.
     pub fn new() -> Board
-        ensures { (n : ℕ) → slice_index_or result n None ≡ None }
+        ensures free { (n : ℕ) → slice_index_or result n None ≡ None }
+        ensures whole { length result ≡ 48 }
     {
         Board {
             holders: [None; 48],
@@ -35,7 +37,9 @@ impl Board {
     pub fn reserve(&mut self, target: Target, serial: u32)
         requires target { IsTarget target }
         requires free { holder_of self.old target ≡ None }
-        ensures { self.new ≡ reserved self.old target serial }
+        ensures board { self.new ≡ reserved self.old target serial }
+        ensures held { holder_of self.new target ≡ Some serial }
+        ensures others { (other : Target) → IsTarget other → other ≢ target → holder_of self.new other ≡ holder_of self.old other }
     {
         self.holders[place(target)] = Some(serial);
     }
@@ -44,7 +48,9 @@ impl Board {
     pub fn free(&mut self, target: Target)
         requires target { IsTarget target }
         requires reserved { is_some (holder_of self.old target) ≡ true }
-        ensures { self.new ≡ freed self.old target }
+        ensures board { self.new ≡ freed self.old target }
+        ensures free { holder_of self.new target ≡ None }
+        ensures others { (other : Target) → IsTarget other → other ≢ target → holder_of self.new other ≡ holder_of self.old other }
     {
         self.holders[place(target)] = None;
     }
