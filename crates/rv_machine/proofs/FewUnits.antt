@@ -1,8 +1,8 @@
 -- A design that stands has few behaviours, and so few units.
-use Rattle.std.proofs.Common.{◌≡◌, ◌∙◌, refl, ap, ℕ, zero, suc, ◌+◌, ◌≤◌, List, [], ◌∷◌, ◌++◌, length, map, Bool, true, false, arith}
+use Rattle.std.proofs.Common.{◌≡◌, refl, ap, ℕ, zero, suc, ◌+◌, ◌≤◌, List, [], ◌∷◌, length, map, Bool, true, false, arith}
 use Rattle.std.specs.List.{range_with_len}
 use Rattle.std.proofs.lemmas.List.{length-append, length-map}
-use Rattle.ix_extension.specs.Extensions.{ExtensionTree, view_extension}
+use Rattle.ix_extension.specs.Extensions.{view_extension}
 use Rattle.ix_behaviour.specs.Laws.{FewLaw}
 use Rattle.ix_plan.specs.declared.design.Plan.{Plan}
 use Rattle.ix_plan.specs.declared.design.Design.{Design}

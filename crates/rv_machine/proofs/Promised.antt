@@ -1,5 +1,5 @@
 -- The rows of a machine keep what is promised of them, where its design stands.
-use Rattle.std.proofs.Common.{◌≡◌, ℕ, ◌+◌, ◌^◌, ◌<◌, ◌≤◌, List, [], ◌∷◌, ◌++◌, Option, Some, None, refl, ap, ◌∙◌, arith, sym}
+use Rattle.std.proofs.Common.{◌≡◌, ℕ, List, [], ◌∷◌, ◌++◌, Option, None, refl, ap, ◌∙◌, arith, sym}
 use Rattle.std.specs.Prelude.{reverse}
 use Rattle.std.specs.List.{flat_map}
 use Rattle.ix_extension.specs.Extensions.{view_extension}
@@ -19,8 +19,6 @@ use Rattle.rv_machine.proofs.Quiet.{outstanding_none}
 use Rattle.rv_lawful.specs.Headline.{Headline}
 use Rattle.rv_lawful.specs.Sight.{EarlyLaw, ExactLaw, KeepsLaw, TailLaw, QuietLaw}
 use Rattle.rv_machine.specs.Running.{AreRows, machine_at}
-use Rattle.rv_machine.specs.DesignText.{IsDesignText}
-use Rattle.rv_machine.specs.LawfulText.{IsLawfulText}
 use Rattle.rv_machine.specs.Promises.{IsInOrder, RowsLaw, TextLaw}
 use Rattle.rv_machine.specs.Placed.{judged, Inv, IsReady}
 use Rattle.rv_machine.proofs.Retiring as R

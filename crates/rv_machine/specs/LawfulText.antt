@@ -1,5 +1,5 @@
 -- The text of lawful rows of a pipeline with an extension (this project's choice): the lines of each row, and the state behind the last one.
-use Rattle.std.specs.Prelude.{◌≡◌, ℕ, ◌≤◌, List, [], ◌++◌, length, reverse, None}
+use Rattle.std.specs.Prelude.{◌≡◌, ℕ, ◌≤◌, List, ◌++◌, length, reverse, None}
 use Rattle.ix_extension.specs.Extensions.{view_extension}
 use Rattle.ix_plan.specs.declared.design.Design.{Design}
 use Rattle.rv_trace.specs.declared.row.Row.{Row}
