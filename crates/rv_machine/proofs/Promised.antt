@@ -30,9 +30,9 @@ use Rattle.rv_machine.proofs.RunWidths.{run_wide}
 
 -- the laws of what a word may see
 pub record Sights : Type 0 where
-  pub early : (d : Design) → Stands d → first_spawning (view_extension d.extension) ≡ None → EarlyLaw d
+  pub early : (d : Design) → Stands d → EarlyLaw d
   pub exact : (d : Design) → Stands d → ExactLaw d
-  pub keeps : (d : Design) → Stands d → first_spawning (view_extension d.extension) ≡ None → KeepsLaw d
+  pub keeps : (d : Design) → Stands d → KeepsLaw d
   pub tails : (d : Design) → Stands d → TailLaw d
   pub quiet : (d : Design) → Stands d → first_spawning (view_extension d.extension) ≡ None → QuietLaw d
 
@@ -51,9 +51,9 @@ ready_of sights d image waits h =
       mem_last = omega (arith, b);
       ex_last = omega (arith, a, b);
       most = law.most;
-      early = sights.early d h.stands h.quiet;
+      early = sights.early d h.stands;
       exact = sights.exact d h.stands;
-      keeps = sights.keeps d h.stands h.quiet;
+      keeps = sights.keeps d h.stands;
       tails = sights.tails d h.stands;
       quiet = sights.quiet d h.stands h.quiet;
       wide = λ p. run_wide formed.0 (view_extension d.extension) image p formed.1;
