@@ -1,5 +1,5 @@
 -- The effects of a behaviour under two inputs, by the operations of its graph.
-use Rattle.std.proofs.Common.{◌≡◌, refl, sym, ap, ◌∙◌, ℕ, ◌^◌, ◌<◌, ◌≤◌, subst, List, map, get_or, Option, Some, None, ℤ}
+use Rattle.std.proofs.Common.{true, false, ◌≡◌, refl, sym, ap, ◌∙◌, ℕ, ◌^◌, ◌<◌, ◌≤◌, subst, List, map, get_or, Option, Some, None, ℤ}
 use Rattle.std.specs.Prelude.{slice_get}
 use Rattle.ix_graph.specs.declared.kind.Kind.TheVariants as k
 use Rattle.ix_graph.specs.declared.graph.Op.{Op}
@@ -13,7 +13,7 @@ use Rattle.ix_mean.specs.Order.{roots}
 use Rattle.ix_mean.specs.Typing.{AreInputs}
 use Rattle.ix_mean.specs.Effects.{start, effect_terms}
 use Rattle.ix_mean.proofs.Effecting.{effect_kept}
-use Rattle.ix_flow.specs.Flows.{AreOpsOf, target_of}
+use Rattle.ix_flow.specs.Flows.{AreOpsOf, target_of, flag_of}
 use Rattle.ix_behaviour.specs.declared.which.Which.{Which}
 use Rattle.ix_behaviour.specs.Behaviours.{HasBehaviour, statement_at, frame_at, targets_at, effect_by_name}
 use Rattle.ix_behaviour.specs.Laws.{TypedBehaviourLaw, BehaviourEffectLaw}
@@ -27,6 +27,8 @@ use Rattle.ix_graphs.specs.Graphed.{IsGraphAt}
 use Rattle.ix_plan.specs.declared.design.Plan.{Plan}
 use Rattle.ix_standing.specs.Standing.{IsPlanned}
 use Rattle.ix_depends.specs.Laws.{DependsLaw, ByExecuteLaw, TimesLaw, UnwrittenLaw}
+use Rattle.ix_spawns.specs.Targets.{RegistersLaw}
+use Rattle.ix_depends.proofs.Unspawned.{memory_unspawned, pc_unspawned, flag_there}
 use Rattle.ix_depends.proofs.Times.{IsEarly, IsEarlyNoLoad, early_closed, load_time, store_time, last_most}
 use Rattle.ix_depends.specs.Depends.{Agrees, IsClosed, value_written, IsSameWhereLow}
 use Rattle.ix_depends.proofs.Agreeing.{target_same, memory_same, reads_same, unwritten}
@@ -83,12 +85,18 @@ by_execute_law typed effects law t x sheet w p i j of has right planned left oth
     same_where_low typed effects t x w of has p.graph.ops planned.graph.ops i j left other (IsEarly p.graph sheet p.mode valid right p.times planned.schedule)
     (IsEarlyNoLoad p.graph sheet p.mode valid right p.times planned.schedule) (early_closed p.graph sheet p.mode valid right p.times planned.schedule i j agree)
 
-pub times_law : ValidLaw → TimesLaw
-times_law law t x sheet w p of has right planned =
+pub times_law : ValidLaw → RegistersLaw → TimesLaw
+times_law law registers t x sheet w p of has right planned =
     let valid = valid_of law t x sheet w p of has planned in
+    let none = registers t x w of has in
+    let flag = flag_there (flag_of (flags_at x w)) p.graph.ops p.graph.spawned in
     record {
       loads = λ k o e is. (load_time p.graph sheet p.mode valid right p.times planned.schedule k o e is).1;
-      stores = λ none k o e is. (store_time p.graph sheet p.mode valid right p.times planned.schedule none k o e is).1;
+      stores = λ k o e is.
+          (store_time p.graph sheet p.mode valid right p.times planned.schedule k o e is
+          (flag k o true planned.graph.flags e ∙ memory_unspawned x w o none (ap target_of is))).1;
+      stays = λ k o e is. flag k o false planned.graph.flags e ∙ memory_unspawned x w o none (ap target_of is);
+      jumps = λ k o e is. flag k o false planned.graph.flags e ∙ pc_unspawned x w o none (ap target_of is);
       last = subst (λ (n : ℕ). n ≤ 64) (sym planned.last) (last_most p.graph sheet p.mode valid right p.times planned.schedule);
     }
 

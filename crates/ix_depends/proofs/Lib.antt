@@ -1,5 +1,6 @@
 mod Agreeing
 mod Blocks
 mod Edges
+mod Unspawned
 mod Times
 mod Depending

@@ -21,7 +21,7 @@ use Rattle.ix_sheet.specs.declared.problem.Node.{Node}
 use Rattle.ix_sheet.specs.declared.sheet.Sheet.{Sheet}
 use Rattle.ix_sheet.specs.Sheets.{IsValidSheet, native_windows_of, window_at}
 use Rattle.ix_sheet.specs.Schedules.{node_at, IsSchedule, IsInWindow, IsAfter}
-use Rattle.ix_sheet.specs.Behaviours.{window_of, window_in, last_if_tight, node_of, latency_of, problem_of, edges_from, IsSpawning}
+use Rattle.ix_sheet.specs.Behaviours.{window_of, window_in, last_if_tight, node_of, latency_of, problem_of, edges_from}
 use Rattle.ix_mean.specs.Meaning.{Inputs}
 use Rattle.ix_ports.specs.Ports.{last_from}
 use Rattle.ix_depends.specs.Depends.{Agrees, IsClosed}
@@ -145,13 +145,6 @@ module _ (g : Graph) (sheet : Sheet) (mode : Mode) (valid : IsValidGraph g) (rig
       let flag : IsFlagOf o (get_or g.spawned k true) = subst (λ (z : Option Bool). IfSome z (IsFlagOf o)) there (valid.spawned k o e) in
       not_true (get_or g.spawned k true) (λ t. never (flag t))
 
-  unspawned : (IsSpawning g → ⊥) → (k : ℕ) (o : Op) → slice_get g.ops k ≡ Some o → get_or g.spawned k true ≡ false
-  unspawned none k o e =
-      let within = slice_get_within g.ops k o e in
-      let flags = valid.flags in
-      let inside : k < length g.spawned = omega (arith, within, flags) in
-      not_true (get_or g.spawned k true) (λ t. none (k, inside, get_or_from_slice_get g.spawned k true true (slice_get-get_or g.spawned k true inside ∙ ap (λ (b : Bool). Some b) t)))
-
   abbrev IsAtExecute : ℕ → Type 0
   IsAtExecute k = (sheet.shape.ex ≤ slice_index times k) × (slice_index times k ≤ sheet.shape.ex)
 
@@ -168,8 +161,8 @@ module _ (g : Graph) (sheet : Sheet) (mode : Mode) (valid : IsValidGraph g) (rig
   load_time k o e is = within_execute k o RdMem e is (no_flag k o e (subst (λ (z : Kind). IsWrite z → ⊥) (sym is) (λ n. n))) (load_window sheet mode right)
 
   -- and so is a store that is not spawned
-  pub store_time : (IsSpawning g → ⊥) → (k : ℕ) (o : Op) → slice_get g.ops k ≡ Some o → o.kind ≡ WrMem → IsAtExecute k
-  store_time none k o e is = within_execute k o WrMem e is (unspawned none k o e) (store_window sheet mode right)
+  pub store_time : (k : ℕ) (o : Op) → slice_get g.ops k ≡ Some o → o.kind ≡ WrMem → get_or g.spawned k true ≡ false → IsAtExecute k
+  store_time k o e is unspawned = within_execute k o WrMem e is unspawned (store_window sheet mode right)
 
   argument_before : (k : ℕ) (o : Op) (n : ℕ) → slice_get g.ops k ≡ Some o → Contains o.args (arg.Op n) → n < k
   argument_before k o n e c = (All-contains (IsArgument g.ops k) o.args (arg.Op n) (valid.ops k o e).arguments c).0

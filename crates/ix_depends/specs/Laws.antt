@@ -1,10 +1,9 @@
 -- Laws on what the effects of behaviours of extensions that break no rule depend on.
-use Rattle.std.specs.Prelude.{◌≡◌, ℕ, ◌≤◌, List, get_or, slice_get, slice_index, Some, None}
+use Rattle.std.specs.Prelude.{◌≡◌, ℕ, ◌≤◌, List, get_or, slice_get, slice_index, slice_index_or, Some, None, false}
 use Rattle.ix_graph.specs.declared.graph.Op.{Op}
-use Rattle.ix_graph.specs.declared.kind.Kind.TheVariants.{RdMem, WrMem}
+use Rattle.ix_graph.specs.declared.kind.Kind.TheVariants.{RdMem, WrMem, WrPC}
 use Rattle.ix_sheet.specs.declared.sheet.Sheet.{Sheet}
 use Rattle.ix_sheet.specs.Sheets.{IsValidSheet}
-use Rattle.ix_sheet.specs.Behaviours.{IsSpawning}
 use Rattle.ix_tree.specs.TypedTrees.{TypedTextTree}
 use Rattle.ix_extension.specs.Extensions.{ExtensionTree}
 use Rattle.ix_extension.specs.WellFormed.{IsOf}
@@ -36,10 +35,12 @@ ByExecuteLaw =
     AreInputs (targets_at x w) i → AreInputs (targets_at x w) j → ((n : ℕ) (o : Op) → slice_get p.graph.ops n ≡ Some o → (o.kind ≡ RdMem → ⊥) → Agrees i j o.kind) →
     IsSameWhereLow x w p.graph.ops i j (IsByExecute sheet p)
 
--- loads are at EX, and so are stores of a behaviour without a spawned write; no time is past 64
+-- loads and stores are at EX, what stores or writes the pc is not spawned, and no time is past 64
 pub record AreTimely (sheet : Sheet) (p : Plan) : Type 0 where
   pub loads : (k : ℕ) (o : Op) → slice_get p.graph.ops k ≡ Some o → o.kind ≡ RdMem → IsByExecute sheet p k
-  pub stores : (IsSpawning p.graph → ⊥) → (k : ℕ) (o : Op) → slice_get p.graph.ops k ≡ Some o → o.kind ≡ WrMem → IsByExecute sheet p k
+  pub stores : (k : ℕ) (o : Op) → slice_get p.graph.ops k ≡ Some o → o.kind ≡ WrMem → IsByExecute sheet p k
+  pub stays : (k : ℕ) (o : Op) → slice_get p.graph.ops k ≡ Some o → o.kind ≡ WrMem → slice_index_or p.graph.spawned k false ≡ false
+  pub jumps : (k : ℕ) (o : Op) → slice_get p.graph.ops k ≡ Some o → o.kind ≡ WrPC → slice_index_or p.graph.spawned k false ≡ false
   pub last : p.last ≤ 64
 
 abbrev pub TimesLaw : Type 0

@@ -2,6 +2,7 @@ ghost use Rattle.ix_depends.specs.Laws.{BlindLaw, ByExecuteLaw, DependsLaw, Time
 
 use ix_behaviour::behaviour_laws;
 use ix_graph_laws::graph_laws;
+use ix_spawns::spawn_laws;
 use ix_typed::form_laws;
 
 /// Laws on what the effects of behaviours depend on: what their operations read; by EX not on what is loaded; and always-blocks on no operand
@@ -16,4 +17,5 @@ pub fn depend_laws()
     form_laws();
     behaviour_laws();
     graph_laws();
+    spawn_laws();
 }

@@ -1,1 +1,2 @@
 pub mod Spawns
+pub mod Targets

@@ -21,6 +21,7 @@ use Rattle.rv_seq.specs.Steps.{of_decoded}
 use Rattle.rv_tried.specs.declared.trial.Trial.{Trial}
 use Rattle.rv_tried.specs.Tried.{tried}
 use Rattle.rv_lawful.specs.Settings.{does_access}
+use Rattle.rv_lawful.specs.Outstanding.{is_register}
 
 -- what is asked of the instruction of a word on the core of the design
 abbrev pub asked : Design → ℕ → Asks
@@ -45,11 +46,11 @@ pub record AreWords (i : State) : Type 0 where
   pub rs2 : i.rs2 < 2 ^ 32
   pub pc : i.pc < 2 ^ 32
 
--- two records that differ at most in rd and in what is written late
+-- two records that differ at most in rd, in what is written late and in what is spawned
 pub record IsEarlyCommit (a : Asks) (c d : Commit) : Type 0 where
   pub store : c.store ≡ d.store
   pub next : a.late ≡ false → c.next ≡ d.next
-  pub customs : (r : ℕ) → get_or a.late_customs r false ≡ false → get_or c.custom r Absent ≡ get_or d.custom r Absent
+  pub customs : (r : ℕ) → get_or a.late_customs r false ≡ false → get_or a.spawned_customs r false ≡ false → get_or c.custom r Absent ≡ get_or d.custom r Absent
 
 -- the same stop, or two such records
 abbrev pub IsEarly : Asks → StepAnswer → StepAnswer → Type 0
@@ -62,7 +63,7 @@ IsEarly a (Stopped stop) (Done c) = ⊥
 abbrev pub state_tried : Design → ℕ → Arch → Trial
 state_tried d word s = tried (view_extension d.extension) (state_at word s) s.mem (decoded_in (view_extension d.extension) word)
 
--- a word tried with what agrees with a state comes to the step of that state, whatever the memory holds, but for rd and late writes; it accesses the memory where that step
+-- a word tried with what agrees with a state comes to the step of that state, whatever the memory holds, but for rd and late and spawned writes; it accesses the memory where that step
 -- does, and the always-blocks write the same
 pub record ComesEarly (d : Design) (word : ℕ) (s : Arch) (i : State) (memory : List ℕ) : Type 0 where
   pub answer : IsEarly (asked d word) (tried (view_extension d.extension) i memory (decoded_in (view_extension d.extension) word)).answer (of_decoded (view_extension d.extension) s word (decoded_in (view_extension d.extension) word))
@@ -86,12 +87,12 @@ ExactLaw d =
     HasWords s → AreWords i → IsSeen (asked d word) word s i → ((asked d word).loads ≡ true → memory ≡ s.mem) →
     ComesExact d word s i memory
 
--- what a record leaves as it was, where the instruction does not ask to write it
+-- what a record leaves as it was, where the instruction does not ask to write it, itself or by `spawn`
 pub record IsKept (a : Asks) (s : Arch) (code : ℕ) (c : Commit) : Type 0 where
   pub at : c.at ≡ s.pc
   pub word : c.word ≡ code
   pub next : (applied c s).pc ≡ c.next
-  pub x : (r : ℕ) → r ≢ a.destination → slice_index (applied c s).x r ≡ slice_index s.x r
+  pub x : (r : ℕ) → r ≢ a.destination → is_register a.spawned r ≡ false → slice_index (applied c s).x r ≡ slice_index s.x r
   pub zero : slice_index (applied c s).x 0 ≡ slice_index s.x 0
   pub customs : (r : ℕ) → get_or a.customs r false ≡ false → get_or c.custom r Absent ≡ Absent
   pub memory : a.stores ≡ false → (applied c s).mem ≡ s.mem

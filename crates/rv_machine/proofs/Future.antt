@@ -241,8 +241,8 @@ done_of (Stopped stop) h = cc
 commit_is : (t : Token) (trial : Trial) (c : Commit) → t.trial ≡ Some trial → trial.answer ≡ Done c → commit_of t ≡ Some c
 commit_is t trial c e h = ap (λ o. tried_commit o) e ∙ ap (λ a. commit_in a) h
 
-early_custom : (a : Asks) (x : StepAnswer) (c d : Commit) (reg : ℕ) (y : StepAnswer) → x ≡ Done c → y ≡ Done d → IsEarly a x y → late_at reg a ≡ false → get_or c.custom reg Absent ≡ get_or d.custom reg Absent
-early_custom a x c d reg y ex ey h n = (subst (λ z. IsEarly a (Done c) z) ey (subst (λ z. IsEarly a z y) ex h)).customs reg n
+early_custom : (a : Asks) (x : StepAnswer) (c d : Commit) (reg : ℕ) (y : StepAnswer) → x ≡ Done c → y ≡ Done d → IsEarly a x y → late_at reg a ≡ false → get_or a.spawned_customs reg false ≡ false → get_or c.custom reg Absent ≡ get_or d.custom reg Absent
+early_custom a x c d reg y ex ey h n s = (subst (λ z. IsEarly a (Done c) z) ey (subst (λ z. IsEarly a z y) ex h)).customs reg n s
 
 module _ (k : Setting) (ready : IsReady k) (r reg : ℕ) (lt : reg < 16) where
   -- what goes out has written its late registers
@@ -287,7 +287,7 @@ module _ (k : Setting) (ready : IsReady k) (r reg : ℕ) (lt : reg < 16) where
       let d = done_of (answer k p) (sym (early_stop t.asks g.0.answer (answer k p) early) ∙ g.2) in
       ap (λ o. get_or (with_writes false t.asks o file) reg zero_bit) (commit_is t g.0 c.0 g.1 c.1)
       ∙ mark_at false t.asks c.0 file reg lt
-      ∙ by_case (late_at reg t.asks) (late_in reg ys) refl refl c.0 d.0 d.1 (λ n. early_custom t.asks g.0.answer c.0 d.0 reg (answer k p) c.1 d.1 early n) where
+      ∙ by_case (late_at reg t.asks) (late_in reg ys) refl refl c.0 d.0 d.1 (λ n. early_custom t.asks g.0.answer c.0 d.0 reg (answer k p) c.1 d.1 early n (ap (λ (a : Asks). get_or a.spawned_customs reg false) here.asks ∙ (ready.quiet.asks t.cell.word).customs reg)) where
         up : (a n : ℕ) → suc (a + n) ≡ a + suc n
         up a n = omega arith
 

@@ -15,7 +15,6 @@ use Rattle.rv_engine.specs.Rows.{going, first_slot}
 use Rattle.rv_machine.specs.Placed.{run, count, expected, IsPlaced, IsPlacedSlot, Placed, IsReady, IsExact}
 use Rattle.rv_machine.specs.Told.{Decided, NoStops}
 use Rattle.rv_machine.proofs.Deciding.{or_else_none_b, is_none_of, if_none, test_eq, test_past, own_none, not_due, no_waiting, waits_operand, waits_late, decided_tail, no_stops_tail}
-use Rattle.rv_machine.proofs.Runs.{answer}
 use Rattle.rv_machine.proofs.Reading.{Read}
 use Rattle.rv_machine.proofs.Operands.{OnPath, on_path, operands_ready}
 use Rattle.rv_machine.proofs.Trying.{late_clear}

@@ -39,6 +39,7 @@ pub mod Telling
 pub mod Trying
 pub mod Quiet
 pub mod Agreeing
+pub mod FewUnits
 pub mod EachRow
 pub mod First
 pub mod GoesOn

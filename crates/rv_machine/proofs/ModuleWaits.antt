@@ -1,6 +1,6 @@
 -- A token that was held for its module waits for the memory no more.
-use Rattle.std.proofs.Common.{◌≡◌, ℕ, zero, suc, ◌+◌, ◌-◌, ◌<◌, ◌≤◌, List, [], ◌∷◌, drop, Option, Some, None, Bool, true, false, refl, sym, ap, ◌∙◌, subst, arith, inl, inr}
-use Rattle.std.specs.Prelude.{◌&&◌, if◌then◌else◌, ◌==◌, is_some, slice_get}
+use Rattle.std.proofs.Common.{◌≡◌, ℕ, suc, ◌+◌, ◌-◌, ◌<◌, List, [], ◌∷◌, drop, Option, Some, None, Bool, true, false, refl, sym, ap, ◌∙◌, subst, arith, inl, inr}
+use Rattle.std.specs.Prelude.{◌&&◌, if◌then◌else◌, ◌==◌, slice_get}
 use Rattle.std.proofs.lemmas.Bool.{cases_lt}
 use Rattle.std.proofs.lemmas.Bool.Decides.{nat_tests}
 use Rattle.rv_seq.specs.Steps.{word_at}
@@ -16,7 +16,7 @@ use Rattle.rv_holds.specs.Tokens.{Slots, makes_access}
 use Rattle.rv_engine.specs.Settings.{Setting, Machine, shape_of}
 use Rattle.rv_engine.specs.Rows.{fill_first, new_by, loaded_by, seen_by, IsRowOf}
 use Rattle.rv_lawful.specs.Settings.{accesses_before, stages_of, stood, is_tail, has_tail, tailed}
-use Rattle.rv_lawful.specs.LawfulTrace.{WaitsForMemory, LawfulRow, Lawful}
+use Rattle.rv_lawful.specs.LawfulTrace.{WaitsForMemory, Lawful}
 use Rattle.rv_machine.specs.Placed.{judged, count, Placed, IsReady, Inv}
 use Rattle.rv_machine.specs.Told.{Told}
 use Rattle.rv_machine.proofs.Places.{place_same}

@@ -1,6 +1,7 @@
 -- The rows of a machine keep what is promised of them, where its design stands.
-use Rattle.std.proofs.Common.{◌≡◌, ℕ, ◌+◌, ◌^◌, ◌<◌, ◌≤◌, List, [], ◌∷◌, ◌++◌, Option, Some, None, refl, ap, ◌∙◌, arith, sym}
+use Rattle.std.proofs.Common.{◌≡◌, ℕ, List, [], ◌∷◌, ◌++◌, Option, None, refl, ap, ◌∙◌, arith, sym}
 use Rattle.std.specs.Prelude.{reverse}
+use Rattle.std.specs.List.{flat_map}
 use Rattle.ix_extension.specs.Extensions.{view_extension}
 use Rattle.ix_plan.specs.declared.design.Design.{Design}
 use Rattle.ix_spawns.specs.Spawns.{first_spawning}
@@ -13,12 +14,11 @@ use Rattle.rv_trace.specs.TraceText.{trace_text}
 use Rattle.rv_text.specs.RunText.{state_text}
 use Rattle.rv_engine.specs.Settings.{Setting, setting, tree_of}
 use Rattle.rv_engine.specs.Rows.{arch_after}
-use Rattle.rv_lawful.specs.Outstanding.{architecture}
+use Rattle.rv_lawful.specs.Outstanding.{Decoupled, owed_targets, architecture}
+use Rattle.rv_machine.proofs.Quiet.{outstanding_none}
 use Rattle.rv_lawful.specs.Headline.{Headline}
 use Rattle.rv_lawful.specs.Sight.{EarlyLaw, ExactLaw, KeepsLaw, TailLaw, QuietLaw}
 use Rattle.rv_machine.specs.Running.{AreRows, machine_at}
-use Rattle.rv_machine.specs.DesignText.{IsDesignText}
-use Rattle.rv_machine.specs.LawfulText.{IsLawfulText}
 use Rattle.rv_machine.specs.Promises.{IsInOrder, RowsLaw, TextLaw}
 use Rattle.rv_machine.specs.Placed.{judged, Inv, IsReady}
 use Rattle.rv_machine.proofs.Retiring as R
@@ -30,9 +30,9 @@ use Rattle.rv_machine.proofs.RunWidths.{run_wide}
 
 -- the laws of what a word may see
 pub record Sights : Type 0 where
-  pub early : (d : Design) → Stands d → first_spawning (view_extension d.extension) ≡ None → EarlyLaw d
+  pub early : (d : Design) → Stands d → EarlyLaw d
   pub exact : (d : Design) → Stands d → ExactLaw d
-  pub keeps : (d : Design) → Stands d → first_spawning (view_extension d.extension) ≡ None → KeepsLaw d
+  pub keeps : (d : Design) → Stands d → KeepsLaw d
   pub tails : (d : Design) → Stands d → TailLaw d
   pub quiet : (d : Design) → Stands d → first_spawning (view_extension d.extension) ≡ None → QuietLaw d
 
@@ -51,9 +51,9 @@ ready_of sights d image waits h =
       mem_last = omega (arith, b);
       ex_last = omega (arith, a, b);
       most = law.most;
-      early = sights.early d h.stands h.quiet;
+      early = sights.early d h.stands;
       exact = sights.exact d h.stands;
-      keeps = sights.keeps d h.stands h.quiet;
+      keeps = sights.keeps d h.stands;
       tails = sights.tails d h.stands;
       quiet = sights.quiet d h.stands h.quiet;
       wide = λ p. run_wide formed.0 (view_extension d.extension) image p formed.1;
@@ -99,5 +99,12 @@ text_law sights d image waits cycles text h t =
       headline = rows_law sights d image waits t.rows h t.are_rows;
       few = t.few;
       whole = t.whole;
-      text_is = t.text_is ∙ ap (λ (a : Arch). trace_text d.sheet.shape.stages 0 (reverse t.rows) ++ state_text (view_extension d.extension) a) (arch_is (setting d image waits) (ready_of sights d image waits h) t.rows t.are_rows);
+      text_is =
+          let k = setting d image waits in
+          let x = view_extension d.extension in
+          let ready = ready_of sights d image waits h in
+          t.text_is
+          ∙ ap (λ (a : Arch). trace_text d.sheet.shape.stages 0 (reverse t.rows) ++ state_text x [] a) (arch_is k ready t.rows t.are_rows)
+          ∙ ap (λ (l : List Decoupled). trace_text d.sheet.shape.stages 0 (reverse t.rows) ++ state_text x (flat_map (owed_targets (judged k)) (reverse l)) (architecture x (judged k) t.rows))
+          (sym (outstanding_none (judged k) ready.quiet.asks t.rows));
     }

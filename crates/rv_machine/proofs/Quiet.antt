@@ -1,24 +1,22 @@
 -- Where nothing is spawned, nothing is outstanding, and the parts of a record are the whole of it.
-use Rattle.std.proofs.Common.{◌≡◌, ◌∙◌, refl, sym, ap, ℕ, zero, suc, ◌<◌, ◌≤◌, arith, List, [], ◌∷◌, length, get_or, Option, Some, None, Bool, true, false, inl, inr}
+use Rattle.std.proofs.Common.{◌≡◌, ◌∙◌, refl, sym, ap, ℕ, List, [], ◌∷◌, length, get_or, Option, Some, None, Bool, true, false}
 use Rattle.std.specs.Prelude.{if◌then◌else◌, is_some}
 use Rattle.std.proofs.lemmas.Bool.{false≢true}
 use Rattle.ix_bits.specs.declared.number.Bits.{Bits}
-use Rattle.ix_eval.specs.Tables.{table}
 use Rattle.ix_eval.proofs.Tables.{table_length, table_is}
 use Rattle.ix_extension.specs.Extensions.{ExtensionTree}
 use Rattle.ix_plan.specs.declared.design.Target.{Target}
 use Rattle.ix_plan.specs.declared.design.Target.TheVariants.{X, Custom}
-use Rattle.ix_plan.specs.Units.{Slots, unit_written, next_units}
+use Rattle.ix_plan.specs.Units.{unit_written, next_units}
 use Rattle.rv_asks.specs.declared.asks.Asks.{Asks}
 use Rattle.rv_effect.specs.declared.decoded.Decoded.{Decoded}
 use Rattle.rv_seq.specs.declared.arch.Arch.{Arch}
-use Rattle.rv_seq.specs.declared.answer.StepAnswer.{StepAnswer}
-use Rattle.rv_seq.specs.declared.answer.StepAnswer.TheVariants.{Done, Stopped}
+use Rattle.rv_seq.specs.declared.answer.StepAnswer.TheVariants.{Done}
 use Rattle.rv_seq.specs.declared.commit.Commit.{Commit}
 use Rattle.rv_seq.specs.declared.commit.Slot.{Slot}
 use Rattle.rv_seq.specs.declared.commit.Slot.TheVariants.{Absent, Later}
 use Rattle.rv_seq.specs.declared.commit.Stop.{Stop}
-use Rattle.rv_seq.specs.Commits.{applied, slot_of, slots_of, commit_of}
+use Rattle.rv_seq.specs.Commits.{applied, slot_of, commit_of}
 use Rattle.rv_seq.specs.Steps.{word_at, own_effect, whole_effect, unless_stopped, attempted, of_decoded, of_word, step}
 use Rattle.rv_seq.specs.Stops.{stop_of}
 use Rattle.rv_tried.specs.Parts.{shown_index, shown_x, shown_customs, shown, native_index, native_x, native_customs, native}

@@ -1,5 +1,5 @@
 -- The custom registers of a run's states have patterns of their widths.
-use Rattle.std.proofs.Common.{◌≡◌, ℕ, zero, suc, List, length, Option, Some, None, ap, subst, sym, ◌∙◌}
+use Rattle.std.proofs.Common.{ℕ, zero, suc, List, length, Option, Some, None}
 use Rattle.ix_tree.specs.TypedTrees.{TypedTextTree}
 use Rattle.ix_extension.specs.Extensions.{ExtensionTree}
 use Rattle.ix_extension.specs.WellFormed.{IsOf}

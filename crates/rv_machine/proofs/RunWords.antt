@@ -1,16 +1,14 @@
 -- The x registers and the pc of a run's states hold words.
-use Rattle.std.proofs.Common.{◌≡◌, ℕ, ℤ, zero, suc, ◌+◌, ◌-◌, ◌*◌, ◌/◌, ◌%◌, ◌^◌, ◌<◌, ◌≤◌, List, [], ◌∷◌, length, get_or, Option, Some, None, Bool, true, false, if◌then◌else◌, nat_eq, refl, sym, ap, ◌∙◌, subst, arith, bit_or, bit_and, lit<}
-use Rattle.std.specs.Prelude.{slice_index, slice_set, replicate, IfSome, unwrap_or, option_map}
+use Rattle.std.proofs.Common.{◌≡◌, ℕ, ℤ, zero, suc, ◌+◌, ◌-◌, ◌*◌, ◌/◌, ◌%◌, ◌^◌, ◌<◌, ◌≤◌, List, [], ◌∷◌, length, get_or, Option, Some, None, Bool, true, false, if◌then◌else◌, nat_eq, refl, sym, subst, arith, bit_and, lit<}
+use Rattle.std.specs.Prelude.{slice_set, replicate, IfSome, unwrap_or, option_map}
 use Rattle.std.specs.Option.{option_or as the_or}
 use Rattle.std.proofs.Math.Nat.{div-le_self}
 use Rattle.std.proofs.lemmas.Nat.{xor_of_32, or_of_32, and_le_l}
-use Rattle.std.proofs.lemmas.List.{get_or-set_same, get_or-set_other, get_or_past}
 use Rattle.ix_bits.specs.Operators.{pattern_of}
 use Rattle.ix_bits.proofs.Remainders.{rem_below_lem}
 use Rattle.ix_extension.specs.Extensions.{ExtensionTree}
 use Rattle.ix_mean.specs.Meaning.{Inputs}
 use Rattle.ix_mean.specs.Core.{u32}
-use Rattle.ix_mean.specs.declared.evaluate.State.{State}
 use Rattle.ix_behaviour.specs.declared.which.Which.{Which}
 use Rattle.ix_behaviour.specs.declared.which.Which.TheVariants as W
 use Rattle.ix_eval.specs.Evaluated.{effect_at, pattern_written}
@@ -23,18 +21,16 @@ use Rattle.rv_base.specs.declared.operation.Alu.{Alu}
 use Rattle.rv_base.specs.declared.operation.Alu.TheVariants as A
 use Rattle.rv_base.specs.declared.operation.Size.{Size}
 use Rattle.rv_base.specs.declared.operation.Size.TheVariants as S
-use Rattle.rv_base.specs.declared.operation.Test.{Test}
 use Rattle.rv_base.specs.Operations.{bytes_in, operation_at}
 use Rattle.rv_base.specs.Computing.{computed, sum, bit_of, is_taken}
-use Rattle.rv_base.specs.Effects.{immediate, result_as, target_as, load_as, loaded_as, address_at}
-use Rattle.rv_effect.specs.BaseEffects.{base_effect, base_rd}
+use Rattle.rv_base.specs.Effects.{immediate, result_as, target_as, load_as, loaded_as}
+use Rattle.rv_effect.specs.BaseEffects.{base_rd}
 use Rattle.rv_effect.specs.declared.decoded.Decoded.{Decoded}
 use Rattle.rv_effect.specs.declared.decoded.Decoded.TheVariants as D
 use Rattle.rv_effect.specs.Decoding.{decoded_in}
-use Rattle.rv_effect.specs.WordEffects.{effect_of, over, blocks_effect, no_effect}
+use Rattle.rv_effect.specs.WordEffects.{effect_of, over, blocks_effect}
 use Rattle.rv_seq.specs.declared.arch.Arch.{Arch}
-use Rattle.rv_seq.specs.declared.answer.StepAnswer.{StepAnswer}
-use Rattle.rv_seq.specs.declared.answer.StepAnswer.TheVariants.{Done, Stopped}
+use Rattle.rv_seq.specs.declared.answer.StepAnswer.TheVariants.{Done}
 use Rattle.rv_seq.specs.declared.commit.Stop.{Stop}
 use Rattle.rv_seq.specs.States.{first, inputs_at}
 use Rattle.rv_seq.specs.Commits.{commit_of, applied, with_x, x_index, x_slot}

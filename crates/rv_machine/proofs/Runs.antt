@@ -22,6 +22,7 @@ use Rattle.rv_seq.specs.Runs.{run as seq_run}
 use Rattle.rv_engine.specs.Settings.{Setting, tree_of}
 use Rattle.rv_tried.specs.Tried.{tried}
 use Rattle.rv_lawful.specs.Settings.{does_access, word_accesses, state_trial, run_trial}
+use Rattle.rv_lawful.specs.Outstanding.{is_register}
 use Rattle.rv_lawful.specs.Sight.{asked, IsKept}
 use Rattle.rv_machine.specs.Placed.{judged, run, IsReady}
 
@@ -70,7 +71,7 @@ after_step k p P same done = by_answer (answer k p) refl where
 pub run_other : (k : Setting) (ready : IsReady k) (p word reg : ℕ) → word_at k.image (run k p).pc ≡ Some word → (asked k.design word).destination ≢ reg → slice_index (run k (suc p)).x reg ≡ slice_index (run k p).x reg
 run_other k ready p word reg w ne =
     after_step k p (λ s. slice_index s.x reg ≡ slice_index (run k p).x reg) refl
-    (λ c h. (kept_word k ready p word c w h).x reg (λ e. ne (sym e)))
+    (λ c h. (kept_word k ready p word c w h).x reg (λ e. ne (sym e)) (ap (λ (o : Option ℕ). is_register o reg) (ready.quiet.asks word).x))
 
 -- memory, where the instruction does not store
 pub run_memory : (k : Setting) (ready : IsReady k) (p word : ℕ) → word_at k.image (run k p).pc ≡ Some word → (asked k.design word).stores ≡ false → (run k (suc p)).mem ≡ (run k p).mem

@@ -1,5 +1,5 @@
 -- The text of a run.
-use Rattle.std.proofs.Common.{◌≡◌, ℕ, ◌≤◌, List, ◌++◌, length, None, ap, ◌∙◌, subst}
+use Rattle.std.proofs.Common.{◌≡◌, ℕ, ◌≤◌, List, [], ◌++◌, length, None, ap, ◌∙◌, subst}
 use Rattle.std.specs.Prelude.{reverse}
 use Rattle.rv_seq.specs.declared.arch.Arch.{Arch}
 use Rattle.rv_trace.specs.declared.row.Row.{Row}
@@ -11,12 +11,12 @@ use Rattle.rv_machine.specs.Running.{AreRows, machine_at}
 use Rattle.rv_machine.specs.DesignText.{IsDesignText}
 
 pub design_text : (k kept : Setting) (cycles : ℕ) (rows items : List Row) (arch : Arch) → kept ≡ k → AreRows kept rows → length rows ≤ cycles → ((newest rows).stop ≡ None → length rows ≡ cycles) → items ≡ reverse rows → arch ≡ (machine_at kept rows).arch
-    → IsDesignText k cycles (trace_text (shape_of k).stages 0 items ++ state_text (tree_of k) arch)
+    → IsDesignText k cycles (trace_text (shape_of k).stages 0 items ++ state_text (tree_of k) [] arch)
 design_text k kept cycles rows items arch same are few whole e a =
     record {
       rows = rows;
       are_rows = subst (λ s. AreRows s rows) same are;
       few = few;
       whole = whole;
-      text_is = ap (λ r. trace_text (shape_of k).stages 0 r ++ state_text (tree_of k) arch) e ∙ ap (λ s. trace_text (shape_of k).stages 0 (reverse rows) ++ state_text (tree_of k) s) (a ∙ ap (λ s. (machine_at s rows).arch) same);
+      text_is = ap (λ r. trace_text (shape_of k).stages 0 r ++ state_text (tree_of k) [] arch) e ∙ ap (λ s. trace_text (shape_of k).stages 0 (reverse rows) ++ state_text (tree_of k) [] s) (a ∙ ap (λ s. (machine_at s rows).arch) same);
     }

@@ -1,17 +1,17 @@
 -- A token below the last stage was not held for its module.
-use Rattle.std.proofs.Common.{◌≡◌, ℕ, zero, suc, ◌+◌, ◌-◌, ◌<◌, ◌≤◌, List, [], ◌∷◌, drop, take, length, Option, Some, None, Bool, true, false, refl, sym, ap, ◌∙◌, subst, arith}
-use Rattle.std.specs.Prelude.{◌&&◌, ◌||◌, not, if◌then◌else◌, ◌==◌, is_some, slice_get}
+use Rattle.std.proofs.Common.{◌≡◌, ℕ, zero, suc, ◌-◌, ◌<◌, List, [], ◌∷◌, Option, Some, None, Bool, true, false, refl, sym, ap, ◌∙◌, subst, arith}
+use Rattle.std.specs.Prelude.{◌&&◌, not, if◌then◌else◌, ◌==◌, is_some, slice_get}
 use Rattle.std.proofs.lemmas.Bool.Decides.{nat_tests}
 use Rattle.rv_trace.specs.declared.row.Cell.{Cell}
 use Rattle.rv_trace.specs.declared.row.Hold.{Hold}
 use Rattle.rv_trace.specs.declared.row.Row.{Row}
-use Rattle.rv_trace.specs.Trace.{has_serial, is_flushed, retirements, newest}
+use Rattle.rv_trace.specs.Trace.{has_serial, is_flushed, retirements}
 use Rattle.rv_trace.specs.RowParts.{Name, name_of, names_of, stays, leaves, InStage, MovesInto}
 use Rattle.rv_holds.specs.declared.token.Token.{Token}
 use Rattle.rv_holds.specs.Tokens.{Slots, cell_of, cells_of}
 use Rattle.rv_engine.specs.Settings.{Setting, Machine, shape_of}
 use Rattle.rv_lawful.specs.Settings.{stages_of, is_tail, has_tail, tailed}
-use Rattle.rv_machine.specs.Placed.{judged, Serials, Inv}
+use Rattle.rv_machine.specs.Placed.{judged, Inv}
 use Rattle.rv_machine.proofs.Places.{stood, token_order, flushed_now}
 
 -- a cell that is held and not flushed is the next row's

@@ -1,5 +1,5 @@
 -- The text of a run of a pipeline with an extension (this project's choice): the lines of each row, and the state behind the last one.
-use Rattle.std.specs.Prelude.{◌≡◌, ℕ, ◌≤◌, List, ◌++◌, length, reverse, None}
+use Rattle.std.specs.Prelude.{◌≡◌, ℕ, ◌≤◌, List, [], ◌++◌, length, reverse, None}
 use Rattle.rv_trace.specs.declared.row.Row.{Row}
 use Rattle.rv_trace.specs.Trace.{newest}
 use Rattle.rv_trace.specs.TraceText.{trace_text}
@@ -13,4 +13,4 @@ pub record IsDesignText (k : Setting) (cycles : ℕ) (text : List ℕ) : Type 0 
   pub are_rows : AreRows k rows
   pub few : length rows ≤ cycles
   pub whole : (newest rows).stop ≡ None → length rows ≡ cycles
-  pub text_is : text ≡ trace_text (shape_of k).stages 0 (reverse rows) ++ state_text (tree_of k) (machine_at k rows).arch
+  pub text_is : text ≡ trace_text (shape_of k).stages 0 (reverse rows) ++ state_text (tree_of k) [] (machine_at k rows).arch

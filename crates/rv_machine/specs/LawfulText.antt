@@ -17,4 +17,4 @@ pub record IsLawfulText (d : Design) (image waits : List ℕ) (cycles : ℕ) (te
   pub headline : Headline d image waits rows
   pub few : length rows ≤ cycles
   pub whole : (newest rows).stop ≡ None → length rows ≡ cycles
-  pub text_is : text ≡ trace_text d.sheet.shape.stages 0 (reverse rows) ++ state_text (view_extension d.extension) (architecture (view_extension d.extension) (setting d image waits) rows)
+  pub text_is : text ≡ trace_text d.sheet.shape.stages 0 (reverse rows) ++ state_text (view_extension d.extension) (outstanding_targets (setting d image waits) rows) (architecture (view_extension d.extension) (setting d image waits) rows)

@@ -56,6 +56,7 @@ pub fn write_design_run<S: Sink>(
         machine.trace(),
         design.sheet.shape,
         design.extension.registers.len(),
+        &[],
         machine.arch(),
         &mut out,
         sink,

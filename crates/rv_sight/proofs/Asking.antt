@@ -1,6 +1,6 @@
 -- What is asked of an instruction, operation by operation.
-use Rattle.std.proofs.Common.{◌≡◌, refl, sym, ap, subst, ◌∙◌, ⊎_elim, ℕ, zero, suc, ◌+◌, ◌<◌, ◌≤◌, arith, List, [], ◌∷◌, ◌++◌, get_or, length, drop, Some, None, Bool, true, false}
-use Rattle.std.specs.Prelude.{option_map, slice_get, slice_index, slice_index_or, ◌||◌, ◌&&◌, nat_lt, Contains}
+use Rattle.std.proofs.Common.{inl, inr, Option, ◌≡◌, refl, sym, ap, subst, ◌∙◌, ⊎_elim, ℕ, zero, suc, ◌+◌, ◌<◌, ◌≤◌, arith, List, [], ◌∷◌, ◌++◌, get_or, length, drop, Some, None, Bool, true, false}
+use Rattle.std.specs.Prelude.{◌⊎◌, option_map, slice_get, slice_index, slice_index_or, ◌||◌, ◌&&◌, nat_lt, Contains}
 use Rattle.std.specs.List.{list_any}
 use Rattle.std.proofs.lemmas.Bool.{or_left, or_right, or_cases, false≢true, ltb-false, eq-eqb}
 use Rattle.std.proofs.lemmas.Option.{same_Some, get_or_from_slice_get, slice_get-map}
@@ -120,35 +120,43 @@ module _ (d : Design) (word : ℕ) (unit : Option ℕ) (p : Plan) where
       flags_at (λ m. list_any (acts.touches m) (acts.acts_of p) || list_any (acts.touches m) (block_acts d)) 16 r l
       ∙ or_left (list_any (acts.touches r) (acts.acts_of p)) (list_any (acts.touches r) (block_acts d)) (own_any (acts.touches r) p n o e h)
 
-  -- no operation is spawned
-  module _ (none : IsSpawning p.graph → ⊥) where
-    flag_false : (xs : List Bool) → (Contains xs true → ⊥) → (n : ℕ) → slice_index_or xs n false ≡ false
-    flag_false [] h n = refl
-    flag_false (true ∷ xs) h n = absurd (h (0, omega arith, refl))
-    flag_false (false ∷ xs) h zero = refl
-    flag_false (false ∷ xs) h (suc n) = flag_false xs (λ c. (let l = c.1 in h (suc c.0, omega (arith, l), c.2))) n
+  -- an operation, with its flag
+  abbrev flag : ℕ → Bool
+  flag n = slice_index_or p.graph.spawned n false
 
-    unspawned : (n : ℕ) (f : Bool → Bool) → f false ≡ true → f (slice_index_or p.graph.spawned n false) ≡ true
-    unspawned n f h = subst (λ (b : Bool). f b ≡ true) (sym (flag_false p.graph.spawned none n)) h
+  abbrev act : ℕ → Op → Bool → Act
+  act n o b = record { kind = o.kind; spawned = b; time = slice_index_or p.times n 0 }
 
-    pub writes_any : (n : ℕ) (o : Op) → slice_get p.graph.ops n ≡ Some o → o.kind ≡ k.WrRD → list_any acts.writes_own (acts.acts_of p) ≡ true
-    writes_any n o e is =
-        own_any acts.writes_own p n o e (unspawned n (λ b. acts.writes_own (record { kind = o.kind; spawned = b; time = slice_index_or p.times n 0 })) (ap acts.is_destination is))
+  -- it writes the x register itself, or by `spawn`
+  pub writes_any : (n : ℕ) (o : Op) → slice_get p.graph.ops n ≡ Some o → o.kind ≡ k.WrRD
+      → (list_any acts.writes_own (acts.acts_of p) ≡ true) ⊎ (list_any acts.spawns_x (acts.acts_of p) ≡ true)
+  writes_any n o e is = by (flag n) refl
+    where
+      by : (b : Bool) → flag n ≡ b → (list_any acts.writes_own (acts.acts_of p) ≡ true) ⊎ (list_any acts.spawns_x (acts.acts_of p) ≡ true)
+      by false q = inl (own_any acts.writes_own p n o e (subst (λ (b : Bool). acts.writes_own (act n o b) ≡ true) (sym q) (ap acts.is_destination is)))
+      by true q = inr (own_any acts.spawns_x p n o e (subst (λ (b : Bool). acts.spawns_x (act n o b) ≡ true) (sym q) (ap acts.is_destination is)))
 
-    late_time : (n : ℕ) (f : Act → Bool) (o : Op) → list_any f (acts.acts_of p) ≡ false → slice_get p.graph.ops n ≡ Some o
-        → (nat_lt d.sheet.shape.ex (slice_index_or p.times n 0) ≡ true → f (record { kind = o.kind; spawned = false; time = slice_index_or p.times n 0 }) ≡ true) → slice_index p.times n ≤ d.sheet.shape.ex
-    late_time n f o none_late e g =
-        either_time d.sheet.shape.ex (slice_index p.times n)
-        (λ late. not_any (list_any f (acts.acts_of p)) none_late (own_any f p n o e (unspawned n (λ b. f (record { kind = o.kind; spawned = b; time = slice_index_or p.times n 0 })) (g late))))
+  late_time : (n : ℕ) (f : Act → Bool) (o : Op) → list_any f (acts.acts_of p) ≡ false → slice_get p.graph.ops n ≡ Some o → flag n ≡ false
+      → (nat_lt d.sheet.shape.ex (slice_index_or p.times n 0) ≡ true → f (act n o false) ≡ true) → slice_index p.times n ≤ d.sheet.shape.ex
+  late_time n f o none_late e unspawned g =
+      either_time d.sheet.shape.ex (slice_index p.times n)
+      (λ late. not_any (list_any f (acts.acts_of p)) none_late (own_any f p n o e (subst (λ (b : Bool). f (act n o b) ≡ true) (sym unspawned) (g late))))
 
-    pub asks_late : a.late ≡ false → (n : ℕ) (o : Op) → slice_get p.graph.ops n ≡ Some o → o.kind ≡ k.WrPC → slice_index p.times n ≤ d.sheet.shape.ex
-    asks_late h n o e is =
-        late_time n (acts.jumps_late d.sheet.shape.ex) o h e (λ late. both_true (nat_lt d.sheet.shape.ex (slice_index_or p.times n 0)) (acts.is_jump o.kind) late (ap acts.is_jump is))
+  pub asks_late : a.late ≡ false → (n : ℕ) (o : Op) → slice_get p.graph.ops n ≡ Some o → o.kind ≡ k.WrPC → flag n ≡ false → slice_index p.times n ≤ d.sheet.shape.ex
+  asks_late h n o e is unspawned =
+      late_time n (acts.jumps_late d.sheet.shape.ex) o h e unspawned (λ late. both_true (nat_lt d.sheet.shape.ex (slice_index_or p.times n 0)) (acts.is_jump o.kind) late (ap acts.is_jump is))
 
-    pub asks_late_customs : (r : ℕ) → r < 16 → get_or a.late_customs r false ≡ false → (n : ℕ) (o : Op) → slice_get p.graph.ops n ≡ Some o → o.kind ≡ k.WrCustReg r → slice_index p.times n ≤ d.sheet.shape.ex
-    asks_late_customs r l h n o e is =
-        late_time n (acts.writes_late d.sheet.shape.ex r) o (sym (flags_at (λ m. list_any (acts.writes_late d.sheet.shape.ex m) (acts.acts_of p)) 16 r l) ∙ h) e
-        (λ late. both_true (nat_lt d.sheet.shape.ex (slice_index_or p.times n 0)) (acts.is_custom_write r o.kind) late (ap (acts.is_custom_write r) is ∙ eq-eqb r r refl))
+  pub asks_late_customs : (r : ℕ) → r < 16 → get_or a.late_customs r false ≡ false → get_or a.spawned_customs r false ≡ false → (n : ℕ) (o : Op) → slice_get p.graph.ops n ≡ Some o → o.kind ≡ k.WrCustReg r → slice_index p.times n ≤ d.sheet.shape.ex
+  asks_late_customs r l h s n o e is =
+      late_time n (acts.writes_late d.sheet.shape.ex r) o (sym (flags_at (λ m. list_any (acts.writes_late d.sheet.shape.ex m) (acts.acts_of p)) 16 r l) ∙ h) e (by (flag n) refl)
+      (λ late. both_true (nat_lt d.sheet.shape.ex (slice_index_or p.times n 0)) (acts.is_custom_write r o.kind) late (ap (acts.is_custom_write r) is ∙ eq-eqb r r refl))
+    where
+      by : (b : Bool) → flag n ≡ b → flag n ≡ false
+      by false q = q
+      by true q =
+          absurd
+          (not_any (list_any (acts.spawns_custom r) (acts.acts_of p)) (sym (flags_at (λ m. list_any (acts.spawns_custom m) (acts.acts_of p)) 16 r l) ∙ s)
+          (own_any (acts.spawns_custom r) p n o e (subst (λ (b : Bool). acts.spawns_custom r (act n o b) ≡ true) (sym q) (ap (acts.is_custom_write r) is ∙ eq-eqb r r refl))))
 
 -- what the always-blocks read and write of custom registers is asked of each instruction
 pub blocks_any : (d : Design) (r b m : ℕ) (p : Plan) → b ≡ length d.extension.instructions + m → slice_get d.plans b ≡ Some p → (n : ℕ) (o : Op) → slice_get p.graph.ops n ≡ Some o → acts.is_custom r o.kind ≡ true

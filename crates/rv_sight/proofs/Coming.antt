@@ -1,6 +1,6 @@
 -- From effects to records: where effects agree, words come to the same.
-use Rattle.std.proofs.Common.{◌≡◌, refl, sym, ap, subst, ◌∙◌, ℕ, ◌+◌, ◌%◌, ◌^◌, ◌<◌, List, get_or, Option, Some, None, Bool, true, false, cond}
-use Rattle.std.specs.Prelude.{option_map, slice_index, is_some, is_none, ◌&&◌, nat_eq, unwrap_or}
+use Rattle.std.proofs.Common.{◌≢◌, inl, inr, ◌≡◌, refl, sym, ap, subst, ◌∙◌, ℕ, ◌+◌, ◌%◌, ◌^◌, ◌<◌, List, get_or, Option, Some, None, Bool, true, false, cond}
+use Rattle.std.specs.Prelude.{◌⊎◌, option_map, slice_index, is_some, is_none, ◌&&◌, nat_eq, unwrap_or}
 use Rattle.std.specs.Option.{option_or}
 use Rattle.std.proofs.lemmas.List.{get_or-set_other}
 use Rattle.std.proofs.lemmas.Bool.{eq-eqb, false≢true}
@@ -27,6 +27,7 @@ use Rattle.rv_seq.specs.Stops.{call_stop, load_stop, store_stop, target_stop, st
 use Rattle.rv_seq.specs.States.{state_at}
 use Rattle.rv_tried.specs.Tried.{effect_seen, whole_seen, tried_instruction, tried, blocks_seen, unless_stopping, marked}
 use Rattle.rv_lawful.specs.Settings.{does_access}
+use Rattle.rv_lawful.specs.Outstanding.{is_register}
 use Rattle.rv_lawful.specs.Sight.{IsEarlyCommit, IsEarly, IsKept}
 use Rattle.rv_sight.proofs.Parts.{effect_from, table_get, table_none}
 
@@ -64,7 +65,7 @@ pub record IsEarlyEffect (a : Asks) (e f : Effect) : Type 0 where
   pub load : e.load ≡ f.load
   pub store : e.store ≡ f.store
   pub pc : a.late ≡ false → e.pc ≡ f.pc
-  pub customs : (r : ℕ) → get_or a.late_customs r false ≡ false → get_or e.custom r None ≡ get_or f.custom r None
+  pub customs : (r : ℕ) → get_or a.late_customs r false ≡ false → get_or a.spawned_customs r false ≡ false → get_or e.custom r None ≡ get_or f.custom r None
 
 pub early_commit : (a : Asks) (at code : ℕ) (e f b c : Effect) → IsEarlyEffect a e f → IsSameBlocks b c → IsEarlyCommit a (commit_of at code (over e b)) (commit_of at code (over f c))
 unfolding over commit_of
@@ -73,11 +74,11 @@ early_commit a at code e f b c h g =
       store = h.store;
       next = λ l.
           ap (λ (z : Option ℕ). unwrap_or (option_or z b.pc) ((at + 4) % 2 ^ 32)) (h.pc l) ∙ ap (λ (z : Option ℕ). unwrap_or (option_or f.pc z) ((at + 4) % 2 ^ 32)) g.pc;
-      customs = λ r l.
+      customs = λ r l s.
           table_get (λ m. slot_of (get_or (customs_over e.custom b.custom) m None)) (λ m. slot_of (get_or (customs_over f.custom c.custom) m None)) 16 r Absent
           (λ few. ap slot_of
           (table_get (λ m. option_or (get_or e.custom m None) (get_or b.custom m None)) (λ m. option_or (get_or f.custom m None) (get_or c.custom m None)) 16 r None
-          (λ less. ap (λ (z : Option Bits). option_or z (get_or b.custom r None)) (h.customs r l) ∙ ap (λ (z : List (Option Bits)). option_or (get_or f.custom r None) (get_or z r None)) g.custom)));
+          (λ less. ap (λ (z : Option Bits). option_or z (get_or b.custom r None)) (h.customs r l s) ∙ ap (λ (z : List (Option Bits)). option_or (get_or f.custom r None) (get_or z r None)) g.custom)));
     }
 
 early_answers : (a : Asks) (c d : Commit) (o p : Option Stop) → o ≡ p → IsEarlyCommit a c d → IsEarly a (unless_stopped o (Done c)) (unless_stopped p (Done d))
@@ -137,7 +138,7 @@ base_stop b e f l t p =
 
 -- ---- what a record keeps
 pub record IsUnasked (a : Asks) (code : ℕ) (e b : Effect) : Type 0 where
-  pub rd : (v : ℕ) → e.rd ≡ Some v → a.destination ≡ rd_of code
+  pub rd : (v : ℕ) → e.rd ≡ Some v → (a.destination ≡ rd_of code) ⊎ (a.spawned ≡ Some (rd_of code))
   pub own : (r : ℕ) → r < 16 → get_or a.customs r false ≡ false → get_or e.custom r None ≡ None
   pub blocks : (r : ℕ) → r < 16 → get_or a.customs r false ≡ false → get_or b.custom r None ≡ None
   pub store : a.stores ≡ false → e.store ≡ None
@@ -150,6 +151,13 @@ x_kept x rd r (Some v) h = by (nat_eq rd 0) refl
     by true e = refl
     by false e = get_or-set_other x rd r v 0 (λ q. h v refl e (sym q))
 
+-- the register is neither the destination nor the spawn target
+neither : (a : Asks) (r rd : ℕ) → r ≢ a.destination → is_register a.spawned r ≡ false → rd ≡ r → (a.destination ≡ rd) ⊎ (a.spawned ≡ Some rd) → ⊥
+neither a r rd other unspawned same h = elim h [
+  | inl e ↦ other (sym same ∙ sym e)
+  | inr e ↦ false≢true (sym unspawned ∙ ap (λ (o : Option ℕ). is_register o r) e ∙ eq-eqb rd r same)
+]
+
 pub kept_from : (a : Asks) (s : Arch) (code : ℕ) (e b : Effect) → IsUnasked a code e b → IsKept a s code (commit_of s.pc code (over e b))
 unfolding over commit_of applied
 kept_from a s code e b h =
@@ -157,7 +165,7 @@ kept_from a s code e b h =
       at = refl;
       word = refl;
       next = refl;
-      x = λ r other. x_kept s.x (rd_of code) r e.rd (λ v is zero_is same. other (sym same ∙ sym (h.rd v is)));
+      x = λ r other unspawned. x_kept s.x (rd_of code) r e.rd (λ v is zero_is same. neither a r (rd_of code) other unspawned same (h.rd v is));
       zero = x_kept s.x (rd_of code) 0 e.rd (λ v is zero_is same. false≢true (sym zero_is ∙ eq-eqb (rd_of code) 0 same));
       customs = λ r none.
           table_none (λ m. slot_of (get_or (customs_over e.custom b.custom) m None)) 16 r Absent

@@ -1,6 +1,6 @@
 -- What a standing design promises of what a word may see.
-use Rattle.std.proofs.Common.{◌≡◌, refl, sym, ap, ◌∙◌, ℕ, zero, suc, ◌+◌, ◌<◌, ◌≤◌, ◌^◌, arith, List, [], ◌∷◌, map, get_or, length, replicate, Option, Some, None, Bool, true, false}
-use Rattle.std.specs.Prelude.{option_map, slice_get, slice_index, is_some, nat_lt, ◌||◌}
+use Rattle.std.proofs.Common.{inl, inr, ◌≡◌, refl, sym, ap, ◌∙◌, ℕ, zero, suc, ◌+◌, ◌<◌, ◌≤◌, ◌^◌, arith, List, [], ◌∷◌, map, get_or, length, replicate, Option, Some, None, Bool, true, false}
+use Rattle.std.specs.Prelude.{◌⊎◌, option_map, slice_get, slice_index, is_some, nat_lt, ◌||◌}
 use Rattle.std.specs.List.{list_any}
 use Rattle.std.specs.Option.{option_or}
 use Rattle.std.proofs.lemmas.Bool.{or_right, ltb-true, ltb-false, eq-eqb}
@@ -35,7 +35,7 @@ use Rattle.rv_effect.specs.declared.decoded.Decoded.TheVariants as D
 use Rattle.rv_asks.specs.declared.asks.Asks.{Asks}
 use Rattle.rv_asks.specs.Acts as acts
 use Rattle.rv_unit.specs.Numbering.{unit_of}
-use Rattle.rv_asks.specs.Asks.{block_acts, where_so, base_asks, blank_in}
+use Rattle.rv_asks.specs.Asks.{block_acts, where_so, some_so, base_asks, blank_in}
 use Rattle.rv_seq.specs.declared.arch.Arch.{Arch}
 use Rattle.rv_seq.specs.States.{zero_bit, state_at, inputs_at}
 use Rattle.rv_seq.specs.Steps.{of_decoded}
@@ -146,31 +146,36 @@ module _ (laws : Laws) (d : Design) (stands : Stands d) where
         table_none (λ q. option_or (get_or (effect_at x (W.Block m) there).custom q None) (get_or (blocks_effect x there m).custom q None)) 16 r None
         (λ less. ap (λ (z : Option Bits). option_or z (get_or (blocks_effect x there m).custom r None)) here ∙ rest)
 
-    pub keeps_own : (n : ℕ) (l : n < length x.instructions) → (IsSpawning (plan_of d stands n l).plan.graph → ⊥)
+    pub keeps_own : (n : ℕ) (l : n < length x.instructions)
         → IsKept (asks_of d code (unit_of d.plans n) (plan_of d stands n l).plan) s code (commit_of s.pc code (over (effect_at x (W.Instruction n) there) (blocks_effect x there (length x.blocks))))
-    keeps_own n l never =
+    keeps_own n l =
         let p = plan_of d stands n l in
         let w = W.Instruction n in
         let a = asks_of d code (unit_of d.plans n) p.plan in
         let unwritten = laws.unwritten stands.well_formed.0 x w p.plan.graph.ops there stands.well_formed.1 l p.planned.graph.ops (there_inputs w) in
         kept_from a s code (effect_at x w there) (blocks_effect x there (length x.blocks))
         (record {
-          rd = λ v is. by v is (list_any acts.writes_own (acts.acts_of p.plan)) refl;
+          rd = λ v is. by v is (list_any acts.writes_own (acts.acts_of p.plan)) (list_any acts.spawns_x (acts.acts_of p.plan)) refl refl;
           own = λ r few none. custom_none x w there r (unwritten (3 + r)
               (λ m o e t. not_any (get_or a.customs r false) none (asks_customs d code (unit_of d.plans n) p.plan r few m o e (ap (acts.is_custom r) (target_is_custom o.kind r t) ∙ eq-eqb r r refl))));
           blocks = λ r few none. blocks_none a (own_blocks code (unit_of d.plans n) p.plan) r few none (length x.blocks) (omega arith);
           store = λ none. store_none x w there (unwritten 0 (λ m o e t. not_any a.stores none (asks_stores d code (unit_of d.plans n) p.plan m o e (ap acts.is_store (target_is_memory o.kind t)))));
         })
       where
-        by : (v : ℕ) → (effect_at x (W.Instruction n) there).rd ≡ Some v → (b : Bool) → list_any acts.writes_own (acts.acts_of (plan_of d stands n l).plan) ≡ b
-            → (asks_of d code (unit_of d.plans n) (plan_of d stands n l).plan).destination ≡ rd_of code
-        by v is true e = ap (λ (b : Bool). where_so b (rd_of code)) e
-        by v is false e =
+        by : (v : ℕ) → (effect_at x (W.Instruction n) there).rd ≡ Some v → (b c : Bool) → list_any acts.writes_own (acts.acts_of (plan_of d stands n l).plan) ≡ b
+            → list_any acts.spawns_x (acts.acts_of (plan_of d stands n l).plan) ≡ c
+            → ((asks_of d code (unit_of d.plans n) (plan_of d stands n l).plan).destination ≡ rd_of code) ⊎ ((asks_of d code (unit_of d.plans n) (plan_of d stands n l).plan).spawned ≡ Some (rd_of code))
+        by v is true c e f = inl (ap (λ (b : Bool). where_so b (rd_of code)) e)
+        by v is false true e f = inr (ap (λ (b : Bool). some_so b (rd_of code)) f)
+        by v is false false e f =
             let p = plan_of d stands n l in
             let w = W.Instruction n in
             let nothing = rd_none x w there
             (laws.unwritten stands.well_formed.0 x w p.plan.graph.ops there stands.well_formed.1 l p.planned.graph.ops (there_inputs w) 1
-            (λ m o g t. not_any (list_any acts.writes_own (acts.acts_of p.plan)) e (writes_any d code (unit_of d.plans n) p.plan never m o g (target_is_rd o.kind t)))) in
+            (λ m o g t. elim (writes_any d code (unit_of d.plans n) p.plan m o g (target_is_rd o.kind t)) [
+              | inl h ↦ not_any (list_any acts.writes_own (acts.acts_of p.plan)) e h
+              | inr h ↦ not_any (list_any acts.spawns_x (acts.acts_of p.plan)) f h
+            ])) in
             cc (sym is ∙ nothing)
 
     store_absent : (b : Base) (m n : ℕ) (o : Option Size) → is_some o ≡ false → option_map (base_store b m n) o ≡ None
@@ -183,7 +188,7 @@ module _ (laws : Laws) (d : Design) (stands : Stands d) where
         let a = base_asks d.sheet.shape (blank_in d).customs b in
         kept_from a s code (base_effect b there) (blocks_effect x there (length x.blocks))
         (record {
-          rd = λ v e. (names b code is).target (base_rd_writes b there v e);
+          rd = λ v e. inl ((names b code is).target (base_rd_writes b there v e));
           own = λ r few none. none_repeated 16 r;
           blocks = λ r few none. blocks_none a (base_blocks b) r few none (length x.blocks) (omega arith);
           store = λ none. store_absent b there.rs1 there.rs2 (store_at b) none;
@@ -250,9 +255,9 @@ module _ (laws : Laws) (d : Design) (stands : Stands d) where
           effect_from (effect_at x w here) (effect_at x w there) (rd_same x w ops here there (λ q. Unit {0}) same.values (λ m o e t. tt)) (pc_same x w ops here there (λ q. Unit {0}) same.values (λ m o e t. tt))
           (customs_same x w ops here there (λ q. Unit {0}) same.values (λ r m o e t. tt)) (load_same x w here there (same.reads (λ m o e t. tt))) (store_same x w here there (same.store (λ m o e t. tt)))
 
-      pub early_own : (n : ℕ) (l : n < length x.instructions) → IsSeen (asks_of d code (unit_of d.plans n) (plan_of d stands n l).plan) code s i → (IsSpawning (plan_of d stands n l).plan.graph → ⊥)
+      pub early_own : (n : ℕ) (l : n < length x.instructions) → IsSeen (asks_of d code (unit_of d.plans n) (plan_of d stands n l).plan) code s i
           → IsEarlyEffect (asks_of d code (unit_of d.plans n) (plan_of d stands n l).plan) (effect_at x (W.Instruction n) here) (effect_at x (W.Instruction n) there)
-      early_own n l seen never =
+      early_own n l seen =
           let p = plan_of d stands n l in
           let w = W.Instruction n in
           let ops = p.plan.graph.ops in
@@ -261,10 +266,10 @@ module _ (laws : Laws) (d : Design) (stands : Stands d) where
           let times = laws.times stands.well_formed.0 x d.sheet w p.plan stands.well_formed.1 l stands.sheet p.planned in
           record {
             load = load_same x w here there (same.reads times.loads);
-            store = store_same x w here there (same.store (λ m o e t. times.stores never m o e (target_is_memory o.kind t)));
-            pc = λ late. pc_same x w ops here there (IsByExecute d.sheet p.plan) same.values (λ m o e t. asks_late d code (unit_of d.plans n) p.plan never late m o e (target_is_pc o.kind t));
-            customs = λ r late.
-                custom_same x w ops here there (IsByExecute d.sheet p.plan) same.values r (λ few m o e t. asks_late_customs d code (unit_of d.plans n) p.plan never r few late m o e (target_is_custom o.kind r t));
+            store = store_same x w here there (same.store (λ m o e t. times.stores m o e (target_is_memory o.kind t)));
+            pc = λ late. pc_same x w ops here there (IsByExecute d.sheet p.plan) same.values (λ m o e t. asks_late d code (unit_of d.plans n) p.plan late m o e (target_is_pc o.kind t) (times.jumps m o e (target_is_pc o.kind t)));
+            customs = λ r late spawn.
+                custom_same x w ops here there (IsByExecute d.sheet p.plan) same.values r (λ few m o e t. asks_late_customs d code (unit_of d.plans n) p.plan r few late spawn m o e (target_is_custom o.kind r t));
           }
 
       -- ---- a base instruction
@@ -280,4 +285,4 @@ module _ (laws : Laws) (d : Design) (stands : Stands d) where
       pub early_base : (b : Base) → decoded code ≡ Some b → IsSeen (base_asks d.sheet.shape (blank_in d).customs b) code s i → IsEarlyEffect (base_asks d.sheet.shape (blank_in d).customs b) (base_effect b here) (base_effect b there)
       early_base b is seen =
           let most = base_same b here there seen.pc (base_used b is seen) in
-          record { load = most.load; store = most.store; pc = λ late. most.pc; customs = λ r late. refl }
+          record { load = most.load; store = most.store; pc = λ late. most.pc; customs = λ r late spawn. refl }

@@ -29,7 +29,6 @@ use Rattle.rv_seq.specs.Steps.{own_effect, whole_effect, of_decoded}
 use Rattle.rv_tried.specs.Tried.{effect_seen, whole_seen, tried}
 use Rattle.rv_lawful.specs.Settings.{does_access}
 use Rattle.rv_lawful.specs.Sight.{IsSeen, HasWords, AreWords, IsEarlyCommit, IsEarly, EarlyLaw, ExactLaw, IsKept, KeepsLaw, TailLaw}
-use Rattle.rv_sight.proofs.Spawning.{NeverSpawns}
 use Rattle.rv_sight.proofs.Asking.{asks_of, own_asks, base_asks_are, none_asks}
 use Rattle.rv_sight.proofs.Coming.{over_same, exact_answer, early_commit, early_answer, same_access, same_blocks, same_own, none_blocks, none_writes, own_stop, base_stop, kept_by, IsEarlyEffect}
 use Rattle.rv_sight.proofs.Plans.{plan_of, own_within, base_decoded}
@@ -93,11 +92,11 @@ module _ (laws : Laws) (d : Design) (stands : Stands d) where
       pub accesses : (tried x i memory o).accesses ≡ does_access x s code o
       pub blocks : (tried x i memory o).blocks ≡ (tried x (state_at code s) s.mem o).blocks
 
-    early_of : NeverSpawns d → (o : Option Decoded) → decoded_in x code ≡ o → IsSeen (asks_in d code o) code s i → Early o (asks_in d code o)
-    early_of never None is seen =
+    early_of : (o : Option Decoded) → decoded_in x code ≡ o → IsSeen (asks_in d code o) code s i → Early o (asks_in d code o)
+    early_of None is seen =
         let r = none_tried x i memory s code in
         record { answer = subst (λ (z : StepAnswer). IsEarly (asks_in d code None) z (of_decoded x s code None)) (sym r.0) refl; accesses = r.1; blocks = none_blocks x i memory s code }
-    early_of never (Some (D.Own n)) is seen =
+    early_of (Some (D.Own n)) is seen =
         let l = own_within x code n is in
         let p = plan_of d stands n l in
         let e = own_asks d code n p.plan p.there in
@@ -105,7 +104,7 @@ module _ (laws : Laws) (d : Design) (stands : Stands d) where
         let saw : IsSeen a code s i = subst (λ (z : Asks). IsSeen z code s i) e seen in
         let word : code < 2 ^ 32 = subst (λ (z : ℕ). z < 2 ^ 32) saw.word aw.word in
         let pc : s.pc < 2 ^ 32 = subst (λ (z : ℕ). z < 2 ^ 32) saw.pc aw.pc in
-        let same = early_own laws d stands code s ws hw word pc i memory wi aw n l saw (never n p.plan p.there) in
+        let same = early_own laws d stands code s ws hw word pc i memory wi aw n l saw in
         let blocks = all_blocks laws d stands code s ws hw word pc i memory wi aw a (own_blocks laws d stands code (unit_of d.plans n) p.plan) saw in
         let E : Effect → Effect → Type 0 = λ y z. IsEarlyEffect a y z in
         let effects : E (effect_seen x i memory (D.Own n)) (own_effect x s code (D.Own n)) =
@@ -120,7 +119,7 @@ module _ (laws : Laws) (d : Design) (stands : Stands d) where
           blocks = same_blocks x i memory s code (D.Own n) stops blocks.custom;
         } in
         subst (λ (z : Asks). Early (Some (D.Own n)) z) (sym e) done
-    early_of never (Some (D.Base b)) is seen =
+    early_of (Some (D.Base b)) is seen =
         let e = base_asks_are d code b in
         let a = base_asks d.sheet.shape (blank_in d).customs b in
         let saw : IsSeen a code s i = subst (λ (z : Asks). IsSeen z code s i) e seen in
@@ -142,17 +141,17 @@ module _ (laws : Laws) (d : Design) (stands : Stands d) where
         } in
         subst (λ (z : Asks). Early (Some (D.Base b)) z) (sym e) done
 
-  keeps_of : NeverSpawns d → (code : ℕ) (s : Arch) (c : Commit) → AreWide x s.custom → HasWords s → code < 2 ^ 32 → s.pc < 2 ^ 32 → (o : Option Decoded) → decoded_in x code ≡ o → of_decoded x s code o ≡ Done c
+  keeps_of : (code : ℕ) (s : Arch) (c : Commit) → AreWide x s.custom → HasWords s → code < 2 ^ 32 → s.pc < 2 ^ 32 → (o : Option Decoded) → decoded_in x code ≡ o → of_decoded x s code o ≡ Done c
       → IsKept (asks_in d code o) s code c
-  keeps_of never code s c ws hw word pc None is e = cc
-  keeps_of never code s c ws hw word pc (Some (D.Own n)) is e =
+  keeps_of code s c ws hw word pc None is e = cc
+  keeps_of code s c ws hw word pc (Some (D.Own n)) is e =
       let l = own_within x code n is in
       let p = plan_of d stands n l in
       let there : Inputs = inputs_at code s in
-      let kept = keeps_own laws d stands code s ws hw word pc n l (never n p.plan p.there) in
+      let kept = keeps_own laws d stands code s ws hw word pc n l in
       let P : Effect → Type 0 = λ z. IsKept (asks_of d code (unit_of d.plans n) p.plan) s code (commit_of s.pc code (over z (blocks_effect x there (length x.blocks)))) in
       subst (λ (z : Asks). IsKept z s code c) (sym (own_asks d code n p.plan p.there)) (kept_by (asks_of d code (unit_of d.plans n) p.plan) x s code (D.Own n) c (subst P (sym (own_is x n there)) kept) e)
-  keeps_of never code s c ws hw word pc (Some (D.Base b)) is e =
+  keeps_of code s c ws hw word pc (Some (D.Base b)) is e =
       let there : Inputs = inputs_at code s in
       let kept = keeps_base laws d stands code s ws hw word pc b (base_decoded x code b is) in
       let a = base_asks d.sheet.shape (blank_in d).customs b in
@@ -179,13 +178,13 @@ module _ (laws : Laws) (d : Design) (stands : Stands d) where
       let r = exact_of code s i memory ws wi hw aw (decoded_in x code) refl seen loads in
       record { answer = r.answer; own = r.own }
 
-  pub early_law : NeverSpawns d → EarlyLaw d
-  early_law never code s i memory ws wi hw aw seen =
-      let r = early_of code s i memory ws wi hw aw never (decoded_in x code) refl seen in
+  pub early_law : EarlyLaw d
+  early_law code s i memory ws wi hw aw seen =
+      let r = early_of code s i memory ws wi hw aw (decoded_in x code) refl seen in
       record { answer = r.answer; accesses = r.accesses; blocks = r.blocks }
 
-  pub keeps_law : NeverSpawns d → KeepsLaw d
-  keeps_law never code s c ws hw word pc e = keeps_of never code s c ws hw word pc (decoded_in x code) refl e
+  pub keeps_law : KeepsLaw d
+  keeps_law code s c ws hw word pc e = keeps_of code s c ws hw word pc (decoded_in x code) refl e
 
   pub tail_law : TailLaw d
   tail_law code = tail_at code (decoded_in x code) refl

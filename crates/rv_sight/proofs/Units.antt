@@ -1,8 +1,7 @@
 -- Where nothing is spawned, no instruction has a spawn target or a unit.
-use Rattle.std.proofs.Common.{◌≡◌, ◌∙◌, refl, sym, ap, subst, ℕ, zero, suc, ◌+◌, ◌<◌, arith, List, [], ◌∷◌, length, take, get_or, Option, Some, None, Bool, true, false}
-use Rattle.std.specs.Prelude.{Contains, slice_get, slice_index_or, ◌&&◌, cond}
+use Rattle.std.proofs.Common.{◌≡◌, ◌∙◌, refl, sym, subst, ℕ, zero, suc, ◌+◌, arith, List, [], ◌∷◌, length, take, get_or, Option, Some, None, Bool, true, false}
+use Rattle.std.specs.Prelude.{Contains, slice_get, slice_index_or, ◌&&◌, ◌||◌}
 use Rattle.std.specs.List.{list_any}
-use Rattle.std.proofs.lemmas.Bool.{false≢true}
 use Rattle.std.proofs.lemmas.Option.{slice_get_within}
 use Rattle.ix_extension.specs.Extensions.{ExtensionTree, view_extension}
 use Rattle.ix_graph.specs.declared.graph.Op.{Op}
@@ -16,14 +15,12 @@ use Rattle.ix_standing.specs.Standing.{behaviours_of, is_block, Stands}
 use Rattle.rv_isa.specs.Fields.{rd_of}
 use Rattle.rv_unit.specs.Numbering.{is_decoupled, lasts_of, unit_after, unit_of}
 use Rattle.rv_asks.specs.declared.asks.Act.{Act}
-use Rattle.rv_asks.specs.declared.asks.Asks.{Asks}
 use Rattle.rv_asks.specs.Acts as acts
-use Rattle.rv_asks.specs.Asks.{flags, some_so, with_word, base_asks, block_acts, blank_in, asks_in}
-use Rattle.rv_asks.proofs.Flags.{flags_at}
+use Rattle.rv_asks.specs.Asks.{flags, some_so, asks_in}
 use Rattle.rv_effect.specs.declared.decoded.Decoded.{Decoded}
 use Rattle.rv_effect.specs.declared.decoded.Decoded.TheVariants as D
 use Rattle.rv_effect.specs.Decoding.{decoded_in}
-use Rattle.rv_lawful.specs.Sight.{asked, SpawnsNothing, QuietLaw}
+use Rattle.rv_lawful.specs.Sight.{SpawnsNothing, QuietLaw}
 use Rattle.rv_sight.proofs.Plans.{there, plan_of, own_within}
 use Rattle.rv_sight.proofs.Asking.{asks_of, own_asks, base_asks_are, none_asks}
 use Rattle.rv_sight.proofs.Spawning.{NeverSpawns}
@@ -38,7 +35,7 @@ not_spawned : (b c : Bool) → b ≡ false → (b && c) ≡ false
 not_spawned true c e = cc
 not_spawned false c e = refl
 
-neither : (a b : Bool) → a ≡ false → b ≡ false → cond a true b ≡ false
+neither : (a b : Bool) → a ≡ false → b ≡ false → (a || b) ≡ false
 neither true b e h = cc
 neither false b e h = h
 

@@ -8,12 +8,12 @@ ghost use Rattle.rv_lawful.specs.Sight.{EarlyLaw, ExactLaw, KeepsLaw, TailLaw, Q
 use ix_depends::depend_laws;
 
 /// On the core of a design that stands for its extension a word that is tried with what agrees with a state where it is asked comes to the step of
-/// that state: wholly with the memory of the state, and by EX, where no `spawn` stands in the extension, but for rd and late writes; then what is not
-/// asked for is kept, and nothing is asked of a unit. No module goes on for long. It does nothing: its contract is what it is for.
+/// that state: wholly with the memory of the state, and by EX but for rd and late and spawned writes; what is not asked for is kept. Where no `spawn` stands in
+/// the extension nothing is asked of a unit. No module goes on for long. It does nothing: its contract is what it is for.
 pub fn sight_laws()
-    ensures early { (d : Design) → Stands d → first_spawning (view_extension d.extension) ≡ None → EarlyLaw d }
+    ensures early { (d : Design) → Stands d → EarlyLaw d }
     ensures exact { (d : Design) → Stands d → ExactLaw d }
-    ensures keeps { (d : Design) → Stands d → first_spawning (view_extension d.extension) ≡ None → KeepsLaw d }
+    ensures keeps { (d : Design) → Stands d → KeepsLaw d }
     ensures quiet { (d : Design) → Stands d → first_spawning (view_extension d.extension) ≡ None → QuietLaw d }
     ensures tails { (d : Design) → Stands d → TailLaw d }
 {

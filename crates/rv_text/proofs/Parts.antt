@@ -5,6 +5,7 @@ use Rattle.std.proofs.lemmas.List.{append-nil}
 use Rattle.ix_io.specs.Sink.{Appends, AppendsFront}
 use Rattle.ix_io.proofs.Appended.{Appends_none, Appends_more, AppendsFront_behind, AppendsFront_of_more}
 use Rattle.ix_extension.specs.Extensions.{ExtensionTree}
+use Rattle.ix_plan.specs.declared.design.Target.{Target}
 use Rattle.rv_seq.specs.declared.arch.Arch.{Arch}
 use Rattle.rv_seq.specs.declared.commit.Commit.{Commit}
 use Rattle.rv_seq.specs.declared.commit.Stop.{Stop}
@@ -93,22 +94,23 @@ goes x image n number s t c out out' e f g =
 
 -- a step stops
 pub stops : (x : ExtensionTree) (image : List ℕ) (n number : ℕ) (s t : Arch) (stop : Stop) (out out' : List ℕ) → step x image s ≡ Stopped stop → out' ≡ out ++ stop_line stop → t ≡ s
-    → out ++ lines_from x image (suc n) number s ≡ out' ++ state_text x t
+    → out ++ lines_from x image (suc n) number s ≡ out' ++ state_text x [] t
 unfolding lines_from
 stops x image n number s t stop out out' e f g =
     ap (λ (a : StepAnswer). out ++ lines_after x number s (λ z. lines_from x image n (suc number) z) a) e
-    ∙ sym (append_assoc out (stop_line stop) (state_text x s))
-    ∙ ap (λ l. l ++ state_text x s) (sym f)
-    ∙ ap (λ (z : Arch). out' ++ state_text x z) (sym g)
+    ∙ sym (append_assoc out (stop_line stop) (state_text x [] s))
+    ∙ ap (λ l. l ++ state_text x [] s) (sym f)
+    ∙ ap (λ (z : Arch). out' ++ state_text x [] z) (sym g)
 
 -- no step is left
-pub no_lines : (x : ExtensionTree) (image : List ℕ) (n number : ℕ) (s : Arch) → n ≡ 0 → lines_from x image n number s ≡ state_text x s
+pub no_lines : (x : ExtensionTree) (image : List ℕ) (n number : ℕ) (s : Arch) → n ≡ 0 → lines_from x image n number s ≡ state_text x [] s
 unfolding lines_from
 no_lines x image n number s e = ap (λ m. lines_from x image m number s) e
 
-pub state_is : (x : ExtensionTree) (s : Arch) (registers : ℕ) → length x.registers ≡ registers → state_text x s ≡ head_text registers s ++ memory_lines s.mem 262144 0
+pub state_is : (x : ExtensionTree) (outstanding : List (ℕ × Target)) (s : Arch) (registers : ℕ) → length x.registers ≡ registers
+    → state_text x outstanding s ≡ head_text registers outstanding s ++ memory_lines s.mem 262144 0
 unfolding state_text
-state_is x s registers e = ap (λ n. head_text n s ++ memory_lines s.mem 262144 0) e
+state_is x outstanding s registers e = ap (λ n. head_text n outstanding s ++ memory_lines s.mem 262144 0) e
 
 pub run_is : (x : ExtensionTree) (image : List ℕ) (steps : ℕ) (s : Arch) → s ≡ first x → lines_from x image steps 0 s ≡ run_text x image steps
 unfolding run_text

@@ -1,8 +1,11 @@
--- The text of a sequential run (this project's choice): a line a step, the stop if there is one, and the state behind the last step.
+-- The text of a sequential run (this project's choice): a line a step, the stop if there is one, and the state behind the last step. The text of that state is also that behind
+-- the rows of a pipeline.
 use Rattle.std.specs.Prelude.{ℕ, zero, suc, ◌+◌, ◌*◌, ◌/◌, List, [], ◌∷◌, ◌++◌, length, take, Option, Some, None, Bool, true, false, if◌then◌else◌, ◌==◌, codes, decimal}
+use Rattle.std.specs.List.{flat_map}
 use Rattle.ix_bits.specs.declared.number.Bits.{Bits}
 use Rattle.ix_io.specs.Out.{hex_digits}
 use Rattle.ix_extension.specs.Extensions.{ExtensionTree}
+use Rattle.ix_plan.specs.declared.design.Target.{Target}
 use Rattle.rv_memory.specs.Room.{base, read}
 use Rattle.rv_seq.specs.declared.commit.Commit.{Commit}
 use Rattle.rv_seq.specs.declared.commit.Stop.{Stop}
@@ -13,7 +16,7 @@ use Rattle.rv_seq.specs.declared.answer.StepAnswer.TheVariants.{Done, Stopped}
 use Rattle.rv_seq.specs.States.{first}
 use Rattle.rv_seq.specs.Commits.{applied}
 use Rattle.rv_seq.specs.Steps.{step}
-use Rattle.rv_trace.specs.TraceText.{hex_word_text, stop_text, retired_text, registers_text}
+use Rattle.rv_trace.specs.TraceText.{hex_word_text, stop_text, target_text, retired_text, registers_text}
 
 -- a step is told as a pipeline tells a retirement, with the step's number for the serial
 abbrev pub step_line : ℕ → Commit → List ℕ
@@ -41,10 +44,20 @@ abbrev pub trap_text : Option TrapState → List ℕ
 trap_text None = []
 trap_text (Some t) = codes "epc " ++ hex_word_text t.epc ++ codes "\nenabled " ++ flag_text t.enabled ++ codes "\n"
 
--- the pc, the trap state, each x register that is not 0, and so many custom registers
-abbrev pub head_text : ℕ → Arch → List ℕ
-head_text registers s =
-    codes "state\npc " ++ hex_word_text s.pc ++ codes "\n" ++ trap_text s.trap ++ registers_text 0 s.x ++ custom_lines 0 (take registers s.custom)
+-- a register with an outstanding write, behind the serial of the instruction that writes it
+abbrev pub outstanding_line : ℕ × Target → List ℕ
+outstanding_line p = codes "o " ++ decimal p.0 ++ codes " " ++ target_text p.1 ++ codes "\n"
+
+-- the pc, the trap state, each x register that is not 0, so many custom registers, and the registers with outstanding writes
+abbrev pub head_text : ℕ → List (ℕ × Target) → Arch → List ℕ
+head_text registers outstanding s =
+    codes "state\npc "
+    ++ hex_word_text s.pc
+    ++ codes "\n"
+    ++ trap_text s.trap
+    ++ registers_text 0 s.x
+    ++ custom_lines 0 (take registers s.custom)
+    ++ flat_map outstanding_line outstanding
 
 -- an aligned word of the memory that is not 0
 abbrev pub word_line : ℕ → ℕ → List ℕ
@@ -58,18 +71,19 @@ unfoldable pub memory_lines : List ℕ → ℕ → ℕ → List ℕ
 memory_lines memory zero k = []
 memory_lines memory (suc n) k = memory_word memory k ++ memory_lines memory n (suc k)
 
-unfoldable pub state_text : ExtensionTree → Arch → List ℕ
-state_text x s = head_text (length x.registers) s ++ memory_lines s.mem 262144 0
+-- a state behind a run, with these outstanding writes, in the order in which the instructions retired
+unfoldable pub state_text : ExtensionTree → List (ℕ × Target) → Arch → List ℕ
+state_text x outstanding s = head_text (length x.registers) outstanding s ++ memory_lines s.mem 262144 0
 
 -- ---- the run
 -- the line of what a step comes to, and what is told behind it; nothing is tried after a stop
 abbrev pub lines_after : ExtensionTree → ℕ → Arch → (Arch → List ℕ) → StepAnswer → List ℕ
-lines_after x number s rest (Stopped stop) = stop_line stop ++ state_text x s
+lines_after x number s rest (Stopped stop) = stop_line stop ++ state_text x [] s
 lines_after x number s rest (Done c) = step_line number c ++ rest (applied c s)
 
 -- the lines of at most so many steps from a state on, of which the first has this number, and of the state behind them
 unfoldable pub lines_from : ExtensionTree → List ℕ → ℕ → ℕ → Arch → List ℕ
-lines_from x image zero number s = state_text x s
+lines_from x image zero number s = state_text x [] s
 lines_from x image (suc n) number s = lines_after x number s (λ t. lines_from x image n (suc number) t) (step x image s)
 
 -- the run of an image on a core with this extension, of at most so many steps

@@ -44,7 +44,7 @@ fn step_told(
     ensures wide { AreWide (view_extension ext.now) arch.new.custom }
     ensures scratch { IsScratchOf (view_extension ext.now) scratch.new }
     ensures goes_on { result ≡ true → (n : ℕ) → out.old ++ lines_from (view_extension ext.now) image.now (suc n) number arch.old ≡ out.new ++ lines_from (view_extension ext.now) image.now n (suc number) arch.new }
-    ensures stops { result ≡ false → (n : ℕ) → out.old ++ lines_from (view_extension ext.now) image.now (suc n) number arch.old ≡ out.new ++ state_text (view_extension ext.now) arch.new }
+    ensures stops { result ≡ false → (n : ℕ) → out.old ++ lines_from (view_extension ext.now) image.now (suc n) number arch.old ≡ out.new ++ state_text (view_extension ext.now) [] arch.new }
 {
     match seq_step(ext, image, arch, scratch) {
         StepAnswer::Done(commit) => {
@@ -71,7 +71,7 @@ fn write_steps<S: Sink>(
     requires well_formed { IsWellFormed ext.now }
     requires wide { AreWide (view_extension ext.now) arch.old.custom }
     requires scratch { IsScratchOf (view_extension ext.now) scratch.old }
-    ensures carries { OnOk result (Carries (S.written sink.old) out.old (lines_from (view_extension ext.now) image.now steps 0 arch.old) (S.written sink.new) out.new (state_text (view_extension ext.now) arch.new)) }
+    ensures carries { OnOk result (Carries (S.written sink.old) out.old (lines_from (view_extension ext.now) image.now steps 0 arch.old) (S.written sink.new) out.new (state_text (view_extension ext.now) [] arch.new)) }
     ensures breaks { OnErr result (Breaks (S.written sink.old) out.old (lines_from (view_extension ext.now) image.now steps 0 arch.old) (S.written sink.new)) }
     ensures fault { OnErr result (Rose (S.faults sink.old) (S.faults sink.new)) }
     ensures never_fell { S.faults sink.old ≤ S.faults sink.new }
@@ -109,7 +109,7 @@ fn write_whole<S: Sink>(
     ensures fault { OnErr result (Rose (S.faults sink.old) (S.faults sink.new)) }
 {
     match write_steps(ext, image, steps, arch, scratch, out, sink) {
-        Ok(()) => match write_state(ext.registers.len(), arch, out, sink) {
+        Ok(()) => match write_state(ext.registers.len(), &[], arch, out, sink) {
             Ok(()) => out.flush(sink),
             Err(error) => Err(error),
         },

@@ -1,11 +1,12 @@
 ghost use Rattle.std.specs.Prelude.{◌≡◌, ◌+◌, ◌*◌, ◌<◌, ◌≤◌, ◌^◌, ◌++◌, length, take, decimal, codes};
-ghost use Rattle.rv_text.specs.RunText.{custom_line, custom_lines, flag_text, head_text, memory_word, trap_text, word_line};
+ghost use Rattle.std.specs.List.{flat_map};
+ghost use Rattle.rv_text.specs.RunText.{custom_line, custom_lines, flag_text, head_text, memory_word, outstanding_line, trap_text, word_line};
 
 use ix_bits::Bits;
 use ix_io::Out;
 use rv_memory::{BASE, RandomAccess};
 use rv_seq::{Arch, TrapState};
-use rv_trace::{put_registers, put_small, put_word};
+use rv_trace::{Target, put_number, put_registers, put_small, put_target, put_word};
 
 // Appends the line of a custom register.
 fn put_custom(out: &mut Out, number: u8, value: Bits)
@@ -61,13 +62,39 @@ fn put_trap(out: &mut Out, trap: Option<TrapState>)
     }
 }
 
-/// Appends the first lines of a state: the pc, the trap state, if there is one, each x register that is not 0, and the extension's custom registers, at most 16. Needs
-/// room for 1,100 bytes, and takes no memory.
-pub fn put_head(out: &mut Out, arch: &Arch, registers: usize)
+// Appends the line of an outstanding write.
+fn put_outstanding_line(out: &mut Out, serial: u32, target: Target)
+    requires { length out.old + 18 ≤ 65536 }
+    ensures text { out.new ≡ out.old ++ outstanding_line (serial, target) }
+    ensures few { length out.new ≤ length out.old + 18 }
+{
+    out.text("o ");
+    put_number(out, serial);
+    out.text(" ");
+    put_target(out, target);
+    out.text("\n");
+}
+
+// Appends the lines of outstanding writes.
+fn put_outstanding(out: &mut Out, outstanding: &[(u32, Target)])
+    requires few { length outstanding.now ≤ 48 }
+    requires room { length out.old + 864 ≤ 65536 }
+    ensures text { out.new ≡ out.old ++ flat_map outstanding_line outstanding.now }
+    ensures few { length out.new ≤ length out.old + 18 * length outstanding.now }
+{
+    for (serial, target) in outstanding {
+        put_outstanding_line(out, *serial, *target);
+    }
+}
+
+/// Appends the first lines of a state: the pc, the trap state, if there is one, each x register that is not 0, the extension's custom registers, at most 16, and the
+/// outstanding writes, at most 48. Needs room for 1,964 bytes, and takes no memory.
+pub fn put_head(out: &mut Out, arch: &Arch, registers: usize, outstanding: &[(u32, Target)])
     requires few { registers ≤ 16 }
-    requires room { length out.old + 1100 ≤ 65536 }
-    ensures text { out.new ≡ out.old ++ head_text registers arch.now }
-    ensures few { length out.new ≤ length out.old + 1100 }
+    requires outstanding { length outstanding.now ≤ 48 }
+    requires room { length out.old + 1964 ≤ 65536 }
+    ensures text { out.new ≡ out.old ++ head_text registers outstanding.now arch.now }
+    ensures few { length out.new ≤ length out.old + 1964 }
 {
     out.text("state\npc ");
     put_word(out, arch.pc);
@@ -75,6 +102,7 @@ pub fn put_head(out: &mut Out, arch: &Arch, registers: usize)
     put_trap(out, arch.trap);
     put_registers(out, &arch.x);
     put_customs(out, &arch.custom[..registers]);
+    put_outstanding(out, outstanding);
 }
 
 /// Appends the line of an aligned word of the memory, from 0 to 262,143, where it is not 0. Needs room for 20 bytes, and takes no memory.

@@ -8,6 +8,7 @@ use crate::state_text::{put_head, put_memory_word};
 use ix_io::{Out, Sink, WriteErr};
 use rv_memory::RandomAccess;
 use rv_seq::Arch;
+use rv_trace::Target;
 
 /// Writes what is buffered where there is not room for a line.
 pub fn make_room<S: Sink>(out: &mut Out, sink: &mut S) -> Result<(), WriteErr>
@@ -47,39 +48,43 @@ pub fn write_memory<S: Sink>(
 // Writes the first lines of the state, but for what stays in the buffer.
 fn write_head<S: Sink>(
     registers: usize,
+    outstanding: &[(u32, Target)],
     arch: &Arch,
     out: &mut Out,
     sink: &mut S,
 ) -> Result<(), WriteErr>
-    requires { registers ≤ 16 }
-    ensures carries { OnOk result ((rest : List ℕ) → Carries (S.written sink.old) out.old (head_text registers arch.now ++ rest) (S.written sink.new) out.new rest) }
+    requires few { registers ≤ 16 }
+    requires outstanding { length outstanding.now ≤ 48 }
+    ensures carries { OnOk result ((rest : List ℕ) → Carries (S.written sink.old) out.old (head_text registers outstanding.now arch.now ++ rest) (S.written sink.new) out.new rest) }
     ensures breaks { OnErr result ((rest : List ℕ) → Breaks (S.written sink.old) out.old rest (S.written sink.new)) }
     ensures fault { OnErr result (Rose (S.faults sink.old) (S.faults sink.new)) }
     ensures never_fell { S.faults sink.old ≤ S.faults sink.new }
 {
     match make_room(out, sink) {
         Ok(()) => {
-            put_head(out, arch, registers);
+            put_head(out, arch, registers, outstanding);
             Ok(())
         }
         Err(error) => Err(error),
     }
 }
 
-/// Writes the lines of the state.
+/// Writes the lines of the state, which has so many custom registers, 0 to 16, and these outstanding writes, at most 48.
 pub fn write_state<S: Sink>(
     registers: usize,
+    outstanding: &[(u32, Target)],
     arch: &Arch,
     out: &mut Out,
     sink: &mut S,
 ) -> Result<(), WriteErr>
-    requires { registers ≤ 16 }
-    ensures carries { OnOk result ((x : ExtensionTree) → length x.registers ≡ registers → Carries (S.written sink.old) out.old (state_text x arch.now) (S.written sink.new) out.new []) }
-    ensures breaks { OnErr result ((x : ExtensionTree) → length x.registers ≡ registers → Breaks (S.written sink.old) out.old (state_text x arch.now) (S.written sink.new)) }
+    requires few { registers ≤ 16 }
+    requires outstanding { length outstanding.now ≤ 48 }
+    ensures carries { OnOk result ((x : ExtensionTree) → length x.registers ≡ registers → Carries (S.written sink.old) out.old (state_text x outstanding.now arch.now) (S.written sink.new) out.new []) }
+    ensures breaks { OnErr result ((x : ExtensionTree) → length x.registers ≡ registers → Breaks (S.written sink.old) out.old (state_text x outstanding.now arch.now) (S.written sink.new)) }
     ensures fault { OnErr result (Rose (S.faults sink.old) (S.faults sink.new)) }
     ensures never_fell { S.faults sink.old ≤ S.faults sink.new }
 {
-    match write_head(registers, arch, out, sink) {
+    match write_head(registers, outstanding, arch, out, sink) {
         Ok(()) => write_memory(&arch.mem, out, sink),
         Err(error) => Err(error),
     }

@@ -31,6 +31,7 @@ stop_text Misaligned = codes "Misaligned"
 stop_text DataRange = codes "DataRange"
 stop_text target_stop = codes "Target"
 
+-- a register by its letter and its number
 abbrev pub target_text : Target → List ℕ
 target_text (X r) = codes "x" ++ decimal r
 target_text (custom_target c) = codes "c" ++ decimal c

@@ -8,6 +8,8 @@ mod trace;
 
 pub use ix_plan::Target;
 pub use row::{Cell, Hold, Row};
-pub use row_text::{put_registers, put_retired, put_row, put_small, put_stop, put_word};
+pub use row_text::{
+    put_number, put_registers, put_retired, put_row, put_small, put_stop, put_target, put_word,
+};
 pub use rv_waits::Lines;
 pub use trace::Trace;

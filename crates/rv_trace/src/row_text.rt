@@ -2,7 +2,7 @@ ghost use Rattle.std.specs.Prelude.{◌≡◌, ◌+◌, ◌*◌, ◌/◌, ◌%�
 ghost use Rattle.std.specs.List.{flat_map};
 ghost use Rattle.ix_io.specs.Out.{hex_digits};
 ghost use Rattle.rv_trace.specs.Trace.{has_serial};
-ghost use Rattle.rv_trace.specs.TraceText.{hex_word_text, stop_text, hold_text, held_text, stage_text, mark_text, retired_serial as specified_retired_serial, written_serial as specified_written_serial, redirect_text, taken_text, row_stop_text, x_write_text, custom_write_text, custom_writes_text, store_text, next_text, writes_text, retired_text, written_text, row_line, row_text, register_text, registers_text};
+ghost use Rattle.rv_trace.specs.TraceText.{hex_word_text, stop_text, target_text, hold_text, held_text, stage_text, mark_text, retired_serial as specified_retired_serial, written_serial as specified_written_serial, redirect_text, taken_text, row_stop_text, x_write_text, custom_write_text, custom_writes_text, store_text, next_text, writes_text, retired_text, written_text, row_line, row_text, register_text, registers_text};
 
 use crate::row::{Cell, Hold, Row};
 use ix_bits::Bits;
@@ -12,7 +12,7 @@ use rv_core::Shape;
 use rv_seq::{Access, Commit, Slot, Stop};
 
 /// Appends at most 10 digits.
-fn put_number(out: &mut Out, number: u32)
+pub fn put_number(out: &mut Out, number: u32)
     requires { length out.old + 10 ≤ 65536 }
     ensures text { out.new ≡ out.old ++ decimal number }
     ensures few { length out.new ≤ length out.old + 10 }
@@ -59,6 +59,24 @@ pub fn put_stop(out: &mut Out, stop: Stop)
     }
 }
 
+/// Appends the letter and the number of a register: `x` or `c`, and at most 3 digits.
+pub fn put_target(out: &mut Out, target: Target)
+    requires { length out.old + 4 ≤ 65536 }
+    ensures text { out.new ≡ out.old ++ target_text target }
+    ensures few { length out.new ≤ length out.old + 4 }
+{
+    match target {
+        Target::X(number) => {
+            out.text("x");
+            put_small(out, number);
+        }
+        Target::Custom(number) => {
+            out.text("c");
+            put_small(out, number);
+        }
+    }
+}
+
 /// Appends a hold's name, up to its bracket, and the number that it names.
 fn put_number_hold(out: &mut Out, name: &str, number: u32)
     requires short { length name.now ≤ 11 }
@@ -85,6 +103,19 @@ fn put_register_hold(out: &mut Out, name: &str, register: u8, serial: u32)
     out.text(")");
 }
 
+/// Appends the hold of a register with an outstanding write.
+fn put_board(out: &mut Out, target: Target, serial: u32)
+    requires { length out.old + 22 ≤ 65536 }
+    ensures text { out.new ≡ out.old ++ (codes "Board(" ++ target_text target ++ codes "," ++ decimal serial ++ codes ")") }
+    ensures few { length out.new ≤ length out.old + 22 }
+{
+    out.text("Board(");
+    put_target(out, target);
+    out.text(",");
+    put_number(out, serial);
+    out.text(")");
+}
+
 fn put_hold(out: &mut Out, hold: Hold)
     requires { length out.old + 25 ≤ 65536 }
     ensures text { out.new ≡ out.old ++ hold_text hold }
@@ -92,8 +123,7 @@ fn put_hold(out: &mut Out, hold: Hold)
 {
     match hold {
         Hold::Operand(r, serial) => put_register_hold(out, "Operand(x", r, serial),
-        Hold::Board(Target::X(r), serial) => put_register_hold(out, "Board(x", r, serial),
-        Hold::Board(Target::Custom(c), serial) => put_register_hold(out, "Board(c", c, serial),
+        Hold::Board(target, serial) => put_board(out, target, serial),
         Hold::Custom(c, serial) => put_register_hold(out, "Custom(c", c, serial),
         Hold::Late(serial) => put_number_hold(out, "Late(", serial),
         Hold::Trap => out.text("Trap"),

@@ -1,10 +1,10 @@
 -- There are no more entries than the units have times.
-use Rattle.std.proofs.Common.{◌≡◌, ℕ, zero, suc, ◌+◌, ◌<◌, ◌≤◌, List, [], ◌∷◌, length, Bool, true, false, refl, sym, ap, ◌∙◌, subst, arith, All}
-use Rattle.std.specs.Prelude.{◌&&◌, if◌then◌else◌, ◌==◌, ◌-◌, slice_index}
+use Rattle.std.proofs.Common.{◌≡◌, ℕ, zero, suc, ◌+◌, ◌*◌, ◌<◌, ◌≤◌, List, [], ◌∷◌, length, drop, Bool, true, false, refl, sym, ap, ◌∙◌, subst, arith}
+use Rattle.std.specs.Prelude.{◌==◌, ◌-◌, slice_index}
 use Rattle.std.proofs.lemmas.Bool.Decides.{nat_tests}
 use Rattle.rv_unit.specs.declared.entry.Entry.{Entry}
 use Rattle.rv_unit.specs.Entries.{last_time}
-use Rattle.rv_unit.specs.Timed.{AreUnits, IsEntry, IsBehind, IsTimed, room}
+use Rattle.rv_unit.specs.Timed.{AreUnits, IsBehind, IsTimed, room}
 use Rattle.rv_unit.specs.UnitLaws.{RoomLaw}
 use Rattle.rv_unit.proofs.Moving.{first_time}
 
@@ -95,15 +95,38 @@ in_units_few stages lasts l u (last ∷ ls) h =
     let more : (k : ℕ) → u + suc k ≡ u + 1 + k = λ k. omega arith in
     let here : in_unit u l ≤ last + 1 - stages = subst (λ v. in_unit v l ≤ last + 1 - stages) none (h 0 (omega arith)) in
     let rest = in_units_few stages lasts l (u + 1) ls
-        (λ k lt. subst (λ v. in_unit v l ≤ last_time ls k + 1 - stages) (more k) (h (suc k) (omega arith))) in
+    (λ k lt. subst (λ v. in_unit v l ≤ last_time ls k + 1 - stages) (more k) (h (suc k) (omega arith))) in
     omega (arith, here, rest)
 
 pub room_law : RoomLaw
 room_law stages lasts l units t =
     let all = in_units_all stages lasts l t in
     let few = in_units_few stages lasts l 0 lasts (λ k lt.
-        let none : 0 + k ≡ k = omega arith in
-        let le = first_time stages lasts k units.first lt in
-        let here = in_unit_few stages lasts k stages l (omega (arith, le)) (since_first stages lasts k l t) t in
-        subst (λ v. in_unit v l ≤ last_time lasts k + 1 - stages) (sym none) (omega (arith, here))) in
+    let none : 0 + k ≡ k = omega arith in
+    let le = first_time stages lasts k units.first lt in
+    let here = in_unit_few stages lasts k stages l (omega (arith, le)) (since_first stages lasts k l t) t in
+    subst (λ v. in_unit v l ≤ last_time lasts k + 1 - stages) (sym none) (omega (arith, here))) in
     omega (arith, all, few)
+
+-- ---- how many times the units have
+pub room_rest : (stages : ℕ) (lasts : List ℕ) (i : ℕ) → i < length lasts →
+    room stages (drop i lasts) ≡ (slice_index lasts i + 1 - stages) + room stages (drop (i + 1) lasts)
+room_rest stages [] i lt = absurd (omega arith)
+room_rest stages (last ∷ lasts) zero lt = refl
+room_rest stages (last ∷ lasts) (suc i) lt =
+    room_rest stages lasts i (omega arith) ∙ ap (λ k. (slice_index lasts i + 1 - stages) + room stages (drop k (last ∷ lasts))) more where
+      more : suc (i + 1) ≡ suc i + 1
+      more = omega arith
+
+room_most : (stages : ℕ) (lasts : List ℕ) → ((k : ℕ) → k < length lasts → slice_index lasts k ≤ 64) → room stages lasts ≤ 65 * length lasts
+room_most stages [] h = omega arith
+room_most stages (last ∷ lasts) h =
+    let here : last ≤ 64 = h 0 (omega arith) in
+    let rest = room_most stages lasts (λ k lt. h (suc k) (omega arith)) in
+    omega (arith, here, rest)
+
+pub room_few : (stages : ℕ) (lasts : List ℕ) → AreUnits stages lasts → room stages lasts ≤ 4680
+room_few stages lasts units =
+    let most = room_most stages lasts (λ k lt. units.most k 0 lt) in
+    let few = units.few in
+    omega (arith, most, few)

@@ -1,11 +1,11 @@
 -- Which units have a finished entry, and which one writes.
-use Rattle.std.proofs.Common.{◌≡◌, ℕ, zero, suc, ◌+◌, ◌<◌, ◌≤◌, List, [], ◌∷◌, length, Option, Some, None, Bool, true, false, refl, sym, ap, ◌∙◌, subst, arith, ◌⊎◌, inl, inr}
+use Rattle.std.proofs.Common.{◌≡◌, ℕ, ◌<◌, ◌≤◌, List, [], ◌∷◌, length, Option, Some, None, Bool, true, false, refl, ap, ◌∙◌, arith}
 use Rattle.std.specs.Prelude.{◌&&◌, ◌||◌, not, if◌then◌else◌, ◌==◌, min}
 use Rattle.std.proofs.lemmas.Bool.Decides.{nat_tests}
 use Rattle.ix_plan.specs.Units.{has_some, with_unit}
 use Rattle.rv_unit.specs.declared.entry.Entry.{Entry}
 use Rattle.rv_unit.specs.Entries.{last_time, is_finished, has_finished, lower, writer, is_number, is_frozen, does_write, written_among, unit_and_serial}
-use Rattle.rv_unit.specs.Timed.{IsEntry, IsBehind, IsTimed}
+use Rattle.rv_unit.specs.Timed.{IsTimed}
 use Rattle.rv_unit.specs.Slots.{serial_at}
 
 -- ---- the unit that writes
@@ -39,22 +39,22 @@ pub writer_least : (lasts : List ℕ) (w u : ℕ) (l : List Entry) → writer la
 writer_least lasts w u [] h f = cc
 writer_least lasts w u (e ∷ rest) h f =
     by_case (is_finished lasts e) (writer lasts rest) refl (e.unit == u) refl h f (λ v r g. writer_least lasts v u rest r g) where
-  by_case : (a : Bool) (o : Option ℕ) → writer lasts rest ≡ o → (b : Bool) → (e.unit == u) ≡ b → (if a then Some (lower e.unit o) else o) ≡ Some w →
-      ((a && b) || has_finished lasts u rest) ≡ true → ((v : ℕ) → writer lasts rest ≡ Some v → has_finished lasts u rest ≡ true → v ≤ u) → w ≤ u
-  by_case false o r b q h f ih = ih w (r ∙ h) f
-  by_case true None r true q h f ih =
-      let same : e.unit ≡ w = cc in
-      grind (arith, nat_tests)
-  by_case true None r false q h f ih =
-      let never : has_finished lasts u rest ≡ false = none_finished lasts u rest r in
-      cc
-  by_case true (Some v) r true q h f ih =
-      let least : min e.unit v ≡ w = cc in
-      grind (arith, nat_tests)
-  by_case true (Some v) r false q h f ih =
-      let least : min e.unit v ≡ w = cc in
-      let below : v ≤ u = ih v r f in
-      omega arith
+      by_case : (a : Bool) (o : Option ℕ) → writer lasts rest ≡ o → (b : Bool) → (e.unit == u) ≡ b → (if a then Some (lower e.unit o) else o) ≡ Some w →
+          ((a && b) || has_finished lasts u rest) ≡ true → ((v : ℕ) → writer lasts rest ≡ Some v → has_finished lasts u rest ≡ true → v ≤ u) → w ≤ u
+      by_case false o r b q h f ih = ih w (r ∙ h) f
+      by_case true None r true q h f ih =
+          let same : e.unit ≡ w = cc in
+          grind (arith, nat_tests)
+      by_case true None r false q h f ih =
+          let never : has_finished lasts u rest ≡ false = none_finished lasts u rest r in
+          cc
+      by_case true (Some v) r true q h f ih =
+          let least : min e.unit v ≡ w = cc in
+          grind (arith, nat_tests)
+      by_case true (Some v) r false q h f ih =
+          let least : min e.unit v ≡ w = cc in
+          let below : v ≤ u = ih v r f in
+          omega arith
 
 -- ---- what is finished in a part of the list
 abbrev pub Within : List ℕ → List Entry → List Entry → Type 0
@@ -85,13 +85,13 @@ pub finished_below : (stages : ℕ) (lasts : List ℕ) (u : ℕ) (l : List Entry
 finished_below stages lasts u [] t h = cc
 finished_below stages lasts u (e ∷ rest) t h =
     by_case (is_finished lasts e) (e.unit == u) refl h (λ h'. finished_below stages lasts u rest t.2 h') where
-  by_case : (a b : Bool) → (e.unit == u) ≡ b → ((a && b) || has_finished lasts u rest) ≡ true → (has_finished lasts u rest ≡ true → u < length lasts) →
-      u < length lasts
-  by_case true true q h ih =
-      let below : e.unit < length lasts = t.0.below in
-      grind (arith, nat_tests)
-  by_case true false q h ih = ih h
-  by_case false b q h ih = ih h
+      by_case : (a b : Bool) → (e.unit == u) ≡ b → ((a && b) || has_finished lasts u rest) ≡ true → (has_finished lasts u rest ≡ true → u < length lasts) →
+          u < length lasts
+      by_case true true q h ih =
+          let below : e.unit < length lasts = t.0.below in
+          grind (arith, nat_tests)
+      by_case true false q h ih = ih h
+      by_case false b q h ih = ih h
 
 -- ---- serials at the last time
 -- the two tests for an entry of the unit at its last time are one

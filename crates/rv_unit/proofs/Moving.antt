@@ -1,12 +1,12 @@
 -- The entries a row later.
-use Rattle.std.proofs.Common.{◌≡◌, ℕ, zero, suc, ◌+◌, ◌<◌, ◌≤◌, ◌≢◌, List, [], ◌∷◌, ◌++◌, length, map, Option, Some, None, Bool, true, false, refl, sym, ap, ◌∙◌, subst, arith, All}
-use Rattle.std.specs.Prelude.{◌&&◌, ◌||◌, not, if◌then◌else◌, ◌==◌, slice_index}
+use Rattle.std.proofs.Common.{◌≡◌, ℕ, suc, ◌+◌, ◌<◌, ◌≤◌, List, [], ◌∷◌, length, map, Option, Some, None, Bool, true, false, refl, sym, ap, ◌∙◌, arith, All}
+use Rattle.std.specs.Prelude.{◌&&◌, ◌||◌, not, if◌then◌else◌, ◌==◌}
 use Rattle.std.proofs.lemmas.Bool.Decides.{nat_tests}
 use Rattle.rv_unit.specs.declared.entry.Entry.{Entry}
-use Rattle.rv_unit.specs.Entries.{last_time, is_finished, has_finished, writer, is_number, is_frozen, does_write, written_among, written_entry, moved, cons_unless, stepped, entered, next_entries}
-use Rattle.rv_unit.specs.Timed.{AreUnits, IsEntry, IsBehind, IsTimed, CanEnter}
+use Rattle.rv_unit.specs.Entries.{last_time, is_finished, has_finished, writer, is_number, is_frozen, does_write, written_among, moved, cons_unless, stepped}
+use Rattle.rv_unit.specs.Timed.{IsBehind, IsTimed}
 use Rattle.rv_unit.specs.Slots.{serial_at}
-use Rattle.rv_unit.specs.UnitLaws.{TimedLaw, GoesOnLaw, LeavesLaw, one_later}
+use Rattle.rv_unit.specs.UnitLaws.{TimedLaw, AloneLaw, GoesOnLaw, LeavesLaw, one_later}
 use Rattle.rv_unit.proofs.Finishing.{none_finished, writer_finished, Within, within_rest, not_finished}
 
 -- ---- times stay within the units
@@ -28,25 +28,25 @@ timed_stepped : (stages : ℕ) (lasts : List ℕ) (all l : List Entry) → Withi
 timed_stepped stages lasts all [] w h = tt
 timed_stepped stages lasts all (e ∷ rest) w h =
     by_case (does_write lasts all e) refl (timed_stepped stages lasts all rest (within_rest lasts all e rest w) h.2) where
-  in_time : does_write lasts all e ≡ false → (b : Bool) → is_frozen lasts all e.unit ≡ b → (if b then e.time else suc e.time) ≤ last_time lasts e.unit
-  in_time d true q = h.0.last
-  in_time d false q =
-      let n = not_finished lasts all e rest w d q in
-      let le = h.0.last in
-      grind (arith, nat_tests)
+      in_time : does_write lasts all e ≡ false → (b : Bool) → is_frozen lasts all e.unit ≡ b → (if b then e.time else suc e.time) ≤ last_time lasts e.unit
+      in_time d true q = h.0.last
+      in_time d false q =
+          let n = not_finished lasts all e rest w d q in
+          let le = h.0.last in
+          grind (arith, nat_tests)
 
-  since : (b : Bool) → stages ≤ (if b then e.time else suc e.time)
-  since true = h.0.first
-  since false = (let le = h.0.first in omega arith)
+      since : (b : Bool) → stages ≤ (if b then e.time else suc e.time)
+      since true = h.0.first
+      since false = (let le = h.0.first in omega arith)
 
-  by_case : (b : Bool) → does_write lasts all e ≡ b → IsTimed stages lasts (stepped lasts all rest) →
-      IsTimed stages lasts (cons_unless b (moved lasts all e) (stepped lasts all rest))
-  by_case true q ih = ih
-  by_case false q ih = (
-    record { below = h.0.below; first = since (is_frozen lasts all e.unit); last = in_time q (is_frozen lasts all e.unit) refl },
-    behind_stepped lasts all e rest h.1,
-    ih,
-  )
+      by_case : (b : Bool) → does_write lasts all e ≡ b → IsTimed stages lasts (stepped lasts all rest) →
+          IsTimed stages lasts (cons_unless b (moved lasts all e) (stepped lasts all rest))
+      by_case true q ih = ih
+      by_case false q ih = (
+        record { below = h.0.below; first = since (is_frozen lasts all e.unit); last = in_time q (is_frozen lasts all e.unit) refl },
+        behind_stepped lasts all e rest h.1,
+        ih,
+      )
 
 -- what enters a unit that is not frozen is behind all of it
 behind_entered : (stages : ℕ) (lasts : List ℕ) (all : List Entry) (u serial : ℕ) (l : List Entry) → is_frozen lasts all u ≡ false → IsTimed stages lasts l →
@@ -82,13 +82,13 @@ all_later : (lasts : List ℕ) (all l : List Entry) → writer lasts all ≡ Non
 all_later lasts all [] h = refl
 all_later lasts all (e ∷ rest) h =
     by_case (is_finished lasts e) (writer lasts all) (is_frozen lasts all e.unit) h (not_frozen lasts all e.unit h) (all_later lasts all rest h) where
-  by_case : (a : Bool) (o : Option ℕ) (f : Bool) → o ≡ None → f ≡ false → stepped lasts all rest ≡ map one_later rest →
-      cons_unless (a && is_number o e.unit) (record { serial = e.serial; unit = e.unit; time = if f then e.time else suc e.time }) (stepped lasts all rest) ≡
-      one_later e ∷ map one_later rest
-  by_case a (Some w) f h q ih = cc
-  by_case a None true h q ih = cc
-  by_case true None false h q ih = ap (λ l. one_later e ∷ l) ih
-  by_case false None false h q ih = ap (λ l. one_later e ∷ l) ih
+      by_case : (a : Bool) (o : Option ℕ) (f : Bool) → o ≡ None → f ≡ false → stepped lasts all rest ≡ map one_later rest →
+          cons_unless (a && is_number o e.unit) (record { serial = e.serial; unit = e.unit; time = if f then e.time else suc e.time }) (stepped lasts all rest) ≡
+          one_later e ∷ map one_later rest
+      by_case a (Some w) f h q ih = cc
+      by_case a None true h q ih = cc
+      by_case true None false h q ih = ap (λ l. one_later e ∷ l) ih
+      by_case false None false h q ih = ap (λ l. one_later e ∷ l) ih
 
 pub goes_on_law : GoesOnLaw
 goes_on_law lasts entries h = (λ u. not_frozen lasts entries u h, all_later lasts entries entries h)
@@ -122,6 +122,9 @@ writes_alone stages lasts all e (p ∷ rest) d b t = by_case (does_write lasts a
       let last : last_time lasts p.unit ≡ last_time lasts e.unit = ap (λ u. last_time lasts u) same in
       absurd (omega (arith, of_e.0, of_p.0, lt, last))
 
+pub alone_law : AloneLaw
+alone_law stages lasts all e older t d = writes_alone stages lasts all e older d t.1 t.2
+
 -- where none of them writes they stay as many
 none_leaves : (lasts : List ℕ) (all l : List Entry) → written_among lasts all l ≡ None → length (stepped lasts all l) ≡ length l
 none_leaves lasts all [] h = refl
@@ -137,19 +140,19 @@ one_leaves : (stages : ℕ) (lasts : List ℕ) (all : List Entry) (u : ℕ) (l :
 one_leaves stages lasts all u [] t w h = cc
 one_leaves stages lasts all u (e ∷ rest) t w h =
     by_case (does_write lasts all e) refl (λ h'. one_leaves stages lasts all u rest t.2 w h') where
-  not_here : (a : Bool) (b : Bool) → (e.unit == u) ≡ b → (a && (u == e.unit)) ≡ false → ((a && b) || has_finished lasts u rest) ≡ true → has_finished lasts u rest ≡ true
-  not_here true true q d h = grind (arith, nat_tests)
-  not_here true false q d h = h
-  not_here false b q d h = h
+      not_here : (a : Bool) (b : Bool) → (e.unit == u) ≡ b → (a && (u == e.unit)) ≡ false → ((a && b) || has_finished lasts u rest) ≡ true → has_finished lasts u rest ≡ true
+      not_here true true q d h = grind (arith, nat_tests)
+      not_here true false q d h = h
+      not_here false b q d h = h
 
-  by_case : (b : Bool) → does_write lasts all e ≡ b → (has_finished lasts u rest ≡ true → length (stepped lasts all rest) + 1 ≡ length rest) →
-      length (cons_unless b (moved lasts all e) (stepped lasts all rest)) + 1 ≡ suc (length rest)
-  by_case true d ih =
-      let same = none_leaves lasts all rest (writes_alone stages lasts all e rest d t.1 t.2) in
-      omega (arith, same)
-  by_case false d ih =
-      let less = ih (not_here (is_finished lasts e) (e.unit == u) refl (rw w at d) h) in
-      omega (arith, less)
+      by_case : (b : Bool) → does_write lasts all e ≡ b → (has_finished lasts u rest ≡ true → length (stepped lasts all rest) + 1 ≡ length rest) →
+          length (cons_unless b (moved lasts all e) (stepped lasts all rest)) + 1 ≡ suc (length rest)
+      by_case true d ih =
+          let same = none_leaves lasts all rest (writes_alone stages lasts all e rest d t.1 t.2) in
+          omega (arith, same)
+      by_case false d ih =
+          let less = ih (not_here (is_finished lasts e) (e.unit == u) refl (rw w at d) h) in
+          omega (arith, less)
 
 pub leaves_law : LeavesLaw
 leaves_law stages lasts entries u units t w = one_leaves stages lasts entries u entries t w (writer_finished lasts u entries w)
@@ -161,30 +164,30 @@ pub serial_frozen : (lasts : List ℕ) (all : List Entry) (u t : ℕ) (l : List 
 serial_frozen lasts all u t [] f = refl
 serial_frozen lasts all u t (e ∷ rest) f =
     by_case (e.unit == u) (does_write lasts all e) (is_frozen lasts all e.unit) refl refl refl (serial_frozen lasts all u t rest f) where
-  silent : (a b c : Bool) → (c && not b) ≡ true → (a && b) ≡ false
-  silent true true c h = by c h where
-    by : (c : Bool) → (c && false) ≡ true → true ≡ false
-    by true h = sym h
-    by false h = sym h
-  silent true false c h = refl
-  silent false b c h = refl
+      silent : (a b c : Bool) → (c && not b) ≡ true → (a && b) ≡ false
+      silent true true c h = by c h where
+        by : (c : Bool) → (c && false) ≡ true → true ≡ false
+        by true h = sym h
+        by false h = sym h
+      silent true false c h = refl
+      silent false b c h = refl
 
-  by_case : (b d f' : Bool) → (e.unit == u) ≡ b → does_write lasts all e ≡ d → is_frozen lasts all e.unit ≡ f' →
-      serial_at u t (stepped lasts all rest) ≡ serial_at u t rest →
-      serial_at u t (cons_unless d (record { serial = e.serial; unit = e.unit; time = if f' then e.time else suc e.time }) (stepped lasts all rest)) ≡
-      (if b && (e.time == t) then Some e.serial else serial_at u t rest)
-  by_case false true f' q d g ih = ih
-  by_case false false f' q d g ih = rw q ih
-  by_case true true f' q d g ih =
-      let same : e.unit ≡ u = grind (arith, nat_tests) in
-      let never : does_write lasts all e ≡ false =
+      by_case : (b d f' : Bool) → (e.unit == u) ≡ b → does_write lasts all e ≡ d → is_frozen lasts all e.unit ≡ f' →
+          serial_at u t (stepped lasts all rest) ≡ serial_at u t rest →
+          serial_at u t (cons_unless d (record { serial = e.serial; unit = e.unit; time = if f' then e.time else suc e.time }) (stepped lasts all rest)) ≡
+          (if b && (e.time == t) then Some e.serial else serial_at u t rest)
+      by_case false true f' q d g ih = ih
+      by_case false false f' q d g ih = rw q ih
+      by_case true true f' q d g ih =
+          let same : e.unit ≡ u = grind (arith, nat_tests) in
+          let never : does_write lasts all e ≡ false =
           silent (is_finished lasts e) (is_number (writer lasts all) e.unit) (has_finished lasts e.unit all) (ap (λ v. is_frozen lasts all v) same ∙ f) in
-      cc
-  by_case true false true q d g ih = rw q (ap (λ o. if e.time == t then Some e.serial else o) ih)
-  by_case true false false q d g ih =
-      let same : e.unit ≡ u = grind (arith, nat_tests) in
-      let stays : is_frozen lasts all e.unit ≡ true = ap (λ v. is_frozen lasts all v) same ∙ f in
-      cc
+          cc
+      by_case true false true q d g ih = rw q (ap (λ o. if e.time == t then Some e.serial else o) ih)
+      by_case true false false q d g ih =
+          let same : e.unit ≡ u = grind (arith, nat_tests) in
+          let stays : is_frozen lasts all e.unit ≡ true = ap (λ v. is_frozen lasts all v) same ∙ f in
+          cc
 
 -- in another one they are one time on, but for the last time
 pub serial_moved : (lasts : List ℕ) (all : List Entry) (u t : ℕ) (l : List Entry) → is_frozen lasts all u ≡ false → t < last_time lasts u →
@@ -192,27 +195,27 @@ pub serial_moved : (lasts : List ℕ) (all : List Entry) (u t : ℕ) (l : List E
 serial_moved lasts all u t [] f lt = refl
 serial_moved lasts all u t (e ∷ rest) f lt =
     by_case (e.unit == u) (does_write lasts all e) (is_frozen lasts all e.unit) refl refl refl (serial_moved lasts all u t rest f lt) where
-  next : (m n : ℕ) → (suc m == suc n) ≡ (m == n)
-  next m n = grind (arith, nat_tests)
+      next : (m n : ℕ) → (suc m == suc n) ≡ (m == n)
+      next m n = grind (arith, nat_tests)
 
-  by_case : (b d f' : Bool) → (e.unit == u) ≡ b → does_write lasts all e ≡ d → is_frozen lasts all e.unit ≡ f' →
-      serial_at u (suc t) (stepped lasts all rest) ≡ serial_at u t rest →
-      serial_at u (suc t) (cons_unless d (record { serial = e.serial; unit = e.unit; time = if f' then e.time else suc e.time }) (stepped lasts all rest)) ≡
-      (if b && (e.time == t) then Some e.serial else serial_at u t rest)
-  by_case false true f' q d g ih = ih
-  by_case false false f' q d g ih = rw q ih
-  by_case true true f' q d g ih =
-      let same : e.unit ≡ u = grind (arith, nat_tests) in
-      let last = (writes_last lasts all e d).0 in
-      let at_last : last_time lasts e.unit ≡ last_time lasts u = ap (λ v. last_time lasts v) same in
-      let other : (e.time == t) ≡ false = grind (arith, nat_tests) in
-      ih ∙ ap (λ b. if b then Some e.serial else serial_at u t rest) (sym other)
-  by_case true false true q d g ih =
-      let same : e.unit ≡ u = grind (arith, nat_tests) in
-      let goes : is_frozen lasts all e.unit ≡ false = ap (λ v. is_frozen lasts all v) same ∙ f in
-      cc
-  by_case true false false q d g ih =
-      rw q (ap (λ b. if b then Some e.serial else serial_at u (suc t) (stepped lasts all rest)) (next e.time t) ∙ ap (λ o. if e.time == t then Some e.serial else o) ih)
+      by_case : (b d f' : Bool) → (e.unit == u) ≡ b → does_write lasts all e ≡ d → is_frozen lasts all e.unit ≡ f' →
+          serial_at u (suc t) (stepped lasts all rest) ≡ serial_at u t rest →
+          serial_at u (suc t) (cons_unless d (record { serial = e.serial; unit = e.unit; time = if f' then e.time else suc e.time }) (stepped lasts all rest)) ≡
+          (if b && (e.time == t) then Some e.serial else serial_at u t rest)
+      by_case false true f' q d g ih = ih
+      by_case false false f' q d g ih = rw q ih
+      by_case true true f' q d g ih =
+          let same : e.unit ≡ u = grind (arith, nat_tests) in
+          let last = (writes_last lasts all e d).0 in
+          let at_last : last_time lasts e.unit ≡ last_time lasts u = ap (λ v. last_time lasts v) same in
+          let other : (e.time == t) ≡ false = grind (arith, nat_tests) in
+          ih ∙ ap (λ b. if b then Some e.serial else serial_at u t rest) (sym other)
+      by_case true false true q d g ih =
+          let same : e.unit ≡ u = grind (arith, nat_tests) in
+          let goes : is_frozen lasts all e.unit ≡ false = ap (λ v. is_frozen lasts all v) same ∙ f in
+          cc
+      by_case true false false q d g ih =
+          rw q (ap (λ b. if b then Some e.serial else serial_at u (suc t) (stepped lasts all rest)) (next e.time t) ∙ ap (λ o. if e.time == t then Some e.serial else o) ih)
 
 -- and the first time is free
 pub serial_first : (stages : ℕ) (lasts : List ℕ) (all : List Entry) (u : ℕ) (l : List Entry) → is_frozen lasts all u ≡ false → IsTimed stages lasts l →
@@ -220,15 +223,15 @@ pub serial_first : (stages : ℕ) (lasts : List ℕ) (all : List Entry) (u : ℕ
 serial_first stages lasts all u [] f h = refl
 serial_first stages lasts all u (e ∷ rest) f h =
     by_case (e.unit == u) (does_write lasts all e) (is_frozen lasts all e.unit) refl refl (serial_first stages lasts all u rest f h.2) where
-  by_case : (b d f' : Bool) → (e.unit == u) ≡ b → is_frozen lasts all e.unit ≡ f' → serial_at u stages (stepped lasts all rest) ≡ None →
-      serial_at u stages (cons_unless d (record { serial = e.serial; unit = e.unit; time = if f' then e.time else suc e.time }) (stepped lasts all rest)) ≡ None
-  by_case b true f' q g ih = ih
-  by_case false false f' q g ih = rw q ih
-  by_case true false true q g ih =
-      let same : e.unit ≡ u = grind (arith, nat_tests) in
-      let goes : is_frozen lasts all e.unit ≡ false = ap (λ v. is_frozen lasts all v) same ∙ f in
-      cc
-  by_case true false false q g ih =
-      let le = h.0.first in
-      let other : (suc e.time == stages) ≡ false = grind (arith, nat_tests) in
-      rw (q, other) ih
+      by_case : (b d f' : Bool) → (e.unit == u) ≡ b → is_frozen lasts all e.unit ≡ f' → serial_at u stages (stepped lasts all rest) ≡ None →
+          serial_at u stages (cons_unless d (record { serial = e.serial; unit = e.unit; time = if f' then e.time else suc e.time }) (stepped lasts all rest)) ≡ None
+      by_case b true f' q g ih = ih
+      by_case false false f' q g ih = rw q ih
+      by_case true false true q g ih =
+          let same : e.unit ≡ u = grind (arith, nat_tests) in
+          let goes : is_frozen lasts all e.unit ≡ false = ap (λ v. is_frozen lasts all v) same ∙ f in
+          cc
+      by_case true false false q g ih =
+          let le = h.0.first in
+          let other : (suc e.time == stages) ≡ false = grind (arith, nat_tests) in
+          rw (q, other) ih

@@ -1,12 +1,12 @@
 -- The entries show the slots of the units.
-use Rattle.std.proofs.Common.{◌≡◌, ℕ, zero, suc, ◌+◌, ◌<◌, ◌≤◌, ◌≢◌, List, [], ◌∷◌, ◌++◌, length, take, Option, Some, None, Bool, true, false, refl, sym, ap, ◌∙◌, subst, arith, All}
-use Rattle.std.specs.Prelude.{◌&&◌, ◌||◌, not, if◌then◌else◌, ◌==◌, ◌-◌, slice_index, slice_get}
+use Rattle.std.proofs.Common.{◌≡◌, ℕ, zero, suc, ◌+◌, ◌<◌, ◌≤◌, List, [], ◌∷◌, ◌++◌, length, take, Option, Some, None, Bool, true, false, refl, sym, ap, ◌∙◌, subst, arith, All}
+use Rattle.std.specs.Prelude.{◌&&◌, not, if◌then◌else◌, ◌==◌, ◌-◌, slice_get}
 use Rattle.std.proofs.lemmas.Bool.Decides.{nat_tests}
 use Rattle.ix_plan.specs.Units.{Slots, finished, with_unit, written_from, unit_written, has_some, is_of, frozen_with, serial_for, moved_on, next_from, next_units}
 use Rattle.rv_unit.specs.declared.entry.Entry.{Entry}
-use Rattle.rv_unit.specs.Entries.{last_time, is_finished, has_finished, writer, is_number, is_frozen, written_among, written_entry, unit_and_serial, moved, stepped, entered, next_entries}
-use Rattle.rv_unit.specs.Timed.{AreUnits, IsEntry, IsBehind, IsTimed, CanEnter}
-use Rattle.rv_unit.specs.Slots.{serial_at, slots_from, units_from, units_of}
+use Rattle.rv_unit.specs.Entries.{last_time, has_finished, writer, is_number, is_frozen, written_entry, unit_and_serial, stepped, entered, next_entries}
+use Rattle.rv_unit.specs.Timed.{AreUnits, IsTimed, CanEnter}
+use Rattle.rv_unit.specs.Slots.{serial_at, slots_from, units_from, units_of, unit_named}
 use Rattle.rv_unit.specs.UnitLaws.{WrittenLaw, FrozenLaw, NextLaw}
 use Rattle.rv_unit.proofs.Finishing.{none_finished, writer_finished, writer_least, finished_below, has_serial_at, nothing_written, written_serial}
 use Rattle.rv_unit.proofs.Moving.{first_time, serial_frozen, serial_moved, serial_first}
@@ -58,7 +58,7 @@ none_from : (stages : ℕ) (lasts : List ℕ) (es : List Entry) (u : ℕ) (ls : 
 none_from stages lasts es u [] h r n = refl
 none_from stages lasts es u (last ∷ ls) h r n =
     let here : finished (slots_from u stages (last + 1 - stages) es) ≡ None =
-        finished_at stages u last es (head_first stages u last ls lasts h r) ∙ ap (λ t. serial_at u t es) (head_last u last ls lasts r) ∙ n u in
+    finished_at stages u last es (head_first stages u last ls lasts h r) ∙ ap (λ t. serial_at u t es) (head_last u last ls lasts r) ∙ n u in
     ap (λ o. with_unit u o (written_from (u + 1) (units_from (u + 1) stages ls es))) here
     ∙ none_from stages lasts es (u + 1) ls h (rest_next u last ls lasts r) n
 
@@ -114,6 +114,20 @@ written_law stages lasts es units t = by_case (writer lasts es) refl where
       shown w h (serial_at w (last_time lasts w) es) refl (has_serial_at lasts w es ∙ writer_finished lasts w es h)
       ∙ sym (written_serial lasts es w es h)
 
+-- the unit that writes is the one that is shown
+pub shows_writer : (stages : ℕ) (lasts : List ℕ) (es : List Entry) → AreUnits stages lasts → IsTimed stages lasts es →
+    writer lasts es ≡ unit_named (unit_written (units_of stages lasts es))
+shows_writer stages lasts es units t = by_case (writer lasts es) refl ∙ ap unit_named (sym (written_law stages lasts es units t)) where
+  shown : (w : ℕ) (o : Option ℕ) → has_some o ≡ true → Some w ≡ unit_named (with_unit w o None)
+  shown w None f = cc
+  shown w (Some s) f = refl
+
+  by_case : (o : Option ℕ) → writer lasts es ≡ o → o ≡ unit_named (unit_and_serial (written_entry lasts es))
+  by_case None h = ap (λ e. unit_named (unit_and_serial e)) (sym (nothing_written lasts es es h))
+  by_case (Some w) h =
+      shown w (serial_at w (last_time lasts w) es) (has_serial_at lasts w es ∙ writer_finished lasts w es h)
+      ∙ ap unit_named (sym (written_serial lasts es w es h))
+
 -- ---- what is frozen
 -- it is the unit that writes of which is shown that it is written
 shows_unit : (stages : ℕ) (lasts : List ℕ) (es : List Entry) (u : ℕ) → AreUnits stages lasts → IsTimed stages lasts es →
@@ -150,9 +164,11 @@ slots_at stages lasts es u [] k slots r h = cc
 slots_at stages lasts es u (last ∷ ls) zero slots r h =
     let c = r.count in
     let none : u ≡ u + 0 = omega arith in
-    let here : slots_from u stages (last + 1 - stages) es ≡ slots = cc in
-    (omega (arith, c), sym here ∙ ap (λ l. slots_from u stages (l + 1 - stages) es) (head_last u last ls lasts r)
-        ∙ ap (λ v. slots_from v stages (last_time lasts v + 1 - stages) es) none)
+    let here : slots_from u stages (last + 1 - stages) es ≡ slots = cc in (
+      omega (arith, c),
+      sym here ∙ ap (λ l. slots_from u stages (l + 1 - stages) es) (head_last u last ls lasts r)
+          ∙ ap (λ v. slots_from v stages (last_time lasts v + 1 - stages) es) none,
+    )
 slots_at stages lasts es u (last ∷ ls) (suc k) slots r h =
     let more : u + 1 + k ≡ u + suc k = omega arith in
     let there = slots_at stages lasts es (u + 1) ls k slots (rest_next u last ls lasts r) h in
@@ -162,7 +178,7 @@ pub frozen_law : FrozenLaw
 frozen_law stages lasts es u slots units t h =
     let none : 0 + u ≡ u = omega arith in
     let at = subst (λ v. (v < length lasts) × (slots ≡ slots_from v stages (last_time lasts v + 1 - stages) es)) none
-        (slots_at stages lasts es 0 lasts u slots (whole lasts) h) in
+    (slots_at stages lasts es 0 lasts u slots (whole lasts) h) in
     ap (λ l. frozen_with u l (unit_written (units_of stages lasts es))) at.1
     ∙ frozen_slots stages lasts es u (last_time lasts u) units t (first_time stages lasts u units.first at.0) refl
 
@@ -232,7 +248,7 @@ enters_other stages u k lasts all (Some (v, s)) l c f = by_case (v == u) refl wh
 next_slots : (stages : ℕ) (lasts : List ℕ) (es : List Entry) (enter : Option (ℕ × ℕ)) (u last : ℕ) → AreUnits stages lasts → IsTimed stages lasts es →
     CanEnter lasts es enter → stages ≤ last → last ≡ last_time lasts u →
     (if frozen_with u (slots_from u stages (last + 1 - stages) es) (unit_written (units_of stages lasts es)) then slots_from u stages (last + 1 - stages) es
-     else moved_on (serial_for u enter) (slots_from u stages (last + 1 - stages) es)) ≡
+    else moved_on (serial_for u enter) (slots_from u stages (last + 1 - stages) es)) ≡
     slots_from u stages (last + 1 - stages) (next_entries stages lasts enter es)
 next_slots stages lasts es enter u last units t c le same =
     ap (λ b. if b then slots_from u stages (last + 1 - stages) es else moved_on (serial_for u enter) (slots_from u stages (last + 1 - stages) es))
@@ -260,3 +276,14 @@ next_all stages lasts es enter u (last ∷ ls) units t c r =
 
 pub next_law : NextLaw
 next_law stages lasts es enter units t c = next_all stages lasts es enter 0 lasts units t c (whole lasts)
+
+-- ---- where nothing stands and nothing enters
+pub idle_written : (stages : ℕ) (lasts : List ℕ) (es : List Entry) → AreUnits stages lasts → IsTimed stages lasts es → es ≡ [] →
+    unit_written (units_of stages lasts es) ≡ None
+idle_written stages lasts es units t q = written_law stages lasts es units t ∙ ap (λ l. unit_and_serial (written_entry lasts l)) q
+
+pub idle_next : (stages : ℕ) (lasts : List ℕ) (es : List Entry) (enter : Option (ℕ × ℕ)) → AreUnits stages lasts → IsTimed stages lasts es →
+    CanEnter lasts es enter → es ≡ [] → enter ≡ None → next_units enter (units_of stages lasts es) ≡ units_of stages lasts es
+idle_next stages lasts es enter units t c q r =
+    next_law stages lasts es enter units t c ∙ ap (λ o. units_of stages lasts (next_entries stages lasts o es)) r
+    ∙ ap (λ l. units_of stages lasts (stepped lasts l l)) q ∙ ap (λ l. units_of stages lasts l) (sym q)

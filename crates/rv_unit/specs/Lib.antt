@@ -3,4 +3,6 @@ pub mod Entries
 pub mod Timed
 pub mod Slots
 pub mod Reservations
+pub mod Standing
+pub mod Surveys
 pub mod UnitLaws

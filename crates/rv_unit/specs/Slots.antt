@@ -21,3 +21,8 @@ units_from u stages (last ∷ lasts) entries = slots_from u stages (last + 1 - s
 -- the slots of all units, from one past the last stage to each unit's last time
 abbrev pub units_of : ℕ → List ℕ → List Entry → List Slots
 units_of stages lasts entries = units_from 0 stages lasts entries
+
+-- the unit of a unit and a serial
+abbrev pub unit_named : Option (ℕ × ℕ) → Option ℕ
+unit_named None = None
+unit_named (Some entry) = Some entry.0

@@ -1,5 +1,5 @@
 -- Units and times that can be: none stands where another of its unit does (this project's choice).
-use Rattle.std.specs.Prelude.{◌≡◌, ℕ, ◌+◌, ◌-◌, ◌<◌, ◌≤◌, Bool, false, List, [], ◌∷◌, length, All, Option, Some, None}
+use Rattle.std.specs.Prelude.{◌≡◌, ℕ, ◌+◌, ◌-◌, ◌<◌, ◌≤◌, false, List, [], ◌∷◌, length, All, Option, Some, None}
 use Rattle.rv_unit.specs.declared.entry.Entry.{Entry}
 use Rattle.rv_unit.specs.Entries.{last_time, is_frozen}
 

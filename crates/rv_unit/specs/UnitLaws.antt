@@ -1,11 +1,11 @@
 -- The one list of entries against the units of a design, and what a bound on rows needs of it (this project's choice).
-use Rattle.std.specs.Prelude.{◌≡◌, ◌≢◌, ℕ, suc, ◌+◌, ◌<◌, ◌≤◌, Bool, false, List, [], length, map, Option, Some, None, slice_get}
+use Rattle.std.specs.Prelude.{◌≡◌, ◌≢◌, ℕ, suc, ◌+◌, ◌<◌, ◌≤◌, true, false, List, [], ◌∷◌, length, map, Option, Some, None, slice_get}
 use Rattle.ix_plan.specs.declared.design.Plan.{Plan}
 use Rattle.ix_plan.specs.declared.design.Target.{Target}
 use Rattle.ix_plan.specs.Units.{Slots, unit_written, frozen_with, next_units, first_units}
 use Rattle.rv_unit.specs.declared.entry.Entry.{Entry}
-use Rattle.rv_unit.specs.Numbering.{lasts_of, unit_of}
-use Rattle.rv_unit.specs.Entries.{last_time, writer, written_entry, unit_and_serial, is_frozen, stepped, next_entries}
+use Rattle.rv_unit.specs.Numbering.{is_decoupled, lasts_of, unit_of}
+use Rattle.rv_unit.specs.Entries.{last_time, writer, does_write, written_among, written_entry, unit_and_serial, is_frozen, stepped, next_entries}
 use Rattle.rv_unit.specs.Timed.{AreUnits, IsTimed, CanEnter, room}
 use Rattle.rv_unit.specs.Slots.{units_of}
 use Rattle.rv_unit.specs.Reservations.{IsTarget, holder_of, reserved, freed}
@@ -19,6 +19,13 @@ abbrev pub NumberingLaw : Type 0
 NumberingLaw =
     (plans : List Plan) (n u : ℕ) (p : Plan) → unit_of plans n ≡ Some u → slice_get plans n ≡ Some p →
     (u < length (lasts_of plans)) × (last_time (lasts_of plans) u ≡ p.last)
+
+-- the units of a design can be, where its plans are few and the decoupled ones end past the last stage and by time 64
+abbrev pub UnitsLaw : Type 0
+UnitsLaw =
+    (stages : ℕ) (plans : List Plan) → length plans ≤ 72 →
+    ((n : ℕ) (p : Plan) → slice_get plans n ≡ Some p → is_decoupled p.mode ≡ true → (stages ≤ p.last) × (p.last ≤ 64)) →
+    AreUnits stages (lasts_of plans)
 
 -- no two behaviours have one unit
 abbrev pub ApartLaw : Type 0
@@ -49,6 +56,12 @@ abbrev pub TimedLaw : Type 0
 TimedLaw =
     (stages : ℕ) (lasts : List ℕ) (entries : List Entry) (enter : Option (ℕ × ℕ)) → AreUnits stages lasts → IsTimed stages lasts entries →
     CanEnter lasts entries enter → IsTimed stages lasts (next_entries stages lasts enter entries)
+
+-- beside an entry that writes none of the older ones does
+abbrev pub AloneLaw : Type 0
+AloneLaw =
+    (stages : ℕ) (lasts : List ℕ) (all : List Entry) (e : Entry) (older : List Entry) → IsTimed stages lasts (e ∷ older) →
+    does_write lasts all e ≡ true → written_among lasts all older ≡ None
 
 -- there are no more entries than the units have times
 abbrev pub RoomLaw : Type 0

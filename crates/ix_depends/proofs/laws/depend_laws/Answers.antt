@@ -9,7 +9,7 @@ pub returns-clause-by_execute : goal.returns-clause-by_execute
 returns-clause-by_execute c = by_execute_law c.behaviour_laws.ensures.typed c.behaviour_laws.ensures.effect c.graph_laws.ensures.valid
 
 pub returns-clause-times : goal.returns-clause-times
-returns-clause-times c = times_law c.graph_laws.ensures.valid
+returns-clause-times c = times_law c.graph_laws.ensures.valid c.spawn_laws.ensures.registers
 
 pub returns-clause-blind : goal.returns-clause-blind
 returns-clause-blind c = blind_law c.form_laws.ensures.texts

@@ -5,9 +5,9 @@ use Rattle.rv_sight.proofs.Sights.{early_law, exact_law, keeps_law, tail_law}
 use Rattle.rv_sight.proofs.laws.sight_laws.Goals as goal
 
 pub returns-clause-early : goal.returns-clause-early
-returns-clause-early c d stands quiet =
+returns-clause-early c d stands =
     let laws : Laws = record { depends = c.depend_laws.ensures.depends; by_execute = c.depend_laws.ensures.by_execute; times = c.depend_laws.ensures.times; blind = c.depend_laws.ensures.blind; unwritten = c.depend_laws.ensures.unwritten } in
-    early_law laws d stands (quiet_design d stands quiet)
+    early_law laws d stands
 
 pub returns-clause-exact : goal.returns-clause-exact
 returns-clause-exact c d stands =
@@ -15,9 +15,9 @@ returns-clause-exact c d stands =
     exact_law laws d stands
 
 pub returns-clause-keeps : goal.returns-clause-keeps
-returns-clause-keeps c d stands quiet =
+returns-clause-keeps c d stands =
     let laws : Laws = record { depends = c.depend_laws.ensures.depends; by_execute = c.depend_laws.ensures.by_execute; times = c.depend_laws.ensures.times; blind = c.depend_laws.ensures.blind; unwritten = c.depend_laws.ensures.unwritten } in
-    keeps_law laws d stands (quiet_design d stands quiet)
+    keeps_law laws d stands
 
 pub returns-clause-quiet : goal.returns-clause-quiet
 returns-clause-quiet c d stands quiet = quiet_law d stands (quiet_design d stands quiet)

@@ -1,4 +1,4 @@
-use Rattle.std.proofs.Common.{◌≡◌, ◌∙◌, refl, sym, ap, suc, ◌+◌, ◌-◌, ◌++◌, ℕ, List, arith}
+use Rattle.std.proofs.Common.{◌≡◌, ◌∙◌, refl, sym, ap, suc, ◌+◌, ◌-◌, ◌++◌, ℕ, List, [], arith}
 use Rattle.ix_extension.specs.Extensions.{view_extension}
 use Rattle.rv_text.specs.RunText.{state_text, lines_from}
 use Rattle.rv_text.proofs.Parts.{carries_put, no_lines}
@@ -11,10 +11,10 @@ returns-then-not-step_told-clause-carries g c =
     let n = c.args.steps - (k + 1) in
     let now = c.args.image.now in
     let e : suc n ≡ c.args.steps - k = omega arith in
-    let put : c.make_room.new.out ++ lines_from x now (c.args.steps - k) k c.loop-number.arch ≡ c.step_told.new.out ++ state_text x c.step_told.new.arch =
+    let put : c.make_room.new.out ++ lines_from x now (c.args.steps - k) k c.loop-number.arch ≡ c.step_told.new.out ++ state_text x [] c.step_told.new.arch =
     ap (λ (m : ℕ). c.make_room.new.out ++ lines_from x now m k c.loop-number.arch) (sym e) ∙ c.if-not-step_told.ensures.stops refl n in
     λ before whole t.
-    carries_put (g.S.Sink.written c.make_room.new.sink) c.make_room.new.out (lines_from x now (c.args.steps - k) k c.loop-number.arch) c.step_told.new.out (state_text x c.step_told.new.arch) put
+    carries_put (g.S.Sink.written c.make_room.new.sink) c.make_room.new.out (lines_from x now (c.args.steps - k) k c.loop-number.arch) c.step_told.new.out (state_text x [] c.step_told.new.arch) put
     before whole (c.in-Ok.ensures.carries (lines_from x now (c.args.steps - k) k c.loop-number.arch) before whole (c.loop-number.invariant.carries before whole t))
 
 pub returns-in-Err-clause-breaks : goal.returns-in-Err-clause-breaks
@@ -52,5 +52,5 @@ returns-clause-carries g c =
     let now = c.args.image.now in
     let e : c.args.steps - k ≡ 0 = omega arith in
     λ before whole t.
-    carries_put (g.S.Sink.written c.loop-number.sink) c.loop-number.out (lines_from x now (c.args.steps - k) k c.loop-number.arch) c.loop-number.out (state_text x c.loop-number.arch)
+    carries_put (g.S.Sink.written c.loop-number.sink) c.loop-number.out (lines_from x now (c.args.steps - k) k c.loop-number.arch) c.loop-number.out (state_text x [] c.loop-number.arch)
     (ap (λ (l : List ℕ). c.loop-number.out ++ l) (no_lines x now (c.args.steps - k) k c.loop-number.arch e)) before whole (c.loop-number.invariant.carries before whole t)

@@ -10,7 +10,7 @@ returns-in-Ok-clause-carries g c =
     (λ f x e before whole t.
     f before whole
     (c.in-Ok.ensures.carries (memory_lines c.args.arch.now.mem 262144 0) before whole
-    (subst (λ (l : List ℕ). Told before (g.S.Sink.written c.args.sink.now) c.args.out.now l whole) (state_is x c.args.arch.now c.args.registers e) t)))
+    (subst (λ (l : List ℕ). Told before (g.S.Sink.written c.args.sink.now) c.args.out.now l whole) (state_is x c.args.outstanding.now c.args.arch.now c.args.registers e) t)))
     c.write_memory.ensures.carries
 
 pub returns-in-Ok-clause-breaks : goal.returns-in-Ok-clause-breaks
@@ -19,8 +19,8 @@ returns-in-Ok-clause-breaks g c =
     (λ f x e before whole t.
     f before whole
     (c.in-Ok.ensures.carries (memory_lines c.args.arch.now.mem 262144 0) before whole
-    (subst (λ (l : List ℕ). Told before (g.S.Sink.written c.args.sink.now) c.args.out.now l whole) (state_is x c.args.arch.now c.args.registers e) t)))
+    (subst (λ (l : List ℕ). Told before (g.S.Sink.written c.args.sink.now) c.args.out.now l whole) (state_is x c.args.outstanding.now c.args.arch.now c.args.registers e) t)))
     c.write_memory.ensures.breaks
 
 pub returns-in-Err-clause-breaks : goal.returns-in-Err-clause-breaks
-returns-in-Err-clause-breaks g c = λ x e. c.in-Err.ensures.breaks (state_text x c.args.arch.now)
+returns-in-Err-clause-breaks g c = λ x e. c.in-Err.ensures.breaks (state_text x c.args.outstanding.now c.args.arch.now)

@@ -1,5 +1,5 @@
-use Rattle.rv_unit.proofs.Numbered.{first_law, numbering_law, apart_law}
-use Rattle.rv_unit.proofs.Moving.{timed_law, goes_on_law, leaves_law}
+use Rattle.rv_unit.proofs.Numbered.{first_law, numbering_law, apart_law, units_law}
+use Rattle.rv_unit.proofs.Moving.{timed_law, goes_on_law, leaves_law, alone_law}
 use Rattle.rv_unit.proofs.Showing.{written_law, frozen_law, next_law}
 use Rattle.rv_unit.proofs.Fewer.{room_law}
 use Rattle.rv_unit.proofs.laws.unit_laws.Goals as goal
@@ -33,3 +33,9 @@ returns-clause-goes_on c = goes_on_law
 
 pub returns-clause-leaves : goal.returns-clause-leaves
 returns-clause-leaves c = leaves_law
+
+pub returns-clause-units : goal.returns-clause-units
+returns-clause-units c = units_law
+
+pub returns-clause-alone : goal.returns-clause-alone
+returns-clause-alone c = alone_law

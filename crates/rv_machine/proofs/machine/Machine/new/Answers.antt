@@ -2,6 +2,7 @@ use Rattle.std.proofs.Common.{◌<◌, ◌^◌, List, ap, arith}
 use Rattle.std.specs.Prelude.{reverse}
 use Rattle.rv_trace.specs.declared.row.Row.{Row}
 use Rattle.rv_engine.specs.Settings.{setting}
+use Rattle.rv_machine.proofs.FewUnits.{few_units}
 use Rattle.rv_machine.proofs.Sound.{sound_first}
 use Rattle.rv_machine.proofs.machine.Machine.new.Goals as goal
 
@@ -12,3 +13,6 @@ invariant_of-result c =
     rw (c.as_slice.ensures.words, ap (λ (l : List Row). reverse l) c.in_ok-trace.ensures.rows, c.in_ok-trace.ensures.spare)
     (sound_first (setting c.args.design.now c.args.image.now c.args.waits.now) c.in_ok-asking.asking c.in_ok-scratch.scratch c.in_ok-kept.kept c.args.cycles fits c.requires.stands.well_formed c.requires.stands.sheet c.in_ok-asking.ensures.asking
     c.in_ok-scratch.ensures (c.in_ok-kept.ensures.machine c.args.image.now c.args.waits.now) (c.in_ok-kept.ensures.fit c.args.image.now c.args.waits.now))
+
+pub asking_of-requires : goal.asking_of-requires
+asking_of-requires c = record { few = few_units c.args.design.now c.behaviour_laws.ensures.few c.requires.stands }
