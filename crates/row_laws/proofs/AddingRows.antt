@@ -1,6 +1,6 @@
 -- The rows of the run that adds five and seven are lawful and the run's, and those that differ in one thing are not.
 use Rattle.std.proofs.Common.{◌≡◌, ℕ, zero, suc, ◌<◌, List, [], ◌∷◌, Option, Some, None, true, false, refl, sym, ap, ◌∙◌, subst, arith, inl, inr}
-use Rattle.std.specs.Prelude.{if◌then◌else◌, is_some, get_or}
+use Rattle.std.specs.Prelude.{get_or}
 use Rattle.ix_bits.specs.BaseTable.{base_patterns}
 use Rattle.rv_asks.specs.declared.asks.Asks.{Asks}
 use Rattle.rv_asks.specs.Asks.{asks_with, blank_outline}

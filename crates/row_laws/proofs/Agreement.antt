@@ -1,5 +1,5 @@
 -- What a row that is written out owes to be the run's.
-use Rattle.std.proofs.Common.{◌≡◌, ℕ, List, [], ◌∷◌, Option, Some, None, refl, sym, ap, ◌∙◌, subst}
+use Rattle.std.proofs.Common.{◌≡◌, ℕ, List, [], ◌∷◌, Option, Some, None, subst}
 use Rattle.rv_lawful.specs.Headline.{IsRecord, IsSpawnWrite, AgreesWithRun}
 use Rattle.rv_lawful.specs.Outstanding.{Written, outstanding, applied_state}
 use Rattle.rv_lawful.specs.Settings.{Setting}

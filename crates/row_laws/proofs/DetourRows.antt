@@ -13,7 +13,6 @@ use Rattle.rv_trace.specs.declared.row.Cell.{Cell}
 use Rattle.rv_trace.specs.declared.row.Hold.{Hold}
 use Rattle.rv_trace.specs.declared.row.Row.{Row}
 use Rattle.row_laws.specs.Detour.{detour_hand, detour, leaping, passed, target, row_0, turn_row, row_1, row_2, last_row, row_3, two_rows, three_rows, detour_rows, IsUnlawful, unflushed, no_redirect, missing_stop}
-use Rattle.rv_lawful.specs.Sight.{SpawnsNothing}
 use Rattle.row_laws.specs.Hands.{going, none_flushed}
 use Rattle.row_laws.proofs.Stages.{SpawnsNone, none_written, true_not_false, no_custom, same_cell, free_outside, free_behind, done_below, no_own, shows_none, shows_last, none_settles, no_stop, some_left, none_retires, one_retires}
 

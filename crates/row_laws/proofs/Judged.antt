@@ -1,8 +1,8 @@
 -- Rows on the core of three stages that pass their tests are lawful, one behind the other, where nothing is flushed.
-use Rattle.std.proofs.Common.{◌≡◌, ◌≢◌, ℕ, zero, suc, ◌+◌, ◌<◌, ◌≤◌, List, [], ◌∷◌, Option, Some, None, Bool, true, false, refl, sym, ap, ◌∙◌, subst, arith, ◌⊎◌, inl, inr}
-use Rattle.std.specs.Prelude.{◌&&◌, ◌||◌, not, if◌then◌else◌, ◌==◌, is_some, is_none, take, slice_get, get_or}
+use Rattle.std.proofs.Common.{◌≡◌, ℕ, zero, suc, ◌<◌, List, [], ◌∷◌, Option, Some, None, Bool, true, false, refl, sym, ap, ◌∙◌, subst, arith, ◌⊎◌, inl, inr}
+use Rattle.std.specs.Prelude.{◌&&◌, ◌||◌, not, if◌then◌else◌, ◌==◌, is_some, is_none, get_or}
 use Rattle.rv_seq.specs.declared.answer.StepAnswer.{StepAnswer}
-use Rattle.rv_seq.specs.declared.answer.StepAnswer.TheVariants.{Done, Stopped}
+use Rattle.rv_seq.specs.declared.answer.StepAnswer.TheVariants.{Stopped}
 use Rattle.rv_seq.specs.declared.commit.Commit.{Commit}
 use Rattle.rv_seq.specs.declared.commit.Stop.{Stop}
 use Rattle.rv_seq.specs.declared.commit.Stop.TheVariants.{Fetch}
@@ -93,7 +93,7 @@ straight h simple earlier a b c ret wr stop all t = no_flush h earlier row refl 
           let due = stop_there (h.course.answer (place (row ∷ earlier) x.serial)) p.0 in absurd (s.runs due.0 (stops_now h simple earlier row x all p.1 due.0 due.1))
       | inr z ↦ right_at h earlier a b c ret wr stop (successor (by_hand h) (row ∷ earlier) x)
           (either (is_due h (row ∷ earlier) x && ex_free h earlier row x) (goes_to h earlier row a (successor (by_hand h) (row ∷ earlier) x))
-            (either (is_some x.hold) ((is_due h (row ∷ earlier) x && ex_free h earlier row x) || goes_to h earlier row a (successor (by_hand h) (row ∷ earlier) x)) e y) z)
+          (either (is_some x.hold) ((is_due h (row ∷ earlier) x && ex_free h earlier row x) || goes_to h earlier row a (successor (by_hand h) (row ∷ earlier) x)) e y) z)
     ]
   ]
 
@@ -164,15 +164,15 @@ nothing_left : (h : Hand) (a b c : Option Cell) (ret : Option (ℕ × Commit)) (
 nothing_left h a b c ret wr stop empty = (at_0 a (λ d e. empty 0 d (ap Some e)), at_1 b (λ d e. empty 1 d (ap Some e)), at_2 c (λ d e. empty 2 d (ap Some e))) where
   at_0 : (o : Option Cell) → ((d : Cell) → o ≡ Some d → (false ≡ true) ⊎ ((◌≡◌ {A = ℕ} 1 3) × (d.hold ≡ None))) → is_absent o ≡ true
   at_0 None f = refl
-  at_0 (Some d) f = elim (f d refl) [ | inl x ↦ absurd (true_not_false (sym x)) | inr x ↦ let e = x.0 in absurd (omega (arith, e)) ]
+  at_0 (Some d) f = elim (f d refl) [ inl x ↦ absurd (true_not_false (sym x)) | inr x ↦ let e = x.0 in absurd (omega (arith, e)) ]
 
   at_1 : (o : Option Cell) → ((d : Cell) → o ≡ Some d → (false ≡ true) ⊎ ((◌≡◌ {A = ℕ} 2 3) × (d.hold ≡ None))) → is_absent o ≡ true
   at_1 None f = refl
-  at_1 (Some d) f = elim (f d refl) [ | inl x ↦ absurd (true_not_false (sym x)) | inr x ↦ let e = x.0 in absurd (omega (arith, e)) ]
+  at_1 (Some d) f = elim (f d refl) [ inl x ↦ absurd (true_not_false (sym x)) | inr x ↦ let e = x.0 in absurd (omega (arith, e)) ]
 
   at_2 : (o : Option Cell) → ((d : Cell) → o ≡ Some d → (false ≡ true) ⊎ ((◌≡◌ {A = ℕ} 3 3) × (d.hold ≡ None))) → not (is_held o) ≡ true
   at_2 None f = refl
-  at_2 (Some d) f = elim (f d refl) [ | inl x ↦ absurd (true_not_false (sym x)) | inr x ↦ ap (λ q. not (is_some q)) x.1 ]
+  at_2 (Some d) f = elim (f d refl) [ inl x ↦ absurd (true_not_false (sym x)) | inr x ↦ ap (λ q. not (is_some q)) x.1 ]
 
 goes_on : (h : Hand) (earlier : List Row) (a b c : Option Cell) (ret : Option (ℕ × Commit)) (wr : Option Written) → ((x : Cell) → Stands (by_hand h) (full_row a b c ret wr None) 1 x → ShowsHold (by_hand h) earlier (full_row a b c ret wr None) 1 x)
     → unstopped h earlier (full_row a b c ret wr None) b ≡ true → ended h earlier (full_row a b c ret wr None) a b c ≡ false → StopsRightly (by_hand h) earlier (full_row a b c ret wr None)
@@ -196,9 +196,9 @@ goes_on h earlier a b c ret wr shows t u = record {
   fetches f o w =
       let p = nothing_left h a b c ret wr None f in
       true_not_false (sym (and_both (is_absent a) (is_absent b && (not (is_held c) && (is_settled (outstanding (by_hand h) (row ∷ earlier)) && is_none (word_at h.image (fetch_address (by_hand h) (row ∷ earlier)))))) p.0
-        (and_both (is_absent b) (not (is_held c) && (is_settled (outstanding (by_hand h) (row ∷ earlier)) && is_none (word_at h.image (fetch_address (by_hand h) (row ∷ earlier))))) p.1
-          (and_both (not (is_held c)) (is_settled (outstanding (by_hand h) (row ∷ earlier)) && is_none (word_at h.image (fetch_address (by_hand h) (row ∷ earlier)))) p.2
-            (and_both (is_settled (outstanding (by_hand h) (row ∷ earlier))) (is_none (word_at h.image (fetch_address (by_hand h) (row ∷ earlier)))) (ap is_settled o) (ap is_none w))))) ∙ u)
+      (and_both (is_absent b) (not (is_held c) && (is_settled (outstanding (by_hand h) (row ∷ earlier)) && is_none (word_at h.image (fetch_address (by_hand h) (row ∷ earlier))))) p.1
+      (and_both (not (is_held c)) (is_settled (outstanding (by_hand h) (row ∷ earlier)) && is_none (word_at h.image (fetch_address (by_hand h) (row ∷ earlier)))) p.2
+      (and_both (is_settled (outstanding (by_hand h) (row ∷ earlier))) (is_none (word_at h.image (fetch_address (by_hand h) (row ∷ earlier)))) (ap is_settled o) (ap is_none w))))) ∙ u)
 
 some_stop : (s t : Stop) → ◌≡◌ {A = StepAnswer} (Stopped s) (Stopped t) → ◌≡◌ {A = Option Stop} (Some s) (Some t)
 some_stop s t e = cc
@@ -221,7 +221,7 @@ stops_here h simple earlier a x c ret wr s all free due = record {
   same_due y t stands d = same_cell (λ z. IsDueToStop (by_hand h) (row ∷ earlier) z t → ◌≡◌ {A = Option Stop} (Some s) (Some t)) x y stands (λ q. some_stop s t (sym due ∙ q)) d
 
   left : (false ≡ true) ⊎ ((◌≡◌ {A = ℕ} 2 3) × (x.hold ≡ None)) → ⊥
-  left o = elim o [ | inl e ↦ true_not_false (sym e) | inr e ↦ let q = e.0 in omega (arith, q) ]
+  left o = elim o [ inl e ↦ true_not_false (sym e) | inr e ↦ let q = e.0 in omega (arith, q) ]
 
 -- nothing is left
 ends_here : (h : Hand) (earlier : List Row) (c : Option Cell) (ret : Option (ℕ × Commit)) (wr : Option Written) → ended h earlier (full_row None None c ret wr (Some Fetch)) None None c ≡ true → StopsRightly (by_hand h) earlier (full_row None None c ret wr (Some Fetch))

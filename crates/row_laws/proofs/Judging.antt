@@ -1,30 +1,24 @@
 -- A row on the core of three stages that passes the tests of its cells is lawful, where nothing is flushed.
-use Rattle.std.proofs.Common.{◌≡◌, ◌≢◌, ℕ, zero, suc, ◌+◌, ◌<◌, ◌≤◌, List, [], ◌∷◌, Option, Some, None, Bool, true, false, refl, sym, ap, ◌∙◌, subst, arith, ◌⊎◌, inl, inr}
-use Rattle.std.specs.Prelude.{◌&&◌, ◌||◌, not, if◌then◌else◌, ◌==◌, nat_lt, is_some, is_none, take, slice_get, get_or, replicate}
-use Rattle.std.proofs.lemmas.Bool.Decides.{nat_tests}
+use Rattle.std.proofs.Common.{◌≡◌, ℕ, List, ◌∷◌, Option, Some, None, Bool, true, false, refl, sym, ap, ◌∙◌, subst, arith, ◌⊎◌, inl, inr}
+use Rattle.std.specs.Prelude.{◌&&◌, ◌||◌, not, ◌==◌, nat_lt, is_some, slice_get, get_or}
 use Rattle.ix_plan.specs.declared.design.Target.{Target}
 use Rattle.ix_plan.specs.declared.design.Target.TheVariants.{X, Custom as custom_target}
-use Rattle.ix_plan.specs.Units.{Slots, unit_written, frozen_with}
-use Rattle.rv_asks.specs.declared.asks.Asks.{Asks}
-use Rattle.rv_seq.specs.declared.answer.StepAnswer.{StepAnswer}
-use Rattle.rv_seq.specs.declared.answer.StepAnswer.TheVariants.{Done, Stopped}
+use Rattle.ix_plan.specs.Units.{unit_written}
 use Rattle.rv_seq.specs.declared.commit.Commit.{Commit}
 use Rattle.rv_seq.specs.declared.commit.Stop.{Stop}
-use Rattle.rv_seq.specs.declared.commit.Stop.TheVariants.{Fetch}
-use Rattle.rv_seq.specs.Steps.{word_at}
 use Rattle.rv_trace.specs.declared.row.Cell.{Cell}
 use Rattle.rv_trace.specs.declared.row.Hold.{Hold}
 use Rattle.rv_trace.specs.declared.row.Hold.TheVariants.{Operand, Board, Custom, Late, Trap, Drain, Wait, StoreAhead, Tail, UnitFull, Port, Behind}
 use Rattle.rv_trace.specs.declared.row.Row.{Row}
-use Rattle.rv_trace.specs.Trace.{has_cell, has_serial, is_flushed, is_retired, place, newest}
-use Rattle.rv_trace.specs.RowParts.{name_of, leaves, ComesFirst}
+use Rattle.rv_trace.specs.Trace.{has_serial, is_flushed, is_retired, place}
+use Rattle.rv_trace.specs.RowParts.{ComesFirst}
 use Rattle.rv_lawful.specs.Settings.{Stands}
-use Rattle.rv_lawful.specs.Outstanding.{Written, Decoupled, is_register, has_target, touches, serial_written, units_after, is_written, outstanding}
-use Rattle.rv_lawful.specs.LawfulTrace.{plain_fetch, fetch_address, Moves, IsWordOf, IsDueToStop, WaitsForWrite, WaitsToDrain, WaitsForUnit, WaitsForPort, OwnHold, StopsRun, WaitsBehind, TrueHold, ShowsHold, Settles, successor, IsMismatch, Successors, IsEmptyAfter, StopsRightly, Retires, WritesUnit, LawfulRow, Lawful}
-use Rattle.row_laws.specs.Hands.{Hand, by_hand, none_flushed}
+use Rattle.rv_lawful.specs.Outstanding.{Written, is_register, has_target, touches, serial_written, units_after, is_written}
+use Rattle.rv_lawful.specs.LawfulTrace.{IsDueToStop, WaitsForWrite, WaitsToDrain, WaitsForUnit, WaitsForPort, OwnHold, StopsRun, ShowsHold}
+use Rattle.row_laws.specs.Hands.{Hand, by_hand}
 use Rattle.row_laws.specs.Spawning.{full_row}
-use Rattle.row_laws.proofs.Stages.{true_not_false, same_cell, AllNamed, Named, HasWord, named, word_is, no_wait, shows_none, shows_own, shows_hold, settles_at_ex, none_retires, one_retires}
-use Rattle.row_laws.proofs.Tests.{both_true, either, negated, known, same_number, less, not_less, all_below, below, register_there, asks_of, IsSimple, in_rows, has_word, is_older, operand_clear, no_operand, board_clear, has_its, clear_at, no_board, stop_in, stop_at, is_due, stop_there, due_now, settled, unsettled, full_in, full_of, not_full, slots_there, takes_port, some_same, none_own, no_tail, clear_front, ex_free, clear_ex, last_free, clear_last, front_not_ex, last_not_ex}
+use Rattle.row_laws.proofs.Stages.{true_not_false, AllNamed, no_wait, shows_none, shows_own, shows_hold}
+use Rattle.row_laws.proofs.Tests.{both_true, either, negated, known, same_number, less, not_less, all_below, below, register_there, asks_of, IsSimple, in_rows, has_word, is_older, operand_clear, no_operand, board_clear, has_its, clear_at, no_board, is_due, stop_there, due_now, settled, unsettled, full_in, full_of, not_full, slots_there, some_same, none_own, no_tail, clear_front, ex_free, clear_ex, last_free, clear_last, front_not_ex, last_not_ex}
 
 -- a fact of four parts
 four_true : (a b c d : Bool) → (a && (b && (c && d))) ≡ true → (a ≡ true) × (b ≡ true) × (c ≡ true) × (d ≡ true)
@@ -327,8 +321,8 @@ ex_shows h simple earlier a x c ret wr stop all None e t =
       row : Row
       row = full_row a (Some x) c ret wr stop
 ex_shows h simple earlier a x None ret wr stop all (Some Behind) e t = absurd (true_not_false (sym (both_true (not (is_due h (row ∷ earlier) x)) false (both_true (ex_free h earlier row x) (not (is_due h (row ∷ earlier) x) && false) t).1).1)) where
-      row : Row
-      row = full_row a (Some x) None ret wr stop
+  row : Row
+  row = full_row a (Some x) None ret wr stop
 ex_shows h simple earlier a x (Some d) ret wr stop all (Some Behind) e t =
     let p = both_true (ex_free h earlier row x) (not (is_due h (row ∷ earlier) x) && is_some d.hold) t in
     let q = both_true (not (is_due h (row ∷ earlier) x)) (is_some d.hold) p.1 in

@@ -1,10 +1,10 @@
 -- The rows of the run in which a block and a `spawn` body write one register are lawful, and keep what both write.
-use Rattle.std.proofs.Common.{◌≡◌, ℕ, List, [], ◌∷◌, Option, Some, None, Bool, true, false, refl, sym, ap, ◌∙◌, arith}
-use Rattle.std.specs.Prelude.{◌&&◌, get_or}
+use Rattle.std.proofs.Common.{◌≡◌, ℕ, List, [], ◌∷◌, Some, None, Bool, true, false, refl, sym, ap, ◌∙◌, arith}
+use Rattle.std.specs.Prelude.{get_or}
 use Rattle.ix_bits.specs.declared.number.Bits.{Bits}
 use Rattle.rv_lawful.specs.Headline.{IsSpawnWrite}
 use Rattle.rv_lawful.specs.LawfulTrace.{fetch_address, next_serial, Lawful}
-use Rattle.rv_lawful.specs.Outstanding.{units_after, is_written, decoupled, outstanding, architecture, applied_state}
+use Rattle.rv_lawful.specs.Outstanding.{units_after, is_written, decoupled, architecture}
 use Rattle.rv_seq.specs.Commits.{applied}
 use Rattle.rv_seq.specs.States.{first, zero_bit}
 use Rattle.rv_seq.specs.declared.answer.StepAnswer.{StepAnswer}
@@ -15,10 +15,10 @@ use Rattle.rv_seq.specs.declared.commit.Slot.TheVariants.{Absent, Now, Later}
 use Rattle.rv_trace.specs.Trace.{is_flushed, is_retired, place, retirements}
 use Rattle.rv_tried.specs.declared.parts.Spawned.{Spawned}
 use Rattle.rv_tried.specs.Parts.{native, spawned, paid}
-use Rattle.row_laws.specs.Sharing.{of_block, left_by, sharing_record, sharing_answer, sharing_hand, sharing, sharer, row_0, row_1, row_2, row_3, sharing_write, sharing_three, sharing_rows, Holds, HoldsApplied, HoldsNot, IsNoWrite, block_by_unit}
+use Rattle.row_laws.specs.Sharing.{of_block, left_by, sharing_record, sharing_answer, sharing_hand, sharing, sharer, row_0, row_1, sharing_write, sharing_three, sharing_rows, Holds, HoldsApplied, HoldsNot, IsNoWrite, block_by_unit}
 use Rattle.row_laws.proofs.Stages.{no_custom}
 use Rattle.row_laws.proofs.Tests.{IsSimple}
-use Rattle.row_laws.proofs.Judged.{Judged, no_rows, IsRight, next_row, end_row}
+use Rattle.row_laws.proofs.Judged.{Judged, no_rows, next_row, end_row}
 
 simple : (b : Bool) → IsSimple (sharing_hand b)
 simple b = record { late = λ word. refl; loads = λ word. refl; tail = λ word. refl; unlate = λ word r. no_custom r }

@@ -1,19 +1,18 @@
 -- Lists of rows with decoupled writes that differ from lawful ones in one thing are not lawful.
-use Rattle.std.proofs.Common.{◌≡◌, ℕ, zero, suc, List, [], ◌∷◌, Option, Some, None, Bool, true, false, refl, sym, ap, ◌∙◌, subst, arith, inl, inr}
-use Rattle.std.specs.Prelude.{◌&&◌}
+use Rattle.std.proofs.Common.{◌≡◌, ℕ, zero, suc, List, [], ◌∷◌, Option, Some, None, true, false, refl, sym, ◌∙◌, subst, arith, inl, inr}
 use Rattle.ix_bits.specs.BaseTable.{base_patterns}
 use Rattle.rv_isa.specs.Table.{row_of as base_row, format_of, base_formats}
 use Rattle.rv_isa.specs.Fields.{fields_of}
 use Rattle.rv_isa.specs.Decoded.{decoded}
 use Rattle.rv_effect.specs.Decoding.{decoded_in}
 use Rattle.rv_effect.specs.WordEffects.{effect_of, over, blocks_effect}
-use Rattle.rv_lawful.specs.LawfulTrace.{fetch_address, OwnHold, WaitsForWrite, WaitsForUnit, WaitsForPort, WaitsToDrain, StopsRun, IsEmptyAfter, Lawful}
-use Rattle.rv_lawful.specs.Outstanding.{Decoupled, units_after, is_written, decoupled, outstanding}
+use Rattle.rv_lawful.specs.LawfulTrace.{fetch_address, OwnHold, IsEmptyAfter, Lawful}
+use Rattle.rv_lawful.specs.Outstanding.{Decoupled, units_after, is_written, decoupled}
 use Rattle.rv_lawful.specs.Settings.{Setting, Stands}
 use Rattle.rv_seq.specs.Commits.{commit_of, applied}
 use Rattle.rv_seq.specs.Runs.{run}
 use Rattle.rv_seq.specs.States.{first}
-use Rattle.rv_seq.specs.Steps.{attempted, step, word_at}
+use Rattle.rv_seq.specs.Steps.{attempted, step}
 use Rattle.rv_seq.specs.declared.commit.Stop.{Stop}
 use Rattle.rv_seq.specs.declared.commit.Stop.TheVariants.{Ebreak, Fetch}
 use Rattle.rv_trace.specs.Trace.{has_serial, is_flushed, is_retired, place, newest}
@@ -22,8 +21,7 @@ use Rattle.rv_trace.specs.declared.row.Hold.{Hold}
 use Rattle.rv_trace.specs.declared.row.Hold.TheVariants.{Board, Drain, UnitFull, Port, Behind}
 use Rattle.rv_trace.specs.declared.row.Row.{Row}
 use Rattle.ix_plan.specs.declared.design.Target.TheVariants.{X}
-use Rattle.row_laws.specs.Hands.{Hand, by_hand}
-use Rattle.row_laws.specs.Spawning.{slow, quick, brisk, hollow, sum, native, break, quick_row, paying_row, emptying, port_last, freezing, passing_hand, passing, passing_three, passing_four, passing_five, passing_six, IsUnlawful, board_left_out, board_of_another, board_of_younger, board_after_write, none_written, written_early, written_unretired, written_twice, port_hand, port, port_three, port_four, port_five, port_six, IsUnlawfulAtPort, port_left_out, port_without_write, stop_before_write, stop_left_out, frozen_hand, frozen, frozen_five, frozen_six, frozen_seven, IsUnlawfulFrozen, full_left_out, full_of_another, higher_written, frozen_moves, drain_left_out}
+use Rattle.row_laws.specs.Spawning.{quick, brisk, hollow, sum, native, break, emptying, port_last, passing_hand, passing, passing_three, passing_six, IsUnlawful, board_left_out, board_of_another, board_of_younger, board_after_write, none_written, written_early, written_unretired, written_twice, port_hand, port, port_three, IsUnlawfulAtPort, port_left_out, port_without_write, stop_before_write, stop_left_out, frozen_hand, frozen, frozen_five, frozen_seven, IsUnlawfulFrozen, full_left_out, full_of_another, higher_written, frozen_moves, drain_left_out}
 use Rattle.row_laws.proofs.Stages.{true_not_false, AllNamed}
 use Rattle.row_laws.proofs.Tests.{has_its}
 use Rattle.row_laws.proofs.Judging.{waits_for_write, waits_to_drain, waits_for_unit, waits_for_port}
@@ -59,7 +57,7 @@ board_of_another_refused h =
     let wait = waits_for_write passing_hand passing_three (newest board_of_another) (sum 2 8 (Some (Board (X 6) 1))) 5 0 names_another refl in
     elim ((h.0.holds 1 (sum 2 8 (Some (Board (X 6) 1))) refl).shown_first (Board (X 6) 1) (Board (X 5) 0) refl (inl wait)) [
       | inl x ↦ absurd (omega (arith, x))
-      | inr x ↦ elim x.1 [ | inl y ↦ absurd (omega (arith, y)) | inr y ↦ let e = y.0 in absurd (omega (arith, e)) ]
+      | inr x ↦ elim x.1 [ inl y ↦ absurd (omega (arith, y)) | inr y ↦ let e = y.0 in absurd (omega (arith, e)) ]
     ]
 
 names_younger : AllNamed passing_hand board_of_younger

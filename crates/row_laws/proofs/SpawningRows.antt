@@ -1,6 +1,5 @@
 -- The rows of the runs with decoupled writes are lawful.
-use Rattle.std.proofs.Common.{◌≡◌, ℕ, List, [], ◌∷◌, Option, Some, None, true, false, refl}
-use Rattle.std.specs.Prelude.{◌&&◌, get_or}
+use Rattle.std.proofs.Common.{ℕ, List, [], ◌∷◌, Some, None, refl}
 use Rattle.ix_bits.specs.BaseTable.{base_patterns}
 use Rattle.ix_plan.specs.Units.{Slots}
 use Rattle.rv_isa.specs.Table.{row_of as base_row, format_of, base_formats}
@@ -15,15 +14,14 @@ use Rattle.rv_seq.specs.Runs.{run}
 use Rattle.rv_seq.specs.States.{first}
 use Rattle.rv_seq.specs.Steps.{attempted, step}
 use Rattle.rv_seq.specs.declared.commit.Slot.TheVariants.{Now, Later, Absent}
-use Rattle.rv_seq.specs.declared.commit.Stop.TheVariants.{Ebreak, Fetch}
+use Rattle.rv_seq.specs.declared.commit.Stop.TheVariants.{Ebreak}
 use Rattle.rv_trace.specs.Trace.{is_flushed, is_retired, place}
 use Rattle.rv_trace.specs.declared.row.Hold.TheVariants.{Board, Drain, UnitFull, Port, Behind}
-use Rattle.rv_trace.specs.declared.row.Row.{Row}
 use Rattle.ix_plan.specs.declared.design.Target.TheVariants.{X}
 use Rattle.row_laws.specs.Spawning.{spawning_hand, record_of, write_of, slow, quick, brisk, hollow, sum, native, break, quick_record, native_record, port_write, slow_write, quick_write, brisk_write, hollow_record, passing_hand, passing, passing_0, passing_1, passing_three, passing_four, passing_five, passing_six, passing_seven, passing_rows, port_hand, port, port_0, port_1, port_three, port_four, port_five, port_six, port_rows, frozen_hand, frozen, frozen_0, frozen_1, frozen_2, frozen_3, frozen_five, frozen_six, frozen_seven, frozen_eight, frozen_rows}
 use Rattle.row_laws.proofs.Stages.{no_custom}
 use Rattle.row_laws.proofs.Tests.{IsSimple}
-use Rattle.row_laws.proofs.Judged.{Judged, no_rows, IsRight, next_row, stop_row, end_row}
+use Rattle.row_laws.proofs.Judged.{Judged, no_rows, next_row, stop_row, end_row}
 
 pub simple : (image : List ℕ) (units : List Slots) → IsSimple (spawning_hand image units)
 simple image units = record { late = λ word. refl; loads = λ word. refl; tail = λ word. refl; unlate = λ word r. no_custom r }

@@ -1,15 +1,13 @@
 -- The rows of the runs with decoupled writes are the run's, with the outstanding writes applied, and those that differ in one thing are not.
-use Rattle.std.proofs.Common.{◌≡◌, ℕ, List, [], ◌∷◌, Option, Some, None, Bool, true, false, refl, sym, ap, ◌∙◌, arith}
-use Rattle.std.specs.Prelude.{◌&&◌, get_or}
+use Rattle.std.proofs.Common.{◌≡◌, ℕ, [], ◌∷◌, refl, sym, ap, ◌∙◌, arith}
 use Rattle.ix_bits.specs.BaseTable.{base_patterns}
 use Rattle.rv_isa.specs.Table.{row_of as base_row, format_of, base_formats}
 use Rattle.rv_isa.specs.Fields.{fields_of}
 use Rattle.rv_isa.specs.Decoded.{decoded}
 use Rattle.rv_effect.specs.Decoding.{decoded_in}
 use Rattle.rv_effect.specs.WordEffects.{effect_of, over, blocks_effect}
-use Rattle.rv_lawful.specs.Headline.{IsRecord, IsSpawnWrite, AgreesWithRun, Agreeing}
-use Rattle.rv_lawful.specs.Outstanding.{Written, is_written, decoupled, outstanding, architecture, applied_state}
-use Rattle.rv_lawful.specs.Settings.{Setting}
+use Rattle.rv_lawful.specs.Headline.{AgreesWithRun, Agreeing}
+use Rattle.rv_lawful.specs.Outstanding.{is_written, decoupled, architecture}
 use Rattle.rv_seq.specs.Bare.{bare}
 use Rattle.rv_seq.specs.Commits.{commit_of, applied}
 use Rattle.rv_seq.specs.Runs.{run, answer_at}
@@ -20,10 +18,8 @@ use Rattle.rv_seq.specs.declared.answer.StepAnswer.TheVariants.{Done, Stopped}
 use Rattle.rv_seq.specs.declared.commit.Commit.{Commit}
 use Rattle.rv_seq.specs.declared.commit.Slot.{Slot}
 use Rattle.rv_seq.specs.declared.commit.Slot.TheVariants.{Now, Later, Absent}
-use Rattle.rv_seq.specs.declared.commit.Stop.{Stop}
 use Rattle.rv_seq.specs.declared.commit.Stop.TheVariants.{Ebreak, Fetch}
 use Rattle.rv_trace.specs.Trace.{is_flushed, is_retired, place, retirements}
-use Rattle.rv_trace.specs.declared.row.Row.{Row}
 use Rattle.rv_tried.specs.declared.parts.Spawned.{Spawned}
 use Rattle.rv_tried.specs.Parts.{shown, native, spawned, paid}
 use Rattle.row_laws.specs.Spawning.{OwesBoth, OwesOne, WritesOne, AppliesBoth, IsOther, IsOtherFrozen, early_spawn, frozen, frozen_0, frozen_1, frozen_2, frozen_3, frozen_4, frozen_5, frozen_6, frozen_7, frozen_8, frozen_eight, frozen_five, frozen_hand, frozen_rows, frozen_seven, frozen_six, late_native, later_left_out, passing, passing_0, passing_1, passing_2, passing_3, passing_4, passing_5, passing_6, passing_7, passing_five, passing_four, passing_hand, passing_rows, passing_seven, passing_six, passing_three, port, port_0, port_1, port_2, port_3, port_4, port_5, port_6, port_five, port_four, port_hand, port_rows, port_six, port_three, record_of, write_of, wrong_write}

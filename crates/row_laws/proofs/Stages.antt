@@ -14,7 +14,7 @@ use Rattle.rv_waits.specs.Waits.{wait_at}
 use Rattle.rv_lawful.specs.Settings.{Stands, accesses_before, tailed}
 use Rattle.ix_plan.specs.declared.design.Target.{Target}
 use Rattle.ix_plan.specs.declared.design.Target.TheVariants.{X, Custom as custom_target}
-use Rattle.ix_plan.specs.Units.{Slots, unit_written, next_units}
+use Rattle.ix_plan.specs.Units.{unit_written, next_units}
 use Rattle.rv_lawful.specs.Outstanding.{is_register, has_target, serial_written, entering, units_after}
 use Rattle.rv_lawful.specs.Sight.{SpawnsNothing}
 use Rattle.rv_lawful.specs.LawfulTrace.{IsWordOf, WaitsForOperand, WaitsForCustom, WaitsForJump, WaitsForWrite, IsUnwritten, WaitsToDrain, WaitsForMemory, WaitsForModule, WaitsForUnit, WaitsForPort, OwnHold, StopsRun, WaitsBehind, TrueHold, ShowsHold, IsSettlingStage, Settles, successor, IsMismatch, Successors, IsEmptyAfter, StopsRightly, Retires, WritesUnit, serial_in, reads_of}

@@ -1,6 +1,6 @@
 -- What rows on the core of three stages owe where units write, as tests: rows that pass them are lawful.
-use Rattle.std.proofs.Common.{◌≡◌, ℕ, zero, suc, ◌+◌, ◌<◌, ◌≤◌, List, [], ◌∷◌, Option, Some, None, Bool, true, false, refl, sym, ap, ◌∙◌, subst, arith, ◌⊎◌, inl, inr}
-use Rattle.std.specs.Prelude.{◌&&◌, ◌||◌, not, if◌then◌else◌, ◌==◌, nat_lt, is_some, is_none, take, slice_get, get_or, replicate}
+use Rattle.std.proofs.Common.{◌≡◌, ℕ, zero, suc, ◌<◌, ◌≤◌, List, [], ◌∷◌, Option, Some, None, Bool, true, false, refl, sym, ap, ◌∙◌, arith, ◌⊎◌, inl, inr}
+use Rattle.std.specs.Prelude.{◌&&◌, ◌||◌, not, ◌==◌, nat_lt, is_some, take, slice_get, get_or}
 use Rattle.std.proofs.lemmas.Bool.Decides.{nat_tests}
 use Rattle.ix_plan.specs.declared.design.Target.{Target}
 use Rattle.ix_plan.specs.declared.design.Target.TheVariants.{X, Custom as custom_target}
@@ -8,22 +8,16 @@ use Rattle.ix_plan.specs.Units.{Slots, unit_written, frozen_with}
 use Rattle.rv_asks.specs.declared.asks.Asks.{Asks}
 use Rattle.rv_seq.specs.declared.answer.StepAnswer.{StepAnswer}
 use Rattle.rv_seq.specs.declared.answer.StepAnswer.TheVariants.{Done, Stopped}
-use Rattle.rv_seq.specs.declared.commit.Commit.{Commit}
 use Rattle.rv_seq.specs.declared.commit.Stop.{Stop}
-use Rattle.rv_seq.specs.declared.commit.Stop.TheVariants.{Fetch}
-use Rattle.rv_seq.specs.Steps.{word_at}
 use Rattle.rv_trace.specs.declared.row.Cell.{Cell}
 use Rattle.rv_trace.specs.declared.row.Hold.{Hold}
 use Rattle.rv_trace.specs.declared.row.Hold.TheVariants.{Operand, Board, Custom, Late, Trap, Drain, Wait, StoreAhead, Tail, UnitFull, Port, Behind}
 use Rattle.rv_trace.specs.declared.row.Row.{Row}
-use Rattle.rv_trace.specs.Trace.{has_cell, has_serial, is_flushed, is_retired, place, newest}
-use Rattle.rv_trace.specs.RowParts.{name_of, leaves, ComesFirst}
-use Rattle.rv_lawful.specs.Settings.{Stands}
-use Rattle.rv_lawful.specs.Outstanding.{Written, is_register, has_target, touches, serial_written, units_after, is_written, outstanding}
-use Rattle.rv_lawful.specs.LawfulTrace.{plain_fetch, fetch_address, Moves, IsWordOf, IsDueToStop, reads_of, WaitsForOperand, WaitsForWrite, IsUnwritten, WaitsToDrain, WaitsForUnit, WaitsForPort, OwnHold, StopsRun, WaitsBehind, ShowsHold, Settles, successor, IsMismatch, Successors, IsEmptyAfter, StopsRightly, Retires, WritesUnit, LawfulRow, Lawful}
-use Rattle.row_laws.specs.Hands.{Hand, by_hand, none_flushed}
-use Rattle.row_laws.specs.Spawning.{full_row}
-use Rattle.row_laws.proofs.Stages.{true_not_false, same_cell, AllNamed, Named, HasWord, named, word_is, no_wait, shows_none, shows_own, shows_hold, settles_at_ex, none_retires, one_retires}
+use Rattle.rv_trace.specs.Trace.{has_cell, is_flushed, is_retired, place}
+use Rattle.rv_lawful.specs.Outstanding.{Written, is_register, has_target, touches, serial_written, units_after, is_written}
+use Rattle.rv_lawful.specs.LawfulTrace.{IsWordOf, IsDueToStop, reads_of, WaitsForOperand, WaitsForWrite, IsUnwritten, WaitsToDrain, WaitsForUnit, WaitsForPort, OwnHold}
+use Rattle.row_laws.specs.Hands.{Hand, by_hand}
+use Rattle.row_laws.proofs.Stages.{true_not_false, AllNamed, Named, word_is, no_wait}
 
 -- Tests on numbers
 
@@ -147,8 +141,8 @@ no_operand h earlier row stage c all e r j w =
     let word = word_is h (row ∷ earlier) all j w.writes.0 w.writes.1 in
     let goes : r ≡ (asks_of h j).destination = sym w.writes.2 ∙ ap (λ n. (h.asks n).destination) word in
     true_not_false (sym w.reads ∙ ap (λ n. reads_of (h.asks c.word) n) goes
-        ∙ negated (reads_of (h.asks c.word) (asks_of h j).destination)
-            (either (is_retired earlier j) (not (reads_of (h.asks c.word) (asks_of h j).destination)) (below (operand_clear h earlier c) c.serial j e w.older.lower) w.unretired))
+    ∙ negated (reads_of (h.asks c.word) (asks_of h j).destination)
+    (either (is_retired earlier j) (not (reads_of (h.asks c.word) (asks_of h j).destination)) (below (operand_clear h earlier c) c.serial j e w.older.lower) w.unretired))
 
 -- Board
 
@@ -189,7 +183,7 @@ has_its h earlier row stage c all t j w = sym (ap (λ n. has_target (h.asks n) t
 pub clear_at : (h : Hand) (earlier : List Row) (row : Row) (stage : ℕ) (c : Cell) → AllNamed h (row ∷ earlier) → (t : Target) (j : ℕ) → board_clear h earlier c j ≡ true → WaitsForWrite (by_hand h) earlier row stage c t j → ⊥
 clear_at h earlier row stage c all t j e w =
     true_not_false (sym (meets_at (h.asks c.word) (asks_of h j) t w.touches (has_its h earlier row stage c all t j w))
-        ∙ negated (meets (h.asks c.word) (asks_of h j)) (either (is_written earlier j) (not (meets (h.asks c.word) (asks_of h j))) e w.unwritten))
+    ∙ negated (meets (h.asks c.word) (asks_of h j)) (either (is_written earlier j) (not (meets (h.asks c.word) (asks_of h j))) e w.unwritten))
 
 pub no_board : (h : Hand) (earlier : List Row) (row : Row) (stage : ℕ) (c : Cell) → AllNamed h (row ∷ earlier) → all_below (board_clear h earlier c) c.serial ≡ true → (t : Target) (j : ℕ) → WaitsForWrite (by_hand h) earlier row stage c t j → ⊥
 no_board h earlier row stage c all e t j w = clear_at h earlier row stage c all t j (below (board_clear h earlier c) c.serial j e w.older.lower) w
@@ -269,7 +263,7 @@ takes_at h (Some w) j e = ap (λ n. is_some (asks_of h n).spawned) (some_same w.
 no_port : (h : Hand) (earlier : List Row) (row : Row) (stage : ℕ) (c : Cell) → AllNamed h (row ∷ earlier) → (((h.asks c.word).destination == 0) || not (takes_port h row.written)) ≡ true → (j : ℕ) → WaitsForPort (by_hand h) earlier row stage c j → ⊥
 no_port h earlier row stage c all e j w =
     true_not_false (sym w.spawns.2 ∙ ap (λ n. is_some (h.asks n).spawned) (word_is h (row ∷ earlier) all j w.spawns.0 w.spawns.1) ∙ sym (takes_at h row.written j w.taken)
-        ∙ negated (takes_port h row.written) (either ((h.asks c.word).destination == 0) (not (takes_port h row.written)) e w.writes))
+    ∙ negated (takes_port h row.written) (either ((h.asks c.word).destination == 0) (not (takes_port h row.written)) e w.writes))
 
 -- Cells without a hold of their own
 

@@ -1,6 +1,6 @@
 -- A run whose instruction writes a custom register by `spawn` that an always-block writes too: what the block writes is there from the retirement on, and what the
 -- instruction writes comes later, where its condition is true (SCAIE-V, decoupled execution; that the block's write is made at retirement is this project's choice).
-use Rattle.std.specs.Prelude.{◌≡◌, ℕ, zero, suc, ◌*◌, List, [], ◌∷◌, get_or, replicate, Option, Some, None, Bool, true, false, if◌then◌else◌, ◌==◌}
+use Rattle.std.specs.Prelude.{◌≡◌, ℕ, zero, suc, ◌*◌, List, [], ◌∷◌, get_or, replicate, Some, None, Bool, true, false, if◌then◌else◌, ◌==◌}
 use Rattle.std.proofs.Common.{lit<, lit≤}
 use Rattle.ix_bits.specs.declared.number.Bits.{Bits}
 use Rattle.rv_asks.specs.declared.asks.Asks.{Asks}
