@@ -1,5 +1,5 @@
 -- A row on the core of three stages that passes the tests of its cells is lawful, where nothing is flushed.
-use Rattle.std.proofs.Common.{◌≡◌, ℕ, List, ◌∷◌, Option, Some, None, Bool, true, false, refl, sym, ap, ◌∙◌, subst, arith, ◌⊎◌, inl, inr}
+use Rattle.std.proofs.Common.{◌≡◌, ℕ, zero, suc, ◌≤◌, List, [], ◌∷◌, Option, Some, None, Bool, true, false, refl, sym, ap, ◌∙◌, subst, arith, ◌⊎◌, inl, inr}
 use Rattle.std.specs.Prelude.{◌&&◌, ◌||◌, not, ◌==◌, nat_lt, is_some, slice_get, get_or}
 use Rattle.ix_plan.specs.declared.design.Target.{Target}
 use Rattle.ix_plan.specs.declared.design.Target.TheVariants.{X, Custom as custom_target}
@@ -18,7 +18,7 @@ use Rattle.rv_lawful.specs.LawfulTrace.{IsDueToStop, WaitsForWrite, WaitsToDrain
 use Rattle.row_laws.specs.Hands.{Hand, by_hand}
 use Rattle.row_laws.specs.Spawning.{full_row}
 use Rattle.row_laws.proofs.Stages.{true_not_false, AllNamed, no_wait, shows_none, shows_own, shows_hold}
-use Rattle.row_laws.proofs.Tests.{both_true, either, negated, known, same_number, less, not_less, all_below, below, register_there, asks_of, IsSimple, in_rows, has_word, is_older, operand_clear, no_operand, board_clear, has_its, clear_at, no_board, is_due, stop_there, due_now, settled, unsettled, full_in, full_of, not_full, slots_there, some_same, none_own, no_tail, clear_front, ex_free, clear_ex, last_free, clear_last, front_not_ex, last_not_ex}
+use Rattle.row_laws.proofs.Tests.{both_true, and_both, x_meets, x_meets_at, either, negated, known, same_number, less, not_less, all_below, below, register_there, asks_of, IsSimple, in_rows, has_word, is_older, operand_clear, no_operand, board_clear, has_its, clear_at, no_board, is_due, stop_there, due_now, settled, unsettled, full_in, full_of, not_full, slots_there, some_same, none_own, no_tail, clear_front, ex_free, clear_ex, last_free, clear_last, front_not_ex, last_not_ex}
 
 -- a fact of four parts
 four_true : (a b c d : Bool) → (a && (b && (c && d))) ≡ true → (a ≡ true) × (b ≡ true) × (c ≡ true) × (d ≡ true)
@@ -40,25 +40,22 @@ behind_x r j i (Some n) s e f = let same = same_number n s f in elim (known (nat
       let at = same_number n r y.0 in let le = not_less i j (negated (nat_lt i j) y.1) in inr (refl, inr (sym at ∙ same, le))
 ]
 
-behind_any : (r j i : ℕ) (o : Option ℕ) (t : Target) → nat_lt r 32 ≡ true → comes_behind r j i o ≡ true → (s : ℕ) → ComesFirst (Board (X r) j) (Board (custom_target s) i)
-behind_any r j i o t few e s = let lt = less r 32 few in inr (refl, inl (omega (arith, lt)))
+behind_any : (r j i : ℕ) → nat_lt r 32 ≡ true → (s : ℕ) → ComesFirst (Board (X r) j) (Board (custom_target s) i)
+behind_any r j i few s = let lt = less r 32 few in inr (refl, inl (omega (arith, lt)))
 
--- the test on a cell that shows Board
+-- the other cells whose writes the cell waits for come behind
 abbrev pub board_others : Hand → List Row → Cell → ℕ → ℕ → ℕ → Bool
 board_others h earlier c r j i = board_clear h earlier c i || comes_behind r j i (asks_of h i).spawned
 
-abbrev pub board_true : Hand → List Row → Row → Cell → ℕ → ℕ → Bool
-board_true h earlier row c r j =
-    touches (h.asks c.word) (X r) && (is_older (row ∷ earlier) c j && (not (is_written earlier j) && (in_rows (row ∷ earlier) j && has_target (asks_of h j) (X r))))
+-- the cell reads or writes the register, which an older one writes by `spawn`, that is not written in an earlier row
+abbrev pub board_true : Hand → List Row → Row → Cell → Target → ℕ → Bool
+board_true h earlier row c t j =
+    touches (h.asks c.word) t && (is_older (row ∷ earlier) c j && (not (is_written earlier j) && (in_rows (row ∷ earlier) j && has_target (asks_of h j) t)))
 
-abbrev pub board_shown : Hand → List Row → Row → Cell → ℕ → ℕ → Bool
-board_shown h earlier row c r j =
-    board_true h earlier row c r j && (nat_lt r 32 && (all_below (operand_clear h earlier c) c.serial && all_below (board_others h earlier c r j) c.serial))
-
-pub waits_for_write : (h : Hand) (earlier : List Row) (row : Row) (c : Cell) (r j : ℕ) → AllNamed h (row ∷ earlier) → board_true h earlier row c r j ≡ true → WaitsForWrite (by_hand h) earlier row 1 c (X r) j
-waits_for_write h earlier row c r j all e =
-    let a = both_true (touches (h.asks c.word) (X r)) (is_older (row ∷ earlier) c j && (not (is_written earlier j) && (in_rows (row ∷ earlier) j && has_target (asks_of h j) (X r)))) e in
-    let b = four_true (is_older (row ∷ earlier) c j) (not (is_written earlier j)) (in_rows (row ∷ earlier) j) (has_target (asks_of h j) (X r)) a.1 in
+pub waits_for_write : (h : Hand) (earlier : List Row) (row : Row) (c : Cell) (t : Target) (j : ℕ) → AllNamed h (row ∷ earlier) → board_true h earlier row c t j ≡ true → WaitsForWrite (by_hand h) earlier row 1 c t j
+waits_for_write h earlier row c t j all e =
+    let a = both_true (touches (h.asks c.word) t) (is_older (row ∷ earlier) c j && (not (is_written earlier j) && (in_rows (row ∷ earlier) j && has_target (asks_of h j) t))) e in
+    let b = four_true (is_older (row ∷ earlier) c j) (not (is_written earlier j)) (in_rows (row ∷ earlier) j) (has_target (asks_of h j) t) a.1 in
     let older = both_true (nat_lt j c.serial) (not (is_flushed (row ∷ earlier) j)) b.0 in
     record {
       reading = refl;
@@ -67,6 +64,29 @@ waits_for_write h earlier row c r j all e =
       unwritten = negated (is_written earlier j) b.1;
       spawns = (get_or h.image j 0, has_word h (row ∷ earlier) j all b.2, b.3);
     }
+
+shows_first_board : (h : Hand) (earlier : List Row) (row : Row) (c : Cell) (u : Target) (j : ℕ) → AllNamed h (row ∷ earlier) → has_serial row.flushed c.serial ≡ false → c.hold ≡ Some (Board u j) → board_true h earlier row c u j ≡ true
+    → all_below (operand_clear h earlier c) c.serial ≡ true → ((t : Target) (i : ℕ) → WaitsForWrite (by_hand h) earlier row 1 c t i → ComesFirst (Board u j) (Board t i)) → ShowsHold (by_hand h) earlier row 1 c
+shows_first_board h earlier row c u j all alive shown e clear least = shows_own h earlier row 1 c (Board u j) shown alive (waits_for_write h earlier row c u j all e) first (inl (omega arith)) where
+  first : (f : Hold) → OwnHold (by_hand h) earlier row 1 c f → ComesFirst (Board u j) f
+  first (Operand s i) o = absurd (no_operand h earlier row 1 c all clear s i o)
+  first (Board t i) o = least t i o
+  first (Custom s i) o = inl (omega arith)
+  first (Late i) o = inl (omega arith)
+  first Trap o = absurd o
+  first (Drain i) o = inl (omega arith)
+  first (Wait left) o = inl (omega arith)
+  first (StoreAhead i) o = inl (omega arith)
+  first (Tail left) o = inl (omega arith)
+  first (UnitFull v) o = inl (omega arith)
+  first (Port i) o = inl (omega arith)
+  first Behind o = absurd o
+
+-- the test on a cell that shows Board of an x register
+
+abbrev pub board_shown : Hand → List Row → Row → Cell → ℕ → ℕ → Bool
+board_shown h earlier row c r j =
+    board_true h earlier row c (X r) j && (nat_lt r 32 && (all_below (operand_clear h earlier c) c.serial && all_below (board_others h earlier c r j) c.serial))
 
 board_first : (h : Hand) (earlier : List Row) (row : Row) (c : Cell) (r j : ℕ) → AllNamed h (row ∷ earlier) → nat_lt r 32 ≡ true → all_below (board_others h earlier c r j) c.serial ≡ true
     → (t : Target) (i : ℕ) → WaitsForWrite (by_hand h) earlier row 1 c t i → ComesFirst (Board (X r) j) (Board t i)
@@ -78,26 +98,68 @@ board_first h earlier row c r j all few e t i w =
     ] where
       by_target : (t : Target) → has_target (asks_of h i) t ≡ true → comes_behind r j i (asks_of h i).spawned ≡ true → ComesFirst (Board (X r) j) (Board t i)
       by_target (X s) has q = behind_x r j i (asks_of h i).spawned s q has
-      by_target (custom_target s) has q = behind_any r j i (asks_of h i).spawned (custom_target s) few q s
+      by_target (custom_target s) has q = behind_any r j i few s
 
-pub shows_board : (h : Hand) → IsSimple h → (earlier : List Row) (row : Row) (c : Cell) (r j : ℕ) → AllNamed h (row ∷ earlier) → has_serial row.flushed c.serial ≡ false → c.hold ≡ Some (Board (X r) j) → board_shown h earlier row c r j ≡ true
+pub shows_board : (h : Hand) (earlier : List Row) (row : Row) (c : Cell) (r j : ℕ) → AllNamed h (row ∷ earlier) → has_serial row.flushed c.serial ≡ false → c.hold ≡ Some (Board (X r) j) → board_shown h earlier row c r j ≡ true
     → ShowsHold (by_hand h) earlier row 1 c
-shows_board h simple earlier row c r j all alive shown e =
-    let a = four_true (board_true h earlier row c r j) (nat_lt r 32) (all_below (operand_clear h earlier c) c.serial) (all_below (board_others h earlier c r j) c.serial) e in
-    shows_own h earlier row 1 c (Board (X r) j) shown alive (waits_for_write h earlier row c r j all a.0) (first a.2 a.1 a.3) (inl (omega arith)) where
-      first : all_below (operand_clear h earlier c) c.serial ≡ true → nat_lt r 32 ≡ true → all_below (board_others h earlier c r j) c.serial ≡ true → (f : Hold) → OwnHold (by_hand h) earlier row 1 c f → ComesFirst (Board (X r) j) f
-      first x few y (Operand s i) o = absurd (no_operand h earlier row 1 c all x s i o)
-      first x few y (Board t i) o = board_first h earlier row c r j all few y t i o
-      first x few y (Custom s i) o = inl (omega arith)
-      first x few y (Late i) o = inl (omega arith)
-      first x few y Trap o = absurd o
-      first x few y (Drain i) o = inl (omega arith)
-      first x few y (Wait left) o = inl (omega arith)
-      first x few y (StoreAhead i) o = inl (omega arith)
-      first x few y (Tail left) o = inl (omega arith)
-      first x few y (UnitFull u) o = inl (omega arith)
-      first x few y (Port i) o = inl (omega arith)
-      first x few y Behind o = absurd o
+shows_board h earlier row c r j all alive shown e =
+    let a = four_true (board_true h earlier row c (X r) j) (nat_lt r 32) (all_below (operand_clear h earlier c) c.serial) (all_below (board_others h earlier c r j) c.serial) e in
+    shows_first_board h earlier row c (X r) j all alive shown a.0 a.2 (board_first h earlier row c r j all a.1 a.3)
+
+-- the test on a cell that shows Board of a custom register
+
+-- no register below this one is common
+abbrev pub none_before : List Bool → List Bool → ℕ → Bool
+none_before l m zero = true
+none_before [] m (suc r) = true
+none_before (a ∷ l) [] (suc r) = true
+none_before (a ∷ l) (b ∷ m) (suc r) = not (a && b) && none_before l m r
+
+not_before : (l m : List Bool) (r s : ℕ) → none_before l m r ≡ true → get_or l s false ≡ true → get_or m s false ≡ true → r ≤ s
+not_before l m zero s e f g = omega arith
+not_before [] m (suc r) s e f g = absurd (true_not_false (sym f))
+not_before (a ∷ l) [] (suc r) s e f g = absurd (true_not_false (sym g))
+not_before (a ∷ l) (b ∷ m) (suc r) zero e f g = absurd (true_not_false (sym (and_both a b f g) ∙ negated (a && b) (both_true (not (a && b)) (none_before l m r) e).0))
+not_before (a ∷ l) (b ∷ m) (suc r) (suc s) e f g = let le = not_before l m r s (both_true (not (a && b)) (none_before l m r) e).1 f g in omega (arith, le)
+
+abbrev pub custom_only : Hand → Cell → ℕ → ℕ → Bool
+custom_only h c r i = not (x_meets (h.asks c.word) (asks_of h i).spawned) && none_before (h.asks c.word).customs (asks_of h i).spawned_customs r
+
+abbrev pub custom_others : Hand → List Row → Cell → ℕ → ℕ → ℕ → Bool
+custom_others h earlier c r j i = board_clear h earlier c i || ((i == j) && custom_only h c r i)
+
+abbrev pub custom_shown : Hand → List Row → Row → Cell → ℕ → ℕ → Bool
+custom_shown h earlier row c r j =
+    board_true h earlier row c (custom_target r) j && (all_below (operand_clear h earlier c) c.serial && all_below (custom_others h earlier c r j) c.serial)
+
+custom_order : (r j s i : ℕ) → r ≤ s → i ≡ j → ComesFirst (Board (custom_target r) j) (Board (custom_target s) i)
+custom_order r j s i le same = elim (known (nat_lt r s)) [
+  | inl x ↦ let lt = less r s x in inr (refl, inl (omega (arith, lt)))
+  | inr x ↦ let back = not_less r s x in inr (refl, inr (omega (arith, le, back), omega (arith, same)))
+]
+
+custom_least : (h : Hand) (earlier : List Row) (row : Row) (c : Cell) (r j : ℕ) → AllNamed h (row ∷ earlier) → all_below (custom_others h earlier c r j) c.serial ≡ true
+    → (t : Target) (i : ℕ) → WaitsForWrite (by_hand h) earlier row 1 c t i → ComesFirst (Board (custom_target r) j) (Board t i)
+custom_least h earlier row c r j all e t i w =
+    let test = below (custom_others h earlier c r j) c.serial i e w.older.lower in
+    elim (known (board_clear h earlier c i)) [
+      | inl x ↦ absurd (clear_at h earlier row 1 c all t i x w)
+      | inr x ↦
+          let a = both_true (i == j) (custom_only h c r i) (either (board_clear h earlier c i) ((i == j) && custom_only h c r i) test x) in
+          let b = both_true (not (x_meets (h.asks c.word) (asks_of h i).spawned)) (none_before (h.asks c.word).customs (asks_of h i).spawned_customs r) a.1 in
+          by_target t w.touches (has_its h earlier row 1 c all t i w) (same_number i j a.0) (negated (x_meets (h.asks c.word) (asks_of h i).spawned) b.0) b.1
+    ] where
+      by_target : (t : Target) → touches (h.asks c.word) t ≡ true → has_target (asks_of h i) t ≡ true → i ≡ j → x_meets (h.asks c.word) (asks_of h i).spawned ≡ false → none_before (h.asks c.word).customs (asks_of h i).spawned_customs r ≡ true
+          → ComesFirst (Board (custom_target r) j) (Board t i)
+      by_target (X s) uses has same apart none = absurd (true_not_false (sym (x_meets_at (h.asks c.word) (asks_of h i).spawned s uses has) ∙ apart))
+      by_target (custom_target s) uses has same apart none = custom_order r j s i (not_before (h.asks c.word).customs (asks_of h i).spawned_customs r s none uses has) same
+
+pub shows_custom_board : (h : Hand) (earlier : List Row) (row : Row) (c : Cell) (r j : ℕ) → AllNamed h (row ∷ earlier) → has_serial row.flushed c.serial ≡ false → c.hold ≡ Some (Board (custom_target r) j) → custom_shown h earlier row c r j ≡ true
+    → ShowsHold (by_hand h) earlier row 1 c
+shows_custom_board h earlier row c r j all alive shown e =
+    let a = both_true (board_true h earlier row c (custom_target r) j) (all_below (operand_clear h earlier c) c.serial && all_below (custom_others h earlier c r j) c.serial) e in
+    let b = both_true (all_below (operand_clear h earlier c) c.serial) (all_below (custom_others h earlier c r j) c.serial) a.1 in
+    shows_first_board h earlier row c (custom_target r) j all alive shown a.0 b.0 (custom_least h earlier row c r j all b.1)
 
 -- Drain
 
@@ -297,7 +359,7 @@ abbrev pub ex_hold : Hand → List Row → Row → Cell → Option Hold → Opti
 ex_hold h earlier row x None c = ex_free h earlier row x && (is_due h (row ∷ earlier) x || not (is_held c))
 ex_hold h earlier row x (Some Behind) c = ex_free h earlier row x && (not (is_due h (row ∷ earlier) x) && is_held c)
 ex_hold h earlier row x (Some (Board (X r) j)) c = board_shown h earlier row x r j
-ex_hold h earlier row x (Some (Board (custom_target r) j)) c = false
+ex_hold h earlier row x (Some (Board (custom_target r) j)) c = custom_shown h earlier row x r j
 ex_hold h earlier row x (Some (Drain j)) c = drain_shown h earlier row x j
 ex_hold h earlier row x (Some g) c = false
 
@@ -333,8 +395,8 @@ ex_shows h simple earlier a x (Some d) ret wr stop all (Some Behind) e t =
     ]) where
       row : Row
       row = full_row a (Some x) (Some d) ret wr stop
-ex_shows h simple earlier a x c ret wr stop all (Some (Board (X r) j)) e t = shows_board h simple earlier (full_row a (Some x) c ret wr stop) x r j all refl e t
-ex_shows h simple earlier a x c ret wr stop all (Some (Board (custom_target r) j)) e t = absurd (true_not_false (sym t))
+ex_shows h simple earlier a x c ret wr stop all (Some (Board (X r) j)) e t = shows_board h earlier (full_row a (Some x) c ret wr stop) x r j all refl e t
+ex_shows h simple earlier a x c ret wr stop all (Some (Board (custom_target r) j)) e t = shows_custom_board h earlier (full_row a (Some x) c ret wr stop) x r j all refl e t
 ex_shows h simple earlier a x c ret wr stop all (Some (Drain j)) e t = shows_drain h simple earlier (full_row a (Some x) c ret wr stop) x j all refl e t
 ex_shows h simple earlier a x c ret wr stop all (Some (Operand r j)) e t = absurd (true_not_false (sym t))
 ex_shows h simple earlier a x c ret wr stop all (Some (Custom r j)) e t = absurd (true_not_false (sym t))

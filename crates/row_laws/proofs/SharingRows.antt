@@ -1,5 +1,5 @@
 -- The rows of the run in which a block and a `spawn` body write one register are lawful, and keep what both write.
-use Rattle.std.proofs.Common.{◌≡◌, ℕ, List, [], ◌∷◌, Some, None, Bool, true, false, refl, sym, ap, ◌∙◌, arith}
+use Rattle.std.proofs.Common.{◌≡◌, ℕ, List, [], ◌∷◌, Some, None, Bool, true, false, refl, sym, ap, ◌∙◌, arith, inl, inr}
 use Rattle.std.specs.Prelude.{get_or}
 use Rattle.ix_bits.specs.declared.number.Bits.{Bits}
 use Rattle.rv_lawful.specs.Headline.{IsSpawnWrite}
@@ -12,13 +12,17 @@ use Rattle.rv_seq.specs.declared.answer.StepAnswer.TheVariants.{Done}
 use Rattle.rv_seq.specs.declared.commit.Commit.{Commit}
 use Rattle.rv_seq.specs.declared.commit.Slot.{Slot}
 use Rattle.rv_seq.specs.declared.commit.Slot.TheVariants.{Absent, Now, Later}
-use Rattle.rv_trace.specs.Trace.{is_flushed, is_retired, place, retirements}
+use Rattle.rv_seq.specs.declared.commit.Stop.TheVariants.{Ebreak}
+use Rattle.rv_trace.specs.declared.row.Hold.TheVariants.{Board, Drain}
+use Rattle.ix_plan.specs.declared.design.Target.TheVariants.{Custom}
+use Rattle.rv_trace.specs.Trace.{newest, is_flushed, is_retired, place, retirements}
 use Rattle.rv_tried.specs.declared.parts.Spawned.{Spawned}
 use Rattle.rv_tried.specs.Parts.{native, spawned, paid}
-use Rattle.row_laws.specs.Sharing.{of_block, left_by, sharing_record, sharing_answer, sharing_hand, sharing, sharer, row_0, row_1, sharing_write, sharing_three, sharing_rows, Holds, HoldsApplied, HoldsNot, IsNoWrite, block_by_unit}
-use Rattle.row_laws.proofs.Stages.{no_custom}
+use Rattle.row_laws.specs.Sharing.{of_block, left_by, sharing_record, sharing_answer, sharing_hand, sharing, sharer, break, row_0, two_rows, sharing_write, sharing_three, sharing_four, sharing_rows, IsUnlawful, drains_first, Holds, HoldsApplied, HoldsNot, IsNoWrite, block_by_unit}
+use Rattle.row_laws.proofs.Stages.{no_custom, AllNamed}
 use Rattle.row_laws.proofs.Tests.{IsSimple}
-use Rattle.row_laws.proofs.Judged.{Judged, no_rows, next_row, end_row}
+use Rattle.row_laws.proofs.Judging.{waits_for_write}
+use Rattle.row_laws.proofs.Judged.{Judged, no_rows, next_row, stop_row, row_named}
 
 simple : (b : Bool) → IsSimple (sharing_hand b)
 simple b = record { late = λ word. refl; loads = λ word. refl; tail = λ word. refl; unlate = λ word r. no_custom r }
@@ -27,27 +31,45 @@ judged_1 : (b : Bool) → Judged (sharing_hand b) (row_0 ∷ [])
 unfolding fetch_address next_serial is_flushed is_retired is_written place units_after decoupled
 judged_1 b = next_row (sharing_hand b) (simple b) [] (Some sharer) None None None None (no_rows (sharing_hand b)) refl (record { moves = (refl, (refl, (refl, tt))); units = refl; names = refl; cells = refl }) refl refl
 
-judged_2 : (b : Bool) → Judged (sharing_hand b) (row_1 ∷ row_0 ∷ [])
+judged_2 : (b : Bool) → Judged (sharing_hand b) two_rows
 unfolding fetch_address next_serial is_flushed is_retired is_written place units_after decoupled
-judged_2 b = next_row (sharing_hand b) (simple b) (row_0 ∷ []) None (Some sharer) None None None (judged_1 b) refl (record { moves = (refl, (refl, (refl, tt))); units = refl; names = refl; cells = refl }) refl refl
+judged_2 b = next_row (sharing_hand b) (simple b) (row_0 ∷ []) (Some (break None)) (Some sharer) None None None (judged_1 b) refl (record { moves = (refl, (refl, (refl, tt))); units = refl; names = refl; cells = refl }) refl refl
 
 judged_3 : (b : Bool) → Judged (sharing_hand b) sharing_three
 unfolding fetch_address next_serial is_flushed is_retired is_written place units_after decoupled
 judged_3 b =
-    next_row (sharing_hand b) (simple b) (row_1 ∷ row_0 ∷ []) None None (Some sharer) (Some (0, sharing_record Later)) None (judged_2 b) refl
+    next_row (sharing_hand b) (simple b) two_rows None (Some (break (Some (Board (Custom 0) 0)))) (Some sharer) (Some (0, sharing_record Later)) None (judged_2 b) refl
     (record { moves = (refl, (refl, (refl, tt))); units = refl; names = refl; cells = refl }) refl refl
 
-judged_4 : (b : Bool) → Judged (sharing_hand b) (sharing_rows b)
+judged_4 : (b : Bool) → Judged (sharing_hand b) (sharing_four b)
 unfolding fetch_address next_serial is_flushed is_retired is_written place units_after decoupled
 judged_4 true =
-    end_row (sharing_hand true) (simple true) sharing_three None None (Some (sharing_write true)) (judged_3 true) refl
-    (record { moves = (refl, (refl, (refl, tt))); units = refl; names = refl; cells = refl }) refl
+    next_row (sharing_hand true) (simple true) sharing_three None (Some (break (Some (Board (Custom 0) 0)))) None None (Some (sharing_write true)) (judged_3 true) refl
+    (record { moves = (refl, (refl, (refl, tt))); units = refl; names = refl; cells = refl }) refl refl
 judged_4 false =
-    end_row (sharing_hand false) (simple false) sharing_three None None (Some (sharing_write false)) (judged_3 false) refl
-    (record { moves = (refl, (refl, (refl, tt))); units = refl; names = refl; cells = refl }) refl
+    next_row (sharing_hand false) (simple false) sharing_three None (Some (break (Some (Board (Custom 0) 0)))) None None (Some (sharing_write false)) (judged_3 false) refl
+    (record { moves = (refl, (refl, (refl, tt))); units = refl; names = refl; cells = refl }) refl refl
+
+judged_5 : (b : Bool) → Judged (sharing_hand b) (sharing_rows b)
+unfolding fetch_address next_serial is_flushed is_retired is_written place units_after decoupled
+judged_5 true =
+    stop_row (sharing_hand true) (simple true) (sharing_four true) None (break None) None None None Ebreak (judged_4 true) refl
+    (record { moves = (refl, (refl, (refl, tt))); units = refl; names = refl; cells = refl }) refl refl
+judged_5 false =
+    stop_row (sharing_hand false) (simple false) (sharing_four false) None (break None) None None None Ebreak (judged_4 false) refl
+    (record { moves = (refl, (refl, (refl, tt))); units = refl; names = refl; cells = refl }) refl refl
 
 pub sharing_lawful : (b : Bool) → Lawful (sharing b) (sharing_rows b)
-sharing_lawful b = (judged_4 b).lawful
+sharing_lawful b = (judged_5 b).lawful
+
+names_3 : (b : Bool) → AllNamed (sharing_hand b) drains_first
+names_3 b = (row_named (sharing_hand b) None (Some (break (Some (Drain 0)))) (Some sharer) (Some (0, sharing_record Later)) None None refl, (judged_2 b).names)
+
+pub drains_first_refused : (b : Bool) → IsUnlawful b drains_first
+unfolding is_flushed is_written
+drains_first_refused b h =
+    let wait = waits_for_write (sharing_hand b) two_rows (newest drains_first) (break (Some (Drain 0))) (Custom 0) 0 (names_3 b) refl in
+    elim ((h.0.holds 1 (break (Some (Drain 0))) refl).shown_first (Drain 0) (Board (Custom 0) 0) refl (inl wait)) [ inl x ↦ absurd (omega (arith, x)) | inr x ↦ let e = x.0 in absurd (omega (arith, e)) ]
 
 -- States
 
@@ -64,7 +86,7 @@ unfolding architecture decoupled is_written is_flushed place retirements native 
 applied_before true = refl
 applied_before false = refl
 
-pub instruction_last : (b : Bool) → Holds b (sharing_rows b) (left_by b)
+pub instruction_last : (b : Bool) → Holds b (sharing_four b) (left_by b)
 unfolding architecture retirements native paid applied first
 instruction_last true = refl
 instruction_last false = refl

@@ -46,7 +46,7 @@ names_3 = (row_named passing_hand (Some (break 3 12 None)) (Some (sum 2 8 None))
 
 pub board_left_out_refused : IsUnlawful board_left_out
 unfolding is_flushed is_written
-board_left_out_refused h = idle passing passing_three (newest board_left_out) 1 (sum 2 8 None) (Board (X 5) 0) h refl refl refl (waits_for_write passing_hand passing_three (newest board_left_out) (sum 2 8 None) 5 0 names_3 refl)
+board_left_out_refused h = idle passing passing_three (newest board_left_out) 1 (sum 2 8 None) (Board (X 5) 0) h refl refl refl (waits_for_write passing_hand passing_three (newest board_left_out) (sum 2 8 None) (X 5) 0 names_3 refl)
 
 names_another : AllNamed passing_hand board_of_another
 names_another = (row_named passing_hand (Some (break 3 12 (Some Behind))) (Some (sum 2 8 (Some (Board (X 6) 1)))) (Some (quick 1 4 None)) (newest board_of_another).retired None None refl, passing_3_judged.names)
@@ -54,7 +54,7 @@ names_another = (row_named passing_hand (Some (break 3 12 (Some Behind))) (Some 
 pub board_of_another_refused : IsUnlawful board_of_another
 unfolding is_flushed is_written
 board_of_another_refused h =
-    let wait = waits_for_write passing_hand passing_three (newest board_of_another) (sum 2 8 (Some (Board (X 6) 1))) 5 0 names_another refl in
+    let wait = waits_for_write passing_hand passing_three (newest board_of_another) (sum 2 8 (Some (Board (X 6) 1))) (X 5) 0 names_another refl in
     elim ((h.0.holds 1 (sum 2 8 (Some (Board (X 6) 1))) refl).shown_first (Board (X 6) 1) (Board (X 5) 0) refl (inl wait)) [
       | inl x ↦ absurd (omega (arith, x))
       | inr x ↦ elim x.1 [ inl y ↦ absurd (omega (arith, y)) | inr y ↦ let e = y.0 in absurd (omega (arith, e)) ]

@@ -162,7 +162,7 @@ abbrev pub x_meets : Asks → Option ℕ → Bool
 x_meets a None = false
 x_meets a (Some r) = touches a (X r)
 
-x_meets_at : (a : Asks) (o : Option ℕ) (r : ℕ) → touches a (X r) ≡ true → is_register o r ≡ true → x_meets a o ≡ true
+pub x_meets_at : (a : Asks) (o : Option ℕ) (r : ℕ) → touches a (X r) ≡ true → is_register o r ≡ true → x_meets a o ≡ true
 x_meets_at a None r e f = absurd (true_not_false (sym f))
 x_meets_at a (Some n) r e f = ap (λ m. touches a (X m)) (same_number n r f) ∙ e
 

@@ -1,10 +1,12 @@
--- A run whose instruction writes a custom register by `spawn` that an always-block writes too: what the block writes is there from the retirement on, and what the
+-- A run whose first instruction writes a custom register by `spawn` that an always-block writes too: what the block writes is there from the retirement on, and what the
 -- instruction writes comes later, where its condition is true (SCAIE-V, decoupled execution; that the block's write is made at retirement is this project's choice).
-use Rattle.std.specs.Prelude.{◌≡◌, ℕ, zero, suc, ◌*◌, List, [], ◌∷◌, get_or, replicate, Some, None, Bool, true, false, if◌then◌else◌, ◌==◌}
+use Rattle.std.specs.Prelude.{◌≡◌, ℕ, zero, suc, ◌*◌, List, [], ◌∷◌, get_or, replicate, Option, Some, None, Bool, true, false, if◌then◌else◌, ◌==◌}
 use Rattle.std.proofs.Common.{lit<, lit≤}
 use Rattle.ix_bits.specs.declared.number.Bits.{Bits}
+use Rattle.ix_plan.specs.declared.design.Target.TheVariants.{Custom}
 use Rattle.rv_asks.specs.declared.asks.Asks.{Asks}
 use Rattle.rv_lawful.specs.Headline.{IsSpawnWrite}
+use Rattle.rv_lawful.specs.LawfulTrace.{Lawful}
 use Rattle.rv_lawful.specs.Outstanding.{Written, architecture, applied_state}
 use Rattle.rv_lawful.specs.Settings.{Setting}
 use Rattle.rv_seq.specs.Bare.{bare}
@@ -14,14 +16,17 @@ use Rattle.rv_seq.specs.declared.answer.StepAnswer.TheVariants.{Done, Stopped}
 use Rattle.rv_seq.specs.declared.commit.Commit.{Commit}
 use Rattle.rv_seq.specs.declared.commit.Slot.{Slot}
 use Rattle.rv_seq.specs.declared.commit.Slot.TheVariants.{Absent, Now, Later}
-use Rattle.rv_seq.specs.declared.commit.Stop.TheVariants.{Fetch}
+use Rattle.rv_seq.specs.declared.commit.Stop.TheVariants.{Ebreak}
 use Rattle.rv_trace.specs.declared.row.Cell.{Cell}
+use Rattle.rv_trace.specs.declared.row.Hold.{Hold}
+use Rattle.rv_trace.specs.declared.row.Hold.TheVariants.{Board, Drain}
 use Rattle.rv_trace.specs.declared.row.Row.{Row}
 use Rattle.row_laws.specs.Hands.{Hand, by_hand, no_customs, cell}
 use Rattle.row_laws.specs.Holding.{register_0}
 use Rattle.row_laws.specs.Spawning.{full_row}
 
--- what is asked of an instruction that writes custom register 0 by `spawn`, in unit 0 (0000000b); the block writes the register beside each instruction
+-- what is asked of two instructions: the first writes custom register 0 by `spawn`, in unit 0 (0000000b), and the other is ebreak (00100073); the block writes the register
+-- beside each
 abbrev pub sharing_asks : ℕ → Asks
 sharing_asks word =
     record {
@@ -57,19 +62,19 @@ left_by false = of_block
 abbrev pub in_register_0 : Slot Bits → List (Slot Bits)
 in_register_0 slot = slot ∷ replicate 15 Absent
 
--- the record of the instruction, with this for custom register 0
+-- the record of the first instruction, with this for custom register 0
 abbrev pub sharing_record : Slot Bits → Commit
 sharing_record slot = record { at = 0; word = 11; rd_index = 0; rd = Absent; custom = in_register_0 slot; store = None; next = 4 }
 
--- behind it the run stops
+-- behind the first one the run stops
 abbrev pub sharing_answer : Bool → ℕ → StepAnswer
 sharing_answer b zero = Done (sharing_record (Now (left_by b)))
-sharing_answer b (suc p) = Stopped Fetch
+sharing_answer b (suc p) = Stopped Ebreak
 
 abbrev pub sharing_hand : Bool → Hand
 sharing_hand b =
     record {
-      image = 11 ∷ [];
+      image = 11 ∷ 1048691 ∷ [];
       course = record { answer = sharing_answer b; pc = λ p. 4 * p; accesses = λ p. false; blocks = λ p. Some of_block ∷ replicate 15 None; own = λ p. b ∷ replicate 15 false };
       asks = sharing_asks;
       units = (None ∷ []) ∷ [];
@@ -83,34 +88,62 @@ sharing b = by_hand (sharing_hand b)
 abbrev pub sharer : Cell
 sharer = cell 0 0 11 None
 
--- it is fetched
+-- the one that stops the run
+abbrev pub break : Option Hold → Cell
+break hold = cell 1 4 1048691 hold
+
+-- the first one is fetched
 abbrev pub row_0 : Row
 row_0 = full_row (Some sharer) None None None None None
 
 -- it leaves EX
 abbrev pub row_1 : Row
-row_1 = full_row None (Some sharer) None None None None
+row_1 = full_row (Some (break None)) (Some sharer) None None None None
 
--- it retires, and its write is outstanding
+-- it retires, and the other one shows this hold
+abbrev pub shared_row : Hold → Row
+shared_row hold = full_row None (Some (break (Some hold))) (Some sharer) (Some (0, sharing_record Later)) None None
+
+-- the other one waits for its write, since the block writes the register beside it too
 abbrev pub row_2 : Row
-row_2 = full_row None None (Some sharer) (Some (0, sharing_record Later)) None None
+row_2 = shared_row (Board (Custom 0) 0)
 
 -- what the unit writes, by the condition
 abbrev pub sharing_write : Bool → Written
 sharing_write true = (0, 0, Absent, in_register_0 (Now of_instruction))
 sharing_write false = (0, 0, Absent, in_register_0 Absent)
 
--- it is written, and the run stops
+-- it is written
 abbrev pub row_3 : Bool → Row
-row_3 b = full_row None None None None (Some (sharing_write b)) (Some Fetch)
+row_3 b = full_row None (Some (break (Some (Board (Custom 0) 0)))) None None (Some (sharing_write b)) None
 
--- the rows up to the retirement, the newest first
+-- the run stops
+abbrev pub row_4 : Row
+row_4 = full_row None (Some (break None)) None None None (Some Ebreak)
+
+-- the first rows, the newest first
+abbrev pub two_rows : List Row
+two_rows = row_1 ∷ row_0 ∷ []
+
+-- the rows up to the retirement
 abbrev pub sharing_three : List Row
-sharing_three = row_2 ∷ row_1 ∷ row_0 ∷ []
+sharing_three = row_2 ∷ two_rows
+
+-- the rows up to the write
+abbrev pub sharing_four : Bool → List Row
+sharing_four b = row_3 b ∷ sharing_three
 
 -- all rows, the newest first
 abbrev pub sharing_rows : Bool → List Row
-sharing_rows b = row_3 b ∷ sharing_three
+sharing_rows b = row_4 ∷ sharing_four b
+
+-- the rows are not lawful
+abbrev pub IsUnlawful : Bool → List Row → Type 0
+IsUnlawful b rows = Lawful (sharing b) rows → ⊥
+
+-- the one that stops the run shows that it drains, though the register comes first
+abbrev pub drains_first : List Row
+drains_first = shared_row (Drain 0) ∷ two_rows
 
 -- in the architectural state behind these rows the register has this value
 abbrev pub Holds : Bool → List Row → Bits → Type 0

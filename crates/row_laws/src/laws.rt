@@ -114,13 +114,15 @@ pub fn frozen_run()
 {}
 
 /// The same on a run in which an always-block and a `spawn` body write one register, with a true condition of the `spawn` body and with a false one:
-/// what the block writes is there from the retirement on, and the unit writes what the instruction itself does, and not what the block does.
+/// what the block writes is there from the retirement on, the unit writes what the instruction itself does and not what the block does, and an ebreak
+/// waits for it by Board, since the block writes the register beside each instruction.
 pub fn sharing_run()
     ensures rows { (b : Bool) → Lawful (share.sharing b) (share.sharing_rows b) }
+    ensures drains_first { (b : Bool) → share.IsUnlawful b share.drains_first }
     ensures block_first { (b : Bool) → share.Holds b share.sharing_three share.of_block }
     ensures block_lost { (b : Bool) → share.HoldsNot b share.sharing_three zero_bit }
     ensures applied { (b : Bool) → share.HoldsApplied b share.sharing_three (share.left_by b) }
-    ensures instruction_last { (b : Bool) → share.Holds b (share.sharing_rows b) (share.left_by b) }
+    ensures instruction_last { (b : Bool) → share.Holds b (share.sharing_four b) (share.left_by b) }
     ensures writes_own { (b : Bool) → IsSpawnWrite (share.sharing b) share.sharing_three (share.sharing_write b) }
     ensures block_by_unit { (b : Bool) → share.IsNoWrite b share.block_by_unit }
 {}

@@ -1,4 +1,4 @@
-use Rattle.row_laws.proofs.SharingRows.{sharing_lawful, block_first, block_kept, applied_before, instruction_last, writes_own, block_by_unit_refused}
+use Rattle.row_laws.proofs.SharingRows.{sharing_lawful, drains_first_refused, block_first, block_kept, applied_before, instruction_last, writes_own, block_by_unit_refused}
 use Rattle.row_laws.proofs.laws.sharing_run.Goals as goal
 
 pub returns-clause-rows : goal.returns-clause-rows
@@ -21,3 +21,6 @@ returns-clause-block_by_unit c = block_by_unit_refused
 
 pub returns-clause-block_lost : goal.returns-clause-block_lost
 returns-clause-block_lost c = block_kept
+
+pub returns-clause-drains_first : goal.returns-clause-drains_first
+returns-clause-drains_first c = drains_first_refused
