@@ -71,6 +71,7 @@ abbrev pub sharing_answer : Bool → ℕ → StepAnswer
 sharing_answer b zero = Done (sharing_record (Now (left_by b)))
 sharing_answer b (suc p) = Stopped Ebreak
 
+-- the run, by the condition, with its words
 abbrev pub sharing_hand : Bool → Hand
 sharing_hand b =
     record {

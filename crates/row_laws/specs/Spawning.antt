@@ -127,6 +127,7 @@ break serial at hold = cell serial at 1048691 hold
 
 -- Out of order: x5 comes from a unit with three times, x6 from one with one time, and the younger write comes first
 
+-- slow, quick, sum, ebreak
 abbrev pub passing_hand : Hand
 passing_hand = spawning_hand (3146387 ∷ 4195091 ∷ 6456243 ∷ 1048691 ∷ []) (two_units 3 1)
 
@@ -264,6 +265,7 @@ early_spawn = full_row (Some (sum 2 8 None)) (Some (quick 1 4 None)) (Some (slow
 
 -- The port: a unit writes x6 while an instruction that writes x7 stands in the last stage. Behind the image nothing stops the run but the fetch
 
+-- quick, native, brisk
 abbrev pub port_hand : Hand
 port_hand = spawning_hand (4195091 ∷ 5243795 ∷ 6292499 ∷ []) (two_units 3 1)
 
@@ -357,6 +359,7 @@ stop_left_out = port_last None ∷ port_six
 
 -- The frozen unit: the unit with three times and the one with two finish in the same row, and the lower one writes
 
+-- slow, quick, brisk, fence, ebreak
 abbrev pub frozen_hand : Hand
 frozen_hand = spawning_hand (3146387 ∷ 4195091 ∷ 6292499 ∷ 15 ∷ 1048691 ∷ []) (two_units 3 2)
 
