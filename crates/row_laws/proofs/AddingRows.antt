@@ -1,6 +1,6 @@
 -- The rows of the run that adds five and seven are lawful and the run's, and those that differ in one thing are not.
 use Rattle.std.proofs.Common.{◌≡◌, ℕ, zero, suc, ◌<◌, List, [], ◌∷◌, Option, Some, None, true, false, refl, sym, ap, ◌∙◌, subst, arith, inl, inr}
-use Rattle.std.specs.Prelude.{if◌then◌else◌, is_some, get_or}
+use Rattle.std.specs.Prelude.{get_or}
 use Rattle.ix_bits.specs.BaseTable.{base_patterns}
 use Rattle.rv_asks.specs.declared.asks.Asks.{Asks}
 use Rattle.rv_asks.specs.Asks.{asks_with, blank_outline}
@@ -13,7 +13,9 @@ use Rattle.rv_effect.specs.Decoding.{decoded_in}
 use Rattle.rv_effect.specs.WordEffects.{effect_of, over, blocks_effect}
 use Rattle.rv_lawful.specs.Headline.{AgreesWithRun, Agreeing}
 use Rattle.rv_lawful.specs.LawfulTrace.{fetch_address, next_serial, reads_of, IsDueToStop, WaitsForOperand, WaitsToDrain, OwnHold, StopsRun, ShowsHold, Settles, successor, LawfulRow, Lawful}
-use Rattle.rv_lawful.specs.Settings.{Stands, architecture}
+use Rattle.rv_lawful.specs.Settings.{Stands}
+use Rattle.rv_lawful.specs.Outstanding.{is_written, decoupled, architecture}
+use Rattle.rv_tried.specs.Parts.{shown, native}
 use Rattle.rv_seq.specs.Bare.{bare}
 use Rattle.rv_seq.specs.Commits.{commit_of, applied}
 use Rattle.rv_seq.specs.Runs.{run, answer_at}
@@ -27,14 +29,16 @@ use Rattle.rv_seq.specs.declared.commit.Slot.TheVariants.{Absent, Now, Later}
 use Rattle.rv_seq.specs.declared.commit.Stop.{Stop}
 use Rattle.rv_seq.specs.declared.commit.Stop.TheVariants.{Ebreak, Fetch}
 use Rattle.rv_trace.specs.RowParts.{name_of, leaves, ComesFirst}
-use Rattle.rv_trace.specs.Trace.{is_flushed, is_retired, place, retirements, with_retired}
+use Rattle.rv_trace.specs.Trace.{is_flushed, is_retired, place, retirements}
 use Rattle.rv_trace.specs.declared.row.Cell.{Cell}
 use Rattle.rv_trace.specs.declared.row.Hold.{Hold}
 use Rattle.rv_trace.specs.declared.row.Hold.TheVariants.{Operand, Behind}
 use Rattle.rv_trace.specs.declared.row.Row.{Row}
 use Rattle.row_laws.specs.Adding.{adding_image, adding_asks, adding_hand, adding, writes, five, seven, sum, break, row_0, row_1, row_2, row_3, row_4, last_row, row_5, two_rows, five_rows, adding_rows, IsOther, wrong_value, wrong_order, other_stop}
+use Rattle.rv_lawful.specs.Sight.{SpawnsNothing}
 use Rattle.row_laws.specs.Hands.{three, no_customs}
-use Rattle.row_laws.proofs.Stages.{true_not_false, no_register, no_custom, same_cell, AllNamed, named, word_is, Free, free_outside, free_behind, done_below, no_own, goes_before, shows_none, shows_behind, shows_own, operand_first, shows_last, settles_at_ex, no_turn, none_settles, no_stop, some_left, none_retires, one_retires}
+use Rattle.row_laws.proofs.Agreement.{agrees}
+use Rattle.row_laws.proofs.Stages.{SpawnsNone, left_unretired, none_written, true_not_false, no_register, no_custom, same_cell, AllNamed, named, word_is, Free, free_outside, free_behind, done_below, no_own, goes_before, shows_none, shows_behind, shows_own, operand_first, shows_last, settles_at_ex, no_turn, none_settles, no_stop, some_left, none_retires, one_retires}
 
 -- The run
 
@@ -56,85 +60,43 @@ answer_3 = refl
 
 -- What the rows retire is the run's
 
--- the state behind the rows is the run's
-abbrev IsRun : List Row → Type 0
-IsRun rows = architecture bare rows ≡ run bare adding_image (retirements rows)
-
--- a row that retires nothing
-still_run : (earlier : List Row) (row : Row) → row.retired ≡ None → IsRun earlier → IsRun (row ∷ earlier)
-unfolding architecture retirements
-still_run earlier row e h =
-    ap (λ o. with_retired o (architecture bare earlier)) e ∙ h ∙ ap (λ o. run bare adding_image (if is_some o then suc (retirements earlier) else retirements earlier)) (sym e)
-
-none_agrees : (earlier : List Row) (row : Row) → row.retired ≡ None → row.stop ≡ None → IsRun earlier → AgreesWithRun bare adding_image earlier row
-none_agrees earlier row e f h = record {
-  placed = λ s c q. cc (e, q);
-  recorded = λ s c q. cc (e, q);
-  state = still_run earlier row e h;
-  stop = λ stop q. cc (f, q);
-}
-
--- a row that retires the next record
-next_run : (earlier : List Row) (row : Row) (s : ℕ) (c : Commit) → row.retired ≡ Some (s, c) → answer_at bare adding_image (retirements earlier) ≡ Done c → IsRun earlier → IsRun (row ∷ earlier)
-unfolding architecture retirements run
-next_run earlier row s c e a h =
-    ap (λ o. with_retired o (architecture bare earlier)) e
-    ∙ ap (applied c) h
-    ∙ ap (after (run bare adding_image (retirements earlier))) (sym a)
-    ∙ ap (λ o. run bare adding_image (if is_some o then suc (retirements earlier) else retirements earlier)) (sym e)
-
-same_serial : (s t : ℕ) (c d : Commit) → ◌≡◌ {A = Option (ℕ × Commit)} (Some (s, c)) (Some (t, d)) → (s ≡ t) × (c ≡ d)
-same_serial s t c d e = let pair : ◌≡◌ {A = ℕ × Commit} (s, c) (t, d) = cc in (ap (λ (p : ℕ × Commit). p.0) pair, ap (λ (p : ℕ × Commit). p.1) pair)
-
-one_agrees : (earlier : List Row) (row : Row) (s : ℕ) (c : Commit) → row.retired ≡ Some (s, c) → place (row ∷ earlier) s ≡ retirements earlier → answer_at bare adding_image (retirements earlier) ≡ Done c → IsRun earlier
-    → ((stop : Stop) → row.stop ≡ Some stop → answer_at bare adding_image (retirements (row ∷ earlier)) ≡ Stopped stop) → AgreesWithRun bare adding_image earlier row
-one_agrees earlier row s c e p a h f = record {
-  placed = λ t d q. ap (place (row ∷ earlier)) (sym (same_serial s t c d (sym e ∙ q)).0) ∙ p;
-  recorded = λ t d q. a ∙ ap Done (same_serial s t c d (sym e ∙ q)).1;
-  state = next_run earlier row s c e a h;
-  stop = f;
-}
-
 abbrev three_rows : List Row
 three_rows = row_2 ∷ two_rows
 
 abbrev four_rows : List Row
 four_rows = row_3 ∷ three_rows
 
-run_2 : IsRun two_rows
-unfolding architecture retirements run
-run_2 = still_run (row_0 ∷ []) row_1 refl (still_run [] row_0 refl refl)
-
-run_3 : IsRun three_rows
-unfolding retirements
-run_3 = next_run two_rows row_2 0 (writes 0 5243027 1 5) refl answer_0 run_2
-
-run_4 : IsRun four_rows
-unfolding retirements
-run_4 = next_run three_rows row_3 1 (writes 4 7340307 2 7) refl answer_1 run_3
-
-run_5 : IsRun five_rows
-run_5 = still_run four_rows row_4 refl run_4
-
 -- the stop of the last row, whichever it shows
 last_answer : (stop : Option Stop) → answer_at bare adding_image (retirements (last_row stop ∷ five_rows)) ≡ Stopped Ebreak
 unfolding retirements
 last_answer stop = answer_3
 
-pub adding_agrees : Agreeing bare adding_image adding_rows
-unfolding retirements place is_flushed architecture run
-adding_agrees = (
-  one_agrees five_rows row_5 2 (writes 8 2130355 3 12) refl refl answer_2 run_5 (λ stop e. last_answer (Some Ebreak) ∙ ap Stopped (the stop e)),
-  (
-    none_agrees four_rows row_4 refl refl run_4,
-    (
-      one_agrees three_rows row_3 1 (writes 4 7340307 2 7) refl refl answer_1 run_3 (λ stop e. cc),
-      (one_agrees two_rows row_2 0 (writes 0 5243027 1 5) refl refl answer_0 run_2 (λ stop e. cc), (none_agrees (row_0 ∷ []) row_1 refl refl (still_run [] row_0 refl refl), (none_agrees [] row_0 refl refl refl, tt))),
-    ),
-  ),
-) where
-  the : (stop : Stop) → ◌≡◌ {A = Option Stop} (Some Ebreak) (Some stop) → Ebreak ≡ stop
-  the stop e = cc
+agrees_0 : AgreesWithRun bare adding [] row_0
+unfolding architecture decoupled is_written retirements is_flushed is_retired place shown native step run decoded_in attempted effect_of over blocks_effect commit_of first applied decoded base_row base_patterns fields_of format_of base_formats
+agrees_0 = agrees adding [] row_0 tt tt tt refl
+
+agrees_1 : AgreesWithRun bare adding (row_0 ∷ []) row_1
+unfolding architecture decoupled is_written retirements is_flushed is_retired place shown native step run decoded_in attempted effect_of over blocks_effect commit_of first applied decoded base_row base_patterns fields_of format_of base_formats
+agrees_1 = agrees adding (row_0 ∷ []) row_1 tt tt tt refl
+
+agrees_2 : AgreesWithRun bare adding two_rows row_2
+unfolding architecture decoupled is_written retirements is_flushed is_retired place shown native step run decoded_in attempted effect_of over blocks_effect commit_of first applied decoded base_row base_patterns fields_of format_of base_formats
+agrees_2 = agrees adding two_rows row_2 (refl, (writes 0 5243027 1 5, answer_0, refl)) tt tt refl
+
+agrees_3 : AgreesWithRun bare adding three_rows row_3
+unfolding architecture decoupled is_written retirements is_flushed is_retired place shown native step run decoded_in attempted effect_of over blocks_effect commit_of first applied decoded base_row base_patterns fields_of format_of base_formats
+agrees_3 = agrees adding three_rows row_3 (refl, (writes 4 7340307 2 7, answer_1, refl)) tt tt refl
+
+agrees_4 : AgreesWithRun bare adding four_rows row_4
+unfolding architecture decoupled is_written retirements is_flushed is_retired place shown native step run decoded_in attempted effect_of over blocks_effect commit_of first applied decoded base_row base_patterns fields_of format_of base_formats
+agrees_4 = agrees adding four_rows row_4 tt tt tt refl
+
+agrees_5 : AgreesWithRun bare adding five_rows row_5
+unfolding architecture decoupled is_written retirements is_flushed is_retired place shown native step run decoded_in attempted effect_of over blocks_effect commit_of first applied decoded base_row base_patterns fields_of format_of base_formats
+agrees_5 = agrees adding five_rows row_5 (refl, (writes 8 2130355 3 12, answer_2, refl)) tt (last_answer (Some Ebreak), refl) refl
+
+pub adding_agrees : Agreeing bare adding adding_rows
+adding_agrees = (agrees_5, (agrees_4, (agrees_3, (agrees_2, (agrees_1, (agrees_0, tt))))))
 
 -- what is written to the x register
 abbrev written : Slot ℕ → ℕ
@@ -142,13 +104,18 @@ written Absent = 0
 written (Now v) = v
 written Later = 0
 
-abbrev value_in : StepAnswer → ℕ
-value_in (Stopped stop) = 0
-value_in (Done c) = written c.rd
+done_same : (a : StepAnswer) (c d : Commit) → a ≡ Done c → a ≡ Done d → c ≡ d
+done_same a c d e f = the (sym e ∙ f) where
+  the : ◌≡◌ {A = StepAnswer} (Done c) (Done d) → c ≡ d
+  the q = cc
 
 pub wrong_value_refused : IsOther wrong_value
-unfolding retirements
-wrong_value_refused h = let e : ◌≡◌ {A = ℕ} 5 6 = ap value_in (sym answer_0 ∙ h.0.recorded 0 (writes 0 5243027 1 6) refl) in absurd (omega (arith, e))
+unfolding architecture decoupled is_written retirements is_flushed is_retired place shown native step run decoded_in attempted effect_of over blocks_effect commit_of first applied decoded base_row base_patterns fields_of format_of base_formats
+wrong_value_refused h =
+    let r = h.0.recorded 0 (writes 0 5243027 1 6) refl in
+    let same = done_same (answer_at bare adding_image 0) (writes 0 5243027 1 5) r.0 answer_0 r.1 in
+    let e : ◌≡◌ {A = ℕ} 6 5 = ap (λ (c : Commit). written c.rd) r.2 ∙ ap (λ (c : Commit). written (shown (adding_asks c.word) c).rd) (sym same) in
+    absurd (omega (arith, e))
 
 pub wrong_order_refused : IsOther wrong_order
 unfolding retirements place is_flushed
@@ -174,10 +141,18 @@ IsPlain a = (a.late ≡ false) × (a.tail ≡ 0) × (a.customs ≡ no_customs)
 
 plain : (word : ℕ) → IsPlain (adding_asks word)
 plain word = by_instruction (decoded_in bare word) where
-  by_instruction : (o : Option Decoded) → IsPlain (asks_with [] (blank_outline three []) word o)
+  by_instruction : (o : Option Decoded) → IsPlain (asks_with three [] (λ n. None) (blank_outline three []) word o)
   by_instruction None = (refl, refl, refl)
   by_instruction (Some (D.Base b)) = (refl, refl, refl)
   by_instruction (Some (D.Own n)) = (refl, refl, refl)
+
+-- nor does one spawn
+none_spawned : SpawnsNone adding_hand
+none_spawned word = by_instruction (decoded_in bare word) where
+  by_instruction : (o : Option Decoded) → SpawnsNothing (asks_with three [] (λ n. None) (blank_outline three []) word o)
+  by_instruction None = record { x = refl; customs = λ r. no_custom r; unit = refl }
+  by_instruction (Some (D.Base b)) = record { x = refl; customs = λ r. no_custom r; unit = refl }
+  by_instruction (Some (D.Own n)) = record { x = refl; customs = λ r. no_custom r; unit = refl }
 
 -- these load nothing, and all but the sum read nothing
 abbrev IsQuiet : ℕ → Type 0
@@ -231,10 +206,10 @@ free_plain earlier row c operand drain = record {
 }
 
 free_front : (earlier : List Row) (row : Row) (c : Cell) → (adding_asks c.word).loads ≡ false → (g : Hold) → OwnHold adding earlier row 0 c g → ⊥
-free_front earlier row c loads g o = no_own adding_hand earlier row 0 c (free_outside adding_hand earlier row 0 c at_front) loads (done_below adding_hand earlier row 0 c (omega arith)) g o
+free_front earlier row c loads g o = no_own adding_hand none_spawned earlier row 0 c (free_outside adding_hand earlier row 0 c at_front) loads (done_below adding_hand earlier row 0 c (omega arith)) g o
 
 free_ex : (earlier : List Row) (row : Row) (c : Cell) → Free adding_hand earlier row 1 c → (adding_asks c.word).loads ≡ false → (g : Hold) → OwnHold adding earlier row 1 c g → ⊥
-free_ex earlier row c free loads g o = no_own adding_hand earlier row 1 c free loads (done_below adding_hand earlier row 1 c (omega arith)) g o
+free_ex earlier row c free loads g o = no_own adding_hand none_spawned earlier row 1 c free loads (done_below adding_hand earlier row 1 c (omega arith)) g o
 
 -- a quiet cell of EX whose step does not stop
 free_quiet : (earlier : List Row) (row : Row) (c : Cell) → IsQuiet c.word → ((stop : Stop) → IsDueToStop adding (row ∷ earlier) c stop → ⊥) → (g : Hold) → OwnHold adding earlier row 1 c g → ⊥
@@ -242,7 +217,7 @@ free_quiet earlier row c q runs g o = free_ex earlier row c (free_plain earlier 
 
 -- a cell of the last stage that goes
 shows_out : (earlier : List Row) (row : Row) (c : Cell) → c.hold ≡ None → (adding_asks c.word).loads ≡ false → ShowsHold adding earlier row 2 c
-shows_out earlier row c e loads = let none = (plain c.word).1 in shows_last adding_hand earlier row c e loads (omega (arith, none))
+shows_out earlier row c e loads = let none = (plain c.word).1 in shows_last adding_hand none_spawned earlier row c e loads (omega (arith, none))
 
 -- The first row
 
@@ -254,7 +229,7 @@ lawful_0 = record {
   retires = none_retires adding_hand row_0 refl (λ c s l. cc);
   holds = shows;
   successors = none_settles adding_hand [] row_0 refl refl (λ stage c stands s. no_second c (subst (λ n. Stands adding row_0 n c) (at_ex [] row_0 stage c s) stands));
-  units = refl;
+  units = none_written adding_hand [] row_0 refl refl;
   untaken = refl;
   stops = no_stop adding_hand [] row_0 refl (λ c stop stands s. no_second c stands) (some_left adding_hand row_0 0 five (omega arith) refl refl);
 } where
@@ -287,7 +262,7 @@ lawful_1 = record {
   holds = shows;
   successors = no_turn adding_hand (row_0 ∷ []) row_1 refl refl (λ stage c stands s.
       (at_ex (row_0 ∷ []) row_1 stage c s, (seven, refl, goes_on c (subst (λ n. Stands adding row_1 n c) (at_ex (row_0 ∷ []) row_1 stage c s) stands))));
-  units = refl;
+  units = none_written adding_hand (row_0 ∷ []) row_1 refl refl;
   untaken = refl;
   stops = no_stop adding_hand (row_0 ∷ []) row_1 refl (λ c stop stands s. same_cell (λ d. StopsRun adding (row_0 ∷ []) row_1 1 d stop → ⊥) five c stands (λ r. runs_0 stop r.due) s)
       (some_left adding_hand row_1 0 seven (omega arith) refl refl);
@@ -326,7 +301,7 @@ lawful_2 = record {
   holds = shows;
   successors = no_turn adding_hand two_rows row_2 refl refl (λ stage c stands s.
       (at_ex two_rows row_2 stage c s, (sum None, refl, goes_on c (subst (λ n. Stands adding row_2 n c) (at_ex two_rows row_2 stage c s) stands))));
-  units = refl;
+  units = none_written adding_hand two_rows row_2 refl refl;
   untaken = refl;
   stops = no_stop adding_hand two_rows row_2 refl (λ c stop stands s. same_cell (λ d. StopsRun adding two_rows row_2 1 d stop → ⊥) seven c stands (λ r. runs_1 stop r.due) s)
       (some_left adding_hand row_2 0 (sum None) (omega arith) refl refl);
@@ -393,7 +368,7 @@ lawful_3 = record {
   retires = one_retires adding_hand row_3 seven (writes 4 7340307 2 7) refl refl refl;
   holds = shows;
   successors = none_settles adding_hand three_rows row_3 refl refl settles;
-  units = refl;
+  units = none_written adding_hand three_rows row_3 refl refl;
   untaken = refl;
   stops = no_stop adding_hand three_rows row_3 refl (λ c stop stands s. same_cell (λ d. StopsRun adding three_rows row_3 1 d stop → ⊥) (sum (Some (Operand 2 1))) c stands (λ r. r.free (Operand 2 1) sum_waits) s)
       (some_left adding_hand row_3 0 (break (Some Behind)) (omega arith) refl refl);
@@ -408,7 +383,7 @@ lawful_3 = record {
       (shows_behind adding_hand three_rows row_3 0 (break (Some Behind)) refl refl at_front (sum (Some (Operand 2 1)), refl, inl refl) (free_front three_rows row_3 (break (Some Behind)) break_quiet.0))
   shows (suc zero) c s =
       same_cell (λ d. ShowsHold adding three_rows row_3 1 d) (sum (Some (Operand 2 1))) c s
-      (shows_own adding_hand three_rows row_3 1 (sum (Some (Operand 2 1))) (Operand 2 1) refl refl sum_waits (operand_first adding_hand three_rows row_3 1 (sum (Some (Operand 2 1))) 2 1 sum_first) (inl (omega arith)))
+      (shows_own adding_hand three_rows row_3 1 (sum (Some (Operand 2 1))) (Operand 2 1) refl refl sum_waits (operand_first adding_hand none_spawned three_rows row_3 1 (sum (Some (Operand 2 1))) 2 1 sum_first) (inl (omega arith)))
   shows (suc (suc zero)) c s = same_cell (λ d. ShowsHold adding three_rows row_3 2 d) seven c s (shows_out three_rows row_3 seven refl seven_quiet.0)
   shows (suc (suc (suc n))) c s = cc
 
@@ -433,7 +408,7 @@ lawful_4 = record {
   holds = shows;
   successors = no_turn adding_hand four_rows row_4 refl refl (λ stage c stands s.
       (at_ex four_rows row_4 stage c s, (break None, refl, goes_on c (subst (λ n. Stands adding row_4 n c) (at_ex four_rows row_4 stage c s) stands))));
-  units = refl;
+  units = none_written adding_hand four_rows row_4 refl refl;
   untaken = refl;
   stops = no_stop adding_hand four_rows row_4 refl (λ c stop stands s. same_cell (λ d. StopsRun adding four_rows row_4 1 d stop → ⊥) (sum None) c stands (λ r. runs_2 stop r.due) s)
       (some_left adding_hand row_4 0 (break None) (omega arith) refl refl);
@@ -451,7 +426,7 @@ lawful_4 = record {
   shows (suc zero) c s =
       same_cell (λ d. ShowsHold adding four_rows row_4 1 d) (sum None) c s
       (shows_none adding_hand four_rows row_4 1 (sum None) refl (λ alive runs g t. elim t [
-        | inl o ↦ free_ex four_rows row_4 (sum None) (free_behind adding_hand four_rows row_4 1 (sum None) (λ j lt _. retired_1 j lt)) sum_loads g o
+        | inl o ↦ free_ex four_rows row_4 (sum None) (free_behind adding_hand none_spawned four_rows row_4 1 (sum None) (λ j lt _. retired_1 j lt)) sum_loads g o
         | inr b ↦ cc (b.1.1)
       ]))
   shows (suc (suc zero)) c s = cc
@@ -477,7 +452,7 @@ break_stops : StopsRun adding five_rows row_5 1 (break None) Ebreak
 break_stops = record {
   executing = refl;
   due = break_due;
-  free = free_ex five_rows row_5 (break None) (free_plain five_rows row_5 (break None) (λ r j w. true_not_false (sym w.reads ∙ no_register (adding_asks 1048691) r break_quiet.1 break_quiet.2)) (λ j w. true_not_false (sym (all_retired j w.older.lower) ∙ w.unretired))) break_quiet.0;
+  free = free_ex five_rows row_5 (break None) (free_plain five_rows row_5 (break None) (λ r j w. true_not_false (sym w.reads ∙ no_register (adding_asks 1048691) r break_quiet.1 break_quiet.2)) (λ j w. true_not_false (sym (all_retired j w.older.lower) ∙ left_unretired adding_hand none_spawned (row_5 ∷ five_rows) j w.left))) break_quiet.0;
 }
 
 one_stop : (stop : Stop) → ◌≡◌ {A = StepAnswer} (Stopped Ebreak) (Stopped stop) → Ebreak ≡ stop
@@ -491,12 +466,12 @@ lawful_5 = record {
   retires = one_retires adding_hand row_5 (sum None) (writes 8 2130355 3 12) refl refl refl;
   holds = shows;
   successors = none_settles adding_hand five_rows row_5 refl refl settles;
-  units = refl;
+  units = none_written adding_hand five_rows row_5 refl refl;
   untaken = refl;
   stops = record {
     cause = λ stop e. inl (1, break None, refl, subst (λ x. StopsRun adding five_rows row_5 1 (break None) x) (the stop e) break_stops);
     of_cell = λ stage c stop stands s. of_cell c stop (subst (λ n. Stands adding row_5 n c) s.executing stands) s.due;
-    of_fetch = λ f w. absurd (some_left adding_hand row_5 1 (break None) (omega arith) refl refl f);
+    of_fetch = λ f o w. absurd (some_left adding_hand row_5 1 (break None) (omega arith) refl refl f);
   };
 } where
   the : (stop : Stop) → ◌≡◌ {A = Option Stop} (Some Ebreak) (Some stop) → Ebreak ≡ stop

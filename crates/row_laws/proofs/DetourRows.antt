@@ -14,7 +14,7 @@ use Rattle.rv_trace.specs.declared.row.Hold.{Hold}
 use Rattle.rv_trace.specs.declared.row.Row.{Row}
 use Rattle.row_laws.specs.Detour.{detour_hand, detour, leaping, passed, target, row_0, turn_row, row_1, row_2, last_row, row_3, two_rows, three_rows, detour_rows, IsUnlawful, unflushed, no_redirect, missing_stop}
 use Rattle.row_laws.specs.Hands.{going, none_flushed}
-use Rattle.row_laws.proofs.Stages.{true_not_false, same_cell, free_outside, free_behind, done_below, no_own, shows_none, shows_last, none_settles, no_stop, some_left, none_retires, one_retires}
+use Rattle.row_laws.proofs.Stages.{SpawnsNone, none_written, true_not_false, no_custom, same_cell, free_outside, free_behind, done_below, no_own, shows_none, shows_last, none_settles, no_stop, some_left, none_retires, one_retires}
 
 at_front : ◌≡◌ {A = ℕ} 0 1 → ⊥
 at_front e = absurd (omega (arith, e))
@@ -22,11 +22,14 @@ at_front e = absurd (omega (arith, e))
 at_end : ◌≡◌ {A = ℕ} 2 1 → ⊥
 at_end e = absurd (omega (arith, e))
 
+none_spawned : SpawnsNone detour_hand
+none_spawned word = record { x = refl; customs = λ r. no_custom r; unit = refl }
+
 free_front : (earlier : List Row) (row : Row) (c : Cell) (g : Hold) → OwnHold detour earlier row 0 c g → ⊥
-free_front earlier row c g o = no_own detour_hand earlier row 0 c (free_outside detour_hand earlier row 0 c at_front) refl (done_below detour_hand earlier row 0 c (omega arith)) g o
+free_front earlier row c g o = no_own detour_hand none_spawned earlier row 0 c (free_outside detour_hand earlier row 0 c at_front) refl (done_below detour_hand earlier row 0 c (omega arith)) g o
 
 free_ex : (earlier : List Row) (row : Row) (c : Cell) → ((j : ℕ) → j < c.serial → is_flushed (row ∷ earlier) j ≡ false → is_retired earlier j ≡ true) → (g : Hold) → OwnHold detour earlier row 1 c g → ⊥
-free_ex earlier row c done g o = no_own detour_hand earlier row 1 c (free_behind detour_hand earlier row 1 c done) refl (done_below detour_hand earlier row 1 c (omega arith)) g o
+free_ex earlier row c done g o = no_own detour_hand none_spawned earlier row 1 c (free_behind detour_hand none_spawned earlier row 1 c done) refl (done_below detour_hand earlier row 1 c (omega arith)) g o
 
 leaping_runs : (rows : List Row) (stop : Stop) → IsDueToStop detour rows leaping stop → ⊥
 unfolding place
@@ -42,7 +45,7 @@ lawful_0 = record {
   retires = none_retires detour_hand row_0 refl (λ c s l. cc);
   holds = shows;
   successors = none_settles detour_hand [] row_0 refl refl (λ stage c stands s. no_second c (subst (λ n. Stands detour row_0 n c) s.settling stands));
-  units = refl;
+  units = none_written detour_hand [] row_0 refl refl;
   untaken = refl;
   stops = no_stop detour_hand [] row_0 refl (λ c stop stands s. no_second c stands) (some_left detour_hand row_0 0 leaping (omega arith) refl refl);
 } where
@@ -92,7 +95,7 @@ lawful_1 = record {
     flushed_only = λ s h. (1, leaping, 0, passed, right_mismatch, omega arith, refl, one s h);
     named_only = λ a e. (1, leaping, refl, right_mismatch.settles, goes_on two_rows ∙ eight a e, inl right_mismatch);
   };
-  units = refl;
+  units = none_written detour_hand (row_0 ∷ []) row_1 refl refl;
   untaken = refl;
   stops = no_stop detour_hand (row_0 ∷ []) row_1 refl (λ c stop stands s. same_cell (λ d. StopsRun detour (row_0 ∷ []) row_1 1 d stop → ⊥) leaping c stands (λ r. leaping_runs two_rows stop r.due) s)
       (some_left detour_hand row_1 1 leaping (omega arith) refl refl);
@@ -134,7 +137,7 @@ lawful_2 = record {
   retires = one_retires detour_hand row_2 leaping (going 0 19 8) refl refl refl;
   holds = shows;
   successors = none_settles detour_hand two_rows row_2 refl refl (λ stage c stands s. no_second c (subst (λ n. Stands detour row_2 n c) s.settling stands));
-  units = refl;
+  units = none_written detour_hand two_rows row_2 refl refl;
   untaken = refl;
   stops = no_stop detour_hand two_rows row_2 refl (λ c stop stands s. no_second c stands) (some_left detour_hand row_2 0 target (omega arith) refl refl);
 } where
@@ -149,7 +152,7 @@ lawful_2 = record {
         | inr b ↦ no_second b.1.0 b.1.1
       ]))
   shows (suc zero) c s = cc
-  shows (suc (suc zero)) c s = same_cell (λ d. ShowsHold detour two_rows row_2 2 d) leaping c s (shows_last detour_hand two_rows row_2 leaping refl refl (omega arith))
+  shows (suc (suc zero)) c s = same_cell (λ d. ShowsHold detour two_rows row_2 2 d) leaping c s (shows_last detour_hand none_spawned two_rows row_2 leaping refl refl (omega arith))
   shows (suc (suc (suc n))) c s = cc
 
 -- The last row, with any stop
@@ -186,12 +189,12 @@ lawful_3 = record {
   retires = none_retires detour_hand row_3 refl (λ c s l. cc);
   holds = shows;
   successors = none_settles detour_hand three_rows row_3 refl refl settles;
-  units = refl;
+  units = none_written detour_hand three_rows row_3 refl refl;
   untaken = refl;
   stops = record {
     cause = λ stop e. inl (1, target, refl, subst (λ x. StopsRun detour three_rows row_3 1 target x) (the stop e) (target_stops (Some Ebreak)));
     of_cell = λ stage c stop stands s. of_cell c stop (subst (λ n. Stands detour row_3 n c) s.executing stands) s.due;
-    of_fetch = λ f w. absurd (some_left detour_hand row_3 1 target (omega arith) refl refl f);
+    of_fetch = λ f o w. absurd (some_left detour_hand row_3 1 target (omega arith) refl refl f);
   };
 } where
   the : (stop : Stop) → ◌≡◌ {A = Option Stop} (Some Ebreak) (Some stop) → Ebreak ≡ stop

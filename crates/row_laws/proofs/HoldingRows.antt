@@ -15,9 +15,10 @@ use Rattle.rv_trace.specs.Trace.{has_serial, is_flushed, is_retired, place, newe
 use Rattle.rv_trace.specs.RowParts.{Name, name_of, leaves, ComesFirst}
 use Rattle.rv_lawful.specs.Settings.{Stands, tailed}
 use Rattle.rv_lawful.specs.LawfulTrace.{Moves, fetch_address, next_serial, reads_of, IsWordOf, IsDueToStop, WaitsForOperand, WaitsForCustom, OwnHold, StopsRun, ShowsHold, Settles, successor, LawfulRow, Lawful}
+use Rattle.rv_lawful.specs.Sight.{SpawnsNothing}
 use Rattle.row_laws.specs.Hands.{quiet, going}
 use Rattle.row_laws.specs.Holding.{writing, holding_hand, holding, holding_asks, reading, writer, reader, sum, break, row_0, row_1, held_row, row_2, row_3, row_4, row_5, row_6, row_7, last_row, row_8, two_rows, five_rows, eight_rows, holding_rows, IsUnlawful, untrue_hold, later_hold, tail_one_more, tail_one_less, tail_left_out, custom_left_out, skipped_word, wrong_stop, missing_stop, untrue_trap, taken_unasked}
-use Rattle.row_laws.proofs.Stages.{true_not_false, no_register, no_custom, same_cell, Free, free_outside, free_behind, done_below, no_own, goes_before, shows_none, shows_behind, shows_own, custom_first, operand_first, shows_tail, shows_last, settles_at_ex, no_turn, none_settles, no_stop, some_left, none_retires, one_retires}
+use Rattle.row_laws.proofs.Stages.{SpawnsNone, left_unretired, none_written, true_not_false, no_register, no_custom, same_cell, Free, free_outside, free_behind, done_below, no_own, goes_before, shows_none, shows_behind, shows_own, custom_first, operand_first, shows_tail, shows_last, settles_at_ex, no_turn, none_settles, no_stop, some_left, none_retires, one_retires}
 
 at_front : ◌≡◌ {A = ℕ} 0 1 → ⊥
 at_front e = absurd (omega (arith, e))
@@ -39,6 +40,18 @@ in_time word = by_tests (word == 11) (word == 299) (word == 65579) where
   by_tests false false true = (refl, refl)
   by_tests false false false = (refl, refl)
 
+-- nor does one spawn
+none_spawned : SpawnsNone holding_hand
+none_spawned word = by_tests (word == 11) (word == 299) (word == 65579) where
+  asked : Bool → Bool → Bool → Asks
+  asked a b c = if a then holding_asks 11 else if b then holding_asks 299 else if c then holding_asks 65579 else quiet
+
+  by_tests : (a b c : Bool) → SpawnsNothing (asked a b c)
+  by_tests true b c = record { x = refl; customs = λ r. no_custom r; unit = refl }
+  by_tests false true c = record { x = refl; customs = λ r. no_custom r; unit = refl }
+  by_tests false false true = record { x = refl; customs = λ r. no_custom r; unit = refl }
+  by_tests false false false = record { x = refl; customs = λ r. no_custom r; unit = refl }
+
 at_ex : (earlier : List Row) (row : Row) (stage : ℕ) (c : Cell) → Settles holding earlier row stage c → stage ≡ 1
 at_ex earlier row stage c s = settles_at_ex holding_hand earlier row stage c (in_time c.word).0 s
 
@@ -49,10 +62,10 @@ sum_reads r e = grind (arith, nat_tests)
 -- What holds in each row of cells in front, where nothing of their own holds them
 
 free_front : (earlier : List Row) (row : Row) (c : Cell) (g : Hold) → OwnHold holding earlier row 0 c g → ⊥
-free_front earlier row c g o = no_own holding_hand earlier row 0 c (free_outside holding_hand earlier row 0 c at_front) (in_time c.word).1 (done_below holding_hand earlier row 0 c (omega arith)) g o
+free_front earlier row c g o = no_own holding_hand none_spawned earlier row 0 c (free_outside holding_hand earlier row 0 c at_front) (in_time c.word).1 (done_below holding_hand earlier row 0 c (omega arith)) g o
 
 free_ex : (earlier : List Row) (row : Row) (c : Cell) → ((j : ℕ) → j < c.serial → is_retired earlier j ≡ true) → (g : Hold) → OwnHold holding earlier row 1 c g → ⊥
-free_ex earlier row c done g o = no_own holding_hand earlier row 1 c (free_behind holding_hand earlier row 1 c (λ j lt _. done j lt)) (in_time c.word).1 (done_below holding_hand earlier row 1 c (omega arith)) g o
+free_ex earlier row c done g o = no_own holding_hand none_spawned earlier row 1 c (free_behind holding_hand none_spawned earlier row 1 c (λ j lt _. done j lt)) (in_time c.word).1 (done_below holding_hand earlier row 1 c (omega arith)) g o
 
 -- the steps of the first three places do not stop
 writer_runs : (rows : List Row) (stop : Stop) → IsDueToStop holding rows (writer None) stop → ⊥
@@ -69,7 +82,7 @@ lawful_0 = record {
   retires = none_retires holding_hand row_0 refl (λ c s l. cc);
   holds = shows;
   successors = none_settles holding_hand [] row_0 refl refl (λ stage c stands s. no_second c (subst (λ n. Stands holding row_0 n c) (at_ex [] row_0 stage c s) stands));
-  units = refl;
+  units = none_written holding_hand [] row_0 refl refl;
   untaken = refl;
   stops = no_stop holding_hand [] row_0 refl (λ c stop stands s. no_second c stands) (some_left holding_hand row_0 0 (writer None) (omega arith) refl refl);
 } where
@@ -98,7 +111,7 @@ lawful_1 = record {
   holds = shows;
   successors = no_turn holding_hand (row_0 ∷ []) row_1 refl refl (λ stage c stands s.
       (at_ex (row_0 ∷ []) row_1 stage c s, (reader None, refl, goes_on c (subst (λ n. Stands holding row_1 n c) (at_ex (row_0 ∷ []) row_1 stage c s) stands))));
-  units = refl;
+  units = none_written holding_hand (row_0 ∷ []) row_1 refl refl;
   untaken = refl;
   stops = no_stop holding_hand (row_0 ∷ []) row_1 refl (λ c stop stands s. stops c stop stands s) (some_left holding_hand row_1 0 (reader None) (omega arith) refl refl);
 } where
@@ -132,7 +145,7 @@ reader_waits earlier row hold f r w = record { executing = refl; uses = refl; ol
 reader_shows : (earlier : List Row) (row : Row) → has_serial row.flushed 1 ≡ false → WaitsForCustom holding earlier row 1 (reader (Some (Custom 0 0))) 0 0 → ShowsHold holding earlier row 1 (reader (Some (Custom 0 0)))
 reader_shows earlier row alive w =
     shows_own holding_hand earlier row 1 (reader (Some (Custom 0 0))) (Custom 0 0) refl alive w
-    (custom_first holding_hand earlier row 1 (reader (Some (Custom 0 0))) (λ r j o. true_not_false (sym o.reads ∙ no_register (holding_asks 299) r refl refl)))
+    (custom_first holding_hand none_spawned earlier row 1 (reader (Some (Custom 0 0))) (λ r j o. true_not_false (sym o.reads ∙ no_register (holding_asks 299) r refl refl)))
     (inl (omega arith))
 
 behind_shows : (earlier : List Row) (row : Row) (x d : Cell) → x.hold ≡ Some Behind → has_serial row.flushed x.serial ≡ false → Stands holding row 1 d → is_some d.hold ≡ true → ShowsHold holding earlier row 0 x
@@ -158,7 +171,7 @@ held_lawful earlier left moves unflushed unretired still some = record {
   retires = none_retires holding_hand row refl (λ c s l. same_cell (λ d. leaves row (Some d) ≡ name_of (Some d) → ⊥) (writer (Some (Tail left))) c s (λ q. cc) l);
   holds = shows;
   successors = none_settles holding_hand earlier row refl refl (held_settles earlier row (reader (Some (Custom 0 0))) refl refl);
-  units = refl;
+  units = none_written holding_hand earlier row refl refl;
   untaken = refl;
   stops = no_stop holding_hand earlier row refl (held_stops earlier row (reader (Some (Custom 0 0))) (Custom 0 0) refl waits) (some_left holding_hand row 0 (sum (Some Behind)) (omega arith) refl refl);
 } where
@@ -171,7 +184,7 @@ held_lawful earlier left moves unflushed unretired still some = record {
   shows : (stage : ℕ) (c : Cell) → Stands holding row stage c → ShowsHold holding earlier row stage c
   shows zero c s = same_cell (λ d. ShowsHold holding earlier row 0 d) (sum (Some Behind)) c s (behind_shows earlier row (sum (Some Behind)) (reader (Some (Custom 0 0))) refl refl refl refl)
   shows (suc zero) c s = same_cell (λ d. ShowsHold holding earlier row 1 d) (reader (Some (Custom 0 0))) c s (reader_shows earlier row refl waits)
-  shows (suc (suc zero)) c s = same_cell (λ d. ShowsHold holding earlier row 2 d) (writer (Some (Tail left))) c s (shows_tail holding_hand earlier row (writer (Some (Tail left))) left refl refl refl still some)
+  shows (suc (suc zero)) c s = same_cell (λ d. ShowsHold holding earlier row 2 d) (writer (Some (Tail left))) c s (shows_tail holding_hand none_spawned earlier row (writer (Some (Tail left))) left refl refl refl still some)
   shows (suc (suc (suc n))) c s = cc
 
 lawful_2 : LawfulRow holding two_rows row_2
@@ -195,7 +208,7 @@ lawful_4 = record {
   retires = one_retires holding_hand row_4 (writer None) writing refl refl refl;
   holds = shows;
   successors = none_settles holding_hand four_rows row_4 refl refl (held_settles four_rows row_4 (reader (Some (Custom 0 0))) refl refl);
-  units = refl;
+  units = none_written holding_hand four_rows row_4 refl refl;
   untaken = refl;
   stops = no_stop holding_hand four_rows row_4 refl (held_stops four_rows row_4 (reader (Some (Custom 0 0))) (Custom 0 0) refl waits) (some_left holding_hand row_4 0 (sum (Some Behind)) (omega arith) refl refl);
 } where
@@ -205,7 +218,7 @@ lawful_4 = record {
   shows : (stage : ℕ) (c : Cell) → Stands holding row_4 stage c → ShowsHold holding four_rows row_4 stage c
   shows zero c s = same_cell (λ d. ShowsHold holding four_rows row_4 0 d) (sum (Some Behind)) c s (behind_shows four_rows row_4 (sum (Some Behind)) (reader (Some (Custom 0 0))) refl refl refl refl)
   shows (suc zero) c s = same_cell (λ d. ShowsHold holding four_rows row_4 1 d) (reader (Some (Custom 0 0))) c s (reader_shows four_rows row_4 refl waits)
-  shows (suc (suc zero)) c s = same_cell (λ d. ShowsHold holding four_rows row_4 2 d) (writer None) c s (shows_last holding_hand four_rows row_4 (writer None) refl refl (omega arith))
+  shows (suc (suc zero)) c s = same_cell (λ d. ShowsHold holding four_rows row_4 2 d) (writer None) c s (shows_last holding_hand none_spawned four_rows row_4 (writer None) refl refl (omega arith))
   shows (suc (suc (suc n))) c s = cc
 
 -- The reader leaves EX
@@ -228,7 +241,7 @@ lawful_5 = record {
   holds = shows;
   successors = no_turn holding_hand five_rows row_5 refl refl (λ stage c stands s.
       (at_ex five_rows row_5 stage c s, (sum None, refl, goes_on c (subst (λ n. Stands holding row_5 n c) (at_ex five_rows row_5 stage c s) stands))));
-  units = refl;
+  units = none_written holding_hand five_rows row_5 refl refl;
   untaken = refl;
   stops = no_stop holding_hand five_rows row_5 refl (λ c stop stands s. same_cell (λ d. StopsRun holding five_rows row_5 1 d stop → ⊥) (reader None) c stands (λ r. reader_runs stop r.due) s)
       (some_left holding_hand row_5 0 (sum None) (omega arith) refl refl);
@@ -283,7 +296,7 @@ lawful_6 = record {
   retires = one_retires holding_hand row_6 (reader None) reading refl refl refl;
   holds = shows;
   successors = none_settles holding_hand six_rows row_6 refl refl (held_settles six_rows row_6 (sum (Some (Operand 2 1))) refl refl);
-  units = refl;
+  units = none_written holding_hand six_rows row_6 refl refl;
   untaken = refl;
   stops = no_stop holding_hand six_rows row_6 refl (held_stops six_rows row_6 (sum (Some (Operand 2 1))) (Operand 2 1) refl sum_waits) (some_left holding_hand row_6 0 (break (Some Behind)) (omega arith) refl refl);
 } where
@@ -291,8 +304,8 @@ lawful_6 = record {
   shows zero c s = same_cell (λ d. ShowsHold holding six_rows row_6 0 d) (break (Some Behind)) c s (behind_shows six_rows row_6 (break (Some Behind)) (sum (Some (Operand 2 1))) refl refl refl refl)
   shows (suc zero) c s =
       same_cell (λ d. ShowsHold holding six_rows row_6 1 d) (sum (Some (Operand 2 1))) c s
-      (shows_own holding_hand six_rows row_6 1 (sum (Some (Operand 2 1))) (Operand 2 1) refl refl sum_waits (operand_first holding_hand six_rows row_6 1 (sum (Some (Operand 2 1))) 2 1 sum_first) (inl (omega arith)))
-  shows (suc (suc zero)) c s = same_cell (λ d. ShowsHold holding six_rows row_6 2 d) (reader None) c s (shows_last holding_hand six_rows row_6 (reader None) refl refl (omega arith))
+      (shows_own holding_hand six_rows row_6 1 (sum (Some (Operand 2 1))) (Operand 2 1) refl refl sum_waits (operand_first holding_hand none_spawned six_rows row_6 1 (sum (Some (Operand 2 1))) 2 1 sum_first) (inl (omega arith)))
+  shows (suc (suc zero)) c s = same_cell (λ d. ShowsHold holding six_rows row_6 2 d) (reader None) c s (shows_last holding_hand none_spawned six_rows row_6 (reader None) refl refl (omega arith))
   shows (suc (suc (suc n))) c s = cc
 
 -- The sum leaves EX
@@ -319,7 +332,7 @@ lawful_7 = record {
   holds = shows;
   successors = no_turn holding_hand seven_rows row_7 refl refl (λ stage c stands s.
       (at_ex seven_rows row_7 stage c s, (break None, refl, goes_on c (subst (λ n. Stands holding row_7 n c) (at_ex seven_rows row_7 stage c s) stands))));
-  units = refl;
+  units = none_written holding_hand seven_rows row_7 refl refl;
   untaken = refl;
   stops = no_stop holding_hand seven_rows row_7 refl (λ c stop stands s. same_cell (λ d. StopsRun holding seven_rows row_7 1 d stop → ⊥) (sum None) c stands (λ r. sum_runs stop r.due) s)
       (some_left holding_hand row_7 0 (break None) (omega arith) refl refl);
@@ -364,14 +377,14 @@ free_break stop = record {
   operand = λ r j w. true_not_false (sym w.reads ∙ no_register (holding_asks 1048691) r refl refl);
   custom = λ r j w. true_not_false (sym w.uses ∙ no_custom r);
   late = λ j w. true_not_false (sym w.jumps.2 ∙ (in_time w.jumps.0).0);
-  drain = λ j w. true_not_false (sym (retired_2 stop j w.older.lower) ∙ w.unretired);
+  drain = λ j w. true_not_false (sym (retired_2 stop j w.older.lower) ∙ left_unretired holding_hand none_spawned (last_row stop ∷ eight_rows) j w.left);
 }
 
 break_stops : (stop : Option Stop) → StopsRun holding eight_rows (last_row stop) 1 (break None) Ebreak
 break_stops stop = record {
   executing = refl;
   due = break_due stop;
-  free = no_own holding_hand eight_rows (last_row stop) 1 (break None) (free_break stop) refl (done_below holding_hand eight_rows (last_row stop) 1 (break None) (omega arith));
+  free = no_own holding_hand none_spawned eight_rows (last_row stop) 1 (break None) (free_break stop) refl (done_below holding_hand eight_rows (last_row stop) 1 (break None) (omega arith));
 }
 
 one_stop : (stop : Stop) → ◌≡◌ {A = StepAnswer} (Stopped Ebreak) (Stopped stop) → Ebreak ≡ stop
@@ -385,12 +398,12 @@ lawful_8 = record {
   retires = one_retires holding_hand row_8 (sum None) (going 8 65579 12) refl refl refl;
   holds = shows;
   successors = none_settles holding_hand eight_rows row_8 refl refl settles;
-  units = refl;
+  units = none_written holding_hand eight_rows row_8 refl refl;
   untaken = refl;
   stops = record {
     cause = λ stop e. inl (1, break None, refl, subst (λ x. StopsRun holding eight_rows row_8 1 (break None) x) (the stop e) (break_stops (Some Ebreak)));
     of_cell = λ stage c stop stands s. of_cell c stop (subst (λ n. Stands holding row_8 n c) s.executing stands) s.due;
-    of_fetch = λ f w. absurd (some_left holding_hand row_8 1 (break None) (omega arith) refl refl f);
+    of_fetch = λ f o w. absurd (some_left holding_hand row_8 1 (break None) (omega arith) refl refl f);
   };
 } where
   the : (stop : Stop) → ◌≡◌ {A = Option Stop} (Some Ebreak) (Some stop) → Ebreak ≡ stop
@@ -409,7 +422,7 @@ lawful_8 = record {
   shows (suc zero) c s =
       same_cell (λ d. ShowsHold holding eight_rows row_8 1 d) (break None) c s
       (shows_none holding_hand eight_rows row_8 1 (break None) refl (λ alive runs g t. runs Ebreak (break_stops (Some Ebreak))))
-  shows (suc (suc zero)) c s = same_cell (λ d. ShowsHold holding eight_rows row_8 2 d) (sum None) c s (shows_last holding_hand eight_rows row_8 (sum None) refl refl (omega arith))
+  shows (suc (suc zero)) c s = same_cell (λ d. ShowsHold holding eight_rows row_8 2 d) (sum None) c s (shows_last holding_hand none_spawned eight_rows row_8 (sum None) refl refl (omega arith))
   shows (suc (suc (suc n))) c s = cc
 
 pub holding_lawful : Lawful holding holding_rows

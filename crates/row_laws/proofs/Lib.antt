@@ -1,5 +1,13 @@
 mod Stages
+mod Tests
+mod Judging
+mod Judged
+mod Agreement
 mod HoldingRows
 mod TurningRows
 mod DetourRows
 mod AddingRows
+mod SpawningRows
+mod SpawningOthers
+mod SpawningStates
+mod SharingRows

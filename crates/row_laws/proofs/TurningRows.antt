@@ -15,9 +15,10 @@ use Rattle.rv_trace.specs.Trace.{has_serial, is_flushed, is_retired, place, newe
 use Rattle.rv_trace.specs.RowParts.{name_of, leaves}
 use Rattle.rv_lawful.specs.Settings.{Stands, tailed}
 use Rattle.rv_lawful.specs.LawfulTrace.{fetch_address, next_serial, IsDueToStop, WaitsForJump, OwnHold, StopsRun, ShowsHold, Settles, successor, IsMismatch, LawfulRow, Lawful}
+use Rattle.rv_lawful.specs.Sight.{SpawnsNothing}
 use Rattle.row_laws.specs.Hands.{quiet, going, no_customs, none_flushed}
 use Rattle.row_laws.specs.Turning.{turning_hand, turning, turning_asks, jump, passed, passed_too, target, row_0, row_1, row_2, turn_row, both, row_3, row_4, row_5, two_rows, three_rows, turning_rows, IsUnlawful, unflushed, one_unflushed, no_redirect, late_left_out}
-use Rattle.row_laws.proofs.Stages.{true_not_false, no_register, no_custom, same_cell, free_outside, free_behind, done_below, no_own, goes_before, shows_none, shows_behind, shows_own, late_first, shows_tail, shows_last, none_settles, no_stop, some_left, none_retires, one_retires}
+use Rattle.row_laws.proofs.Stages.{SpawnsNone, none_written, true_not_false, no_register, no_custom, same_cell, free_outside, free_behind, done_below, no_own, goes_before, shows_none, shows_behind, shows_own, late_first, shows_tail, shows_last, none_settles, no_stop, some_left, none_retires, one_retires}
 
 at_front : ◌≡◌ {A = ℕ} 0 1 → ⊥
 at_front e = absurd (omega (arith, e))
@@ -34,12 +35,19 @@ unasked word = by_test (word == 91) where
   by_test true = (refl, refl, refl, refl)
   by_test false = (refl, refl, refl, refl)
 
+-- nor does one spawn
+none_spawned : SpawnsNone turning_hand
+none_spawned word = by_test (word == 91) where
+  by_test : (b : Bool) → SpawnsNothing (if b then turning_asks 91 else quiet)
+  by_test true = record { x = refl; customs = λ r. no_custom r; unit = refl }
+  by_test false = record { x = refl; customs = λ r. no_custom r; unit = refl }
+
 -- where the jump stands at EX, it does not settle there
 jump_late : (earlier : List Row) (row : Row) (stage : ℕ) (hold : Option Hold) → Settles turning earlier row stage (jump hold) → stage ≡ 2
 jump_late earlier row stage hold s = let e = s.settling in omega (arith, e)
 
 free_front : (earlier : List Row) (row : Row) (c : Cell) (g : Hold) → OwnHold turning earlier row 0 c g → ⊥
-free_front earlier row c g o = no_own turning_hand earlier row 0 c (free_outside turning_hand earlier row 0 c at_front) (unasked c.word).0 (done_below turning_hand earlier row 0 c (omega arith)) g o
+free_front earlier row c g o = no_own turning_hand none_spawned earlier row 0 c (free_outside turning_hand earlier row 0 c at_front) (unasked c.word).0 (done_below turning_hand earlier row 0 c (omega arith)) g o
 
 jump_runs : (rows : List Row) (hold : Option Hold) (stop : Stop) → IsDueToStop turning rows (jump hold) stop → ⊥
 unfolding place
@@ -55,7 +63,7 @@ lawful_0 = record {
   retires = none_retires turning_hand row_0 refl (λ c s l. cc);
   holds = shows;
   successors = none_settles turning_hand [] row_0 refl refl settles;
-  units = refl;
+  units = none_written turning_hand [] row_0 refl refl;
   untaken = refl;
   stops = no_stop turning_hand [] row_0 refl (λ c stop stands s. no_second c stands) (some_left turning_hand row_0 0 (jump None) (omega arith) refl refl);
 } where
@@ -89,7 +97,7 @@ lawful_1 = record {
   retires = none_retires turning_hand row_1 refl (λ c s l. cc);
   holds = shows;
   successors = none_settles turning_hand (row_0 ∷ []) row_1 refl refl settles;
-  units = refl;
+  units = none_written turning_hand (row_0 ∷ []) row_1 refl refl;
   untaken = refl;
   stops = no_stop turning_hand (row_0 ∷ []) row_1 refl (λ c stop stands s. stops c stop stands s) (some_left turning_hand row_1 0 (passed None) (omega arith) refl refl);
 } where
@@ -112,7 +120,7 @@ lawful_1 = record {
   shows (suc zero) c s =
       same_cell (λ d. ShowsHold turning (row_0 ∷ []) row_1 1 d) (jump None) c s
       (shows_none turning_hand (row_0 ∷ []) row_1 1 (jump None) refl (λ alive runs g t. elim t [
-        | inl o ↦ no_own turning_hand (row_0 ∷ []) row_1 1 (jump None) (free_behind turning_hand (row_0 ∷ []) row_1 1 (jump None) (λ j lt _. absurd (omega (arith, lt)))) refl (done_below turning_hand (row_0 ∷ []) row_1 1 (jump None) (omega arith)) g o
+        | inl o ↦ no_own turning_hand none_spawned (row_0 ∷ []) row_1 1 (jump None) (free_behind turning_hand none_spawned (row_0 ∷ []) row_1 1 (jump None) (λ j lt _. absurd (omega (arith, lt)))) refl (done_below turning_hand (row_0 ∷ []) row_1 1 (jump None) (omega arith)) g o
         | inr b ↦ cc (b.1.1)
       ]))
   shows (suc (suc zero)) c s = cc
@@ -135,7 +143,7 @@ lawful_2 = record {
   retires = none_retires turning_hand row_2 refl (λ c s l. same_cell (λ d. leaves row_2 (Some d) ≡ name_of (Some d) → ⊥) (jump (Some (Tail 1))) c s (λ q. cc) l);
   holds = shows;
   successors = none_settles turning_hand two_rows row_2 refl refl settles;
-  units = refl;
+  units = none_written turning_hand two_rows row_2 refl refl;
   untaken = refl;
   stops = no_stop turning_hand two_rows row_2 refl (λ c stop stands s. same_cell (λ d. StopsRun turning two_rows row_2 1 d stop → ⊥) (passed (Some (Late 0))) c stands (λ r. r.free (Late 0) wait) s)
       (some_left turning_hand row_2 0 (passed_too (Some Behind)) (omega arith) refl refl);
@@ -157,9 +165,9 @@ lawful_2 = record {
   shows (suc zero) c s =
       same_cell (λ d. ShowsHold turning two_rows row_2 1 d) (passed (Some (Late 0))) c s
       (shows_own turning_hand two_rows row_2 1 (passed (Some (Late 0))) (Late 0) refl refl wait
-      (late_first turning_hand two_rows row_2 1 (passed (Some (Late 0))) (λ r j o. true_not_false (sym o.reads ∙ no_register (turning_asks 19) r refl refl)) (λ r j o. true_not_false (sym o.uses ∙ no_custom r)))
+      (late_first turning_hand none_spawned two_rows row_2 1 (passed (Some (Late 0))) (λ r j o. true_not_false (sym o.reads ∙ no_register (turning_asks 19) r refl refl)) (λ r j o. true_not_false (sym o.uses ∙ no_custom r)))
       (inl (omega arith)))
-  shows (suc (suc zero)) c s = same_cell (λ d. ShowsHold turning two_rows row_2 2 d) (jump (Some (Tail 1))) c s (shows_tail turning_hand two_rows row_2 (jump (Some (Tail 1))) 1 refl refl refl (omega arith) (omega arith))
+  shows (suc (suc zero)) c s = same_cell (λ d. ShowsHold turning two_rows row_2 2 d) (jump (Some (Tail 1))) c s (shows_tail turning_hand none_spawned two_rows row_2 (jump (Some (Tail 1))) 1 refl refl refl (omega arith) (omega arith))
   shows (suc (suc (suc n))) c s = cc
 
 -- The jump leaves the last stage, with any flush of others and any redirect
@@ -204,12 +212,12 @@ lawful_3 = record {
     ];
     named_only = λ a e. (2, jump None, refl, right_mismatch.settles, jump_goes_on (row_3 ∷ three_rows) ∙ twelve a e, inl right_mismatch);
   };
-  units = refl;
+  units = none_written turning_hand three_rows row_3 refl refl;
   untaken = refl;
   stops = record {
     cause = λ stop s. cc;
     of_cell = λ stage c stop stands s. absurd (stops c stop (subst (λ n. Stands turning row_3 n c) s.executing stands) (subst (λ n. StopsRun turning three_rows row_3 n c stop) s.executing s));
-    of_fetch = λ f w. absurd (fetches w);
+    of_fetch = λ f o w. absurd (fetches w);
   };
 } where
   right_mismatch : IsMismatch turning three_rows row_3 2 (jump None)
@@ -245,7 +253,7 @@ lawful_3 = record {
   shows : (stage : ℕ) (c : Cell) → Stands turning row_3 stage c → ShowsHold turning three_rows row_3 stage c
   shows zero c s = same_cell (λ d. ShowsHold turning three_rows row_3 0 d) (passed_too None) c s (shows_none turning_hand three_rows row_3 0 (passed_too None) refl (λ alive runs g t. true_not_false alive))
   shows (suc zero) c s = same_cell (λ d. ShowsHold turning three_rows row_3 1 d) (passed None) c s (shows_none turning_hand three_rows row_3 1 (passed None) refl (λ alive runs g t. true_not_false alive))
-  shows (suc (suc zero)) c s = same_cell (λ d. ShowsHold turning three_rows row_3 2 d) (jump None) c s (shows_last turning_hand three_rows row_3 (jump None) refl refl (omega arith))
+  shows (suc (suc zero)) c s = same_cell (λ d. ShowsHold turning three_rows row_3 2 d) (jump None) c s (shows_last turning_hand none_spawned three_rows row_3 (jump None) refl refl (omega arith))
   shows (suc (suc (suc n))) c s = cc
 
 -- The row of the next fetch
@@ -261,7 +269,7 @@ lawful_4 = record {
   retires = none_retires turning_hand row_4 refl (λ c s l. cc);
   holds = shows;
   successors = none_settles turning_hand four_rows row_4 refl refl settles;
-  units = refl;
+  units = none_written turning_hand four_rows row_4 refl refl;
   untaken = refl;
   stops = no_stop turning_hand four_rows row_4 refl (λ c stop stands s. no_second c stands) (some_left turning_hand row_4 0 target (omega arith) refl refl);
 } where
@@ -316,7 +324,7 @@ target_stops : StopsRun turning five_rows row_5 1 target Ebreak
 target_stops = record {
   executing = refl;
   due = target_due;
-  free = no_own turning_hand five_rows row_5 1 target (free_behind turning_hand five_rows row_5 1 target none_older) refl (done_below turning_hand five_rows row_5 1 target (omega arith));
+  free = no_own turning_hand none_spawned five_rows row_5 1 target (free_behind turning_hand none_spawned five_rows row_5 1 target none_older) refl (done_below turning_hand five_rows row_5 1 target (omega arith));
 }
 
 one_stop : (stop : Stop) → ◌≡◌ {A = StepAnswer} (Stopped Ebreak) (Stopped stop) → Ebreak ≡ stop
@@ -330,12 +338,12 @@ lawful_5 = record {
   retires = none_retires turning_hand row_5 refl (λ c s l. cc);
   holds = shows;
   successors = none_settles turning_hand five_rows row_5 refl refl settles;
-  units = refl;
+  units = none_written turning_hand five_rows row_5 refl refl;
   untaken = refl;
   stops = record {
     cause = λ stop e. inl (1, target, refl, subst (λ x. StopsRun turning five_rows row_5 1 target x) (the stop e) target_stops);
     of_cell = λ stage c stop stands s. of_cell c stop (subst (λ n. Stands turning row_5 n c) s.executing stands) s.due;
-    of_fetch = λ f w. absurd (some_left turning_hand row_5 1 target (omega arith) refl refl f);
+    of_fetch = λ f o w. absurd (some_left turning_hand row_5 1 target (omega arith) refl refl f);
   };
 } where
   the : (stop : Stop) → ◌≡◌ {A = Option Stop} (Some Ebreak) (Some stop) → Ebreak ≡ stop

@@ -22,11 +22,11 @@ adding_image = 5243027 ∷ 7340307 ∷ 2130355 ∷ 1048691 ∷ []
 
 -- what is asked of a word where there is no extension
 abbrev pub adding_asks : ℕ → Asks
-adding_asks word = asks_with [] (blank_outline three []) word (decoded_in bare word)
+adding_asks word = asks_with three [] (λ n. None) (blank_outline three []) word (decoded_in bare word)
 
 -- the run of the image, with its words
 abbrev pub adding_hand : Hand
-adding_hand = record { image = adding_image; course = course_of bare adding_image; asks = adding_asks }
+adding_hand = record { image = adding_image; course = course_of bare adding_image; asks = adding_asks; units = [] }
 
 -- what its rows are judged against
 abbrev pub adding : Setting
@@ -98,7 +98,7 @@ adding_rows = row_5 ∷ five_rows
 
 -- what the rows retire is not the run's, nor are their states and stop
 abbrev pub IsOther : List Row → Type 0
-IsOther rows = Agreeing bare adding_image rows → ⊥
+IsOther rows = Agreeing bare adding rows → ⊥
 
 -- a write of a wrong value
 abbrev pub wrong_value : List Row

@@ -1,5 +1,7 @@
 -- Runs and rows that are made by hand, on the core of three stages (this project's choice).
 use Rattle.std.specs.Prelude.{ℕ, List, [], ◌∷◌, replicate, Option, None, Bool, false}
+use Rattle.ix_bits.specs.declared.number.Bits.{Bits}
+use Rattle.ix_plan.specs.Units.{Slots}
 use Rattle.rv_asks.specs.declared.asks.Asks.{Asks}
 use Rattle.rv_core.specs.declared.Shape.{Shape}
 use Rattle.rv_core.specs.Stages.{three_lawful}
@@ -11,11 +13,12 @@ use Rattle.rv_trace.specs.declared.row.Cell.{Cell}
 use Rattle.rv_trace.specs.declared.row.Hold.{Hold}
 use Rattle.rv_trace.specs.declared.row.Row.{Row}
 
--- what is made by hand: the words of an image, a run, and what is asked of each word's instruction
+-- what is made by hand: the words of an image, a run, what is asked of each word's instruction, and the units before the first row
 pub record Hand : Type 0 where
   pub image : List ℕ
   pub course : Course
   pub asks : ℕ → Asks
+  pub units : List Slots
 
 -- the numbers of that core
 abbrev pub three : Shape
@@ -30,11 +33,20 @@ by_hand h =
       shape = three;
       course = h.course;
       asks = h.asks;
+      units = h.units;
     }
 
 -- no custom register
 abbrev pub no_customs : List Bool
 no_customs = replicate 16 false
+
+-- always-blocks that write no custom register
+abbrev pub no_blocks : ℕ → List (Option Bits)
+no_blocks p = replicate 16 None
+
+-- instructions that write no custom register themselves
+abbrev pub none_own : ℕ → List Bool
+none_own p = no_customs
 
 -- an instruction of which nothing is asked
 abbrev pub quiet : Asks
@@ -43,12 +55,16 @@ quiet =
       first = 0;
       second = 0;
       destination = 0;
+      x_time = 0;
+      spawned = None;
       loads = false;
       stores = false;
       late = false;
       tail = 0;
       customs = no_customs;
       late_customs = no_customs;
+      spawned_customs = no_customs;
+      unit = None;
     }
 
 -- the writes of an instruction at an address that writes nothing but the pc

@@ -16,7 +16,7 @@ use Rattle.rv_trace.specs.declared.row.Cell.{Cell}
 use Rattle.rv_trace.specs.declared.row.Hold.{Hold}
 use Rattle.rv_trace.specs.declared.row.Hold.TheVariants.{Operand, Custom, Tail, Behind, Trap}
 use Rattle.rv_trace.specs.declared.row.Row.{Row}
-use Rattle.row_laws.specs.Hands.{Hand, by_hand, quiet, no_customs, going, cell, none_flushed, row_with, row_of}
+use Rattle.row_laws.specs.Hands.{Hand, by_hand, no_blocks, none_own, quiet, no_customs, going, cell, none_flushed, row_with, row_of}
 
 -- custom register 0
 abbrev pub register_0 : List Bool
@@ -27,11 +27,11 @@ register_0 = true ∷ replicate 15 false
 abbrev pub holding_asks : ℕ → Asks
 holding_asks word =
     if word == 11 then
-    record { first = 0; second = 0; destination = 0; loads = false; stores = false; late = false; tail = 2; customs = register_0; late_customs = register_0 }
+    record { first = 0; second = 0; destination = 0; x_time = 0; spawned = None; loads = false; stores = false; late = false; tail = 2; customs = register_0; late_customs = register_0; spawned_customs = no_customs; unit = None }
     else if word == 299 then
-    record { first = 0; second = 0; destination = 2; loads = false; stores = false; late = false; tail = 0; customs = register_0; late_customs = no_customs }
+    record { first = 0; second = 0; destination = 2; x_time = 1; spawned = None; loads = false; stores = false; late = false; tail = 0; customs = register_0; late_customs = no_customs; spawned_customs = no_customs; unit = None }
     else if word == 65579 then
-    record { first = 2; second = 0; destination = 0; loads = false; stores = false; late = false; tail = 0; customs = no_customs; late_customs = no_customs }
+    record { first = 2; second = 0; destination = 0; x_time = 0; spawned = None; loads = false; stores = false; late = false; tail = 0; customs = no_customs; late_customs = no_customs; spawned_customs = no_customs; unit = None }
     else quiet
 
 -- a value of custom register 0
@@ -55,7 +55,7 @@ holding_answer (suc (suc (suc p))) = Stopped Ebreak
 
 -- the run, with its words
 abbrev pub holding_hand : Hand
-holding_hand = record { image = 11 ∷ 299 ∷ 65579 ∷ 1048691 ∷ []; course = record { answer = holding_answer; pc = λ p. 4 * p; accesses = λ p. false }; asks = holding_asks }
+holding_hand = record { image = 11 ∷ 299 ∷ 65579 ∷ 1048691 ∷ []; course = record { answer = holding_answer; pc = λ p. 4 * p; accesses = λ p. false; blocks = no_blocks; own = none_own }; asks = holding_asks; units = [] }
 
 -- what its rows are judged against
 abbrev pub holding : Setting

@@ -3,3 +3,5 @@ pub mod Holding
 pub mod Turning
 pub mod Detour
 pub mod Adding
+pub mod Spawning
+pub mod Sharing

@@ -1,9 +1,13 @@
-ghost use Rattle.rv_lawful.specs.Headline.{Agreeing};
+ghost use Rattle.std.specs.Prelude.{Bool};
+ghost use Rattle.rv_lawful.specs.Headline.{Agreeing, IsSpawnWrite};
 ghost use Rattle.rv_lawful.specs.LawfulTrace.{Lawful};
 ghost use Rattle.rv_seq.specs.Bare.{bare};
-ghost use Rattle.row_laws.specs.Adding.{adding, adding_image, adding_rows, IsOther, wrong_value, wrong_order, other_stop};
+ghost use Rattle.rv_seq.specs.States.{zero_bit};
+ghost use Rattle.row_laws.specs.Adding.{adding, adding_rows, IsOther, wrong_value, wrong_order, other_stop};
 ghost use Rattle.row_laws.specs.Detour as leap;
 ghost use Rattle.row_laws.specs.Holding.{holding, holding_rows, IsUnlawful, untrue_hold, later_hold, tail_one_more, tail_one_less, tail_left_out, custom_left_out, idle_cell, skipped_word, wrong_stop, missing_stop, after_stop, cell_behind, untrue_trap, taken_unasked};
+ghost use Rattle.row_laws.specs.Sharing as share;
+ghost use Rattle.row_laws.specs.Spawning as spawn;
 ghost use Rattle.row_laws.specs.Turning as turn;
 
 /// The laws of rows, tried on a hand-made run whose first instruction is Tight and writes a custom register late: they hold of its rows, in which
@@ -44,7 +48,7 @@ pub fn turning_run()
 /// that retire another value, or in another order, or stop for another cause, are not the run's.
 pub fn adding_run()
     ensures rows { Lawful adding adding_rows }
-    ensures agrees { Agreeing bare adding_image adding_rows }
+    ensures agrees { Agreeing bare adding adding_rows }
     ensures wrong_value { IsOther wrong_value }
     ensures wrong_order { IsOther wrong_order }
     ensures other_stop { IsOther other_stop }
@@ -61,4 +65,64 @@ pub fn detour_run()
     ensures flushed_moves { leap.IsUnlawful leap.flushed_moves }
     ensures missing_stop { leap.IsUnlawful leap.missing_stop }
     ensures after_stop { leap.IsUnlawful leap.after_stop }
+{}
+
+/// The laws of rows and what they promise of the run, tried on a run of the base set that takes two instructions as decoupled, of which the younger one
+/// is written first: its rows are lawful and the run's with the outstanding writes applied, and rows in which one thing is changed are not.
+pub fn passing_run()
+    ensures rows { Lawful spawn.passing spawn.passing_rows }
+    ensures agrees { Agreeing bare spawn.passing spawn.passing_rows }
+    ensures owes_both { spawn.OwesBoth }
+    ensures owes_one { spawn.OwesOne }
+    ensures writes_one { spawn.WritesOne }
+    ensures applies_both { spawn.AppliesBoth }
+    ensures board_left_out { spawn.IsUnlawful spawn.board_left_out }
+    ensures board_of_another { spawn.IsUnlawful spawn.board_of_another }
+    ensures board_of_younger { spawn.IsUnlawful spawn.board_of_younger }
+    ensures board_after_write { spawn.IsUnlawful spawn.board_after_write }
+    ensures none_written { spawn.IsUnlawful spawn.none_written }
+    ensures written_early { spawn.IsUnlawful spawn.written_early }
+    ensures written_unretired { spawn.IsUnlawful spawn.written_unretired }
+    ensures written_twice { spawn.IsUnlawful spawn.written_twice }
+    ensures wrong_write { spawn.IsOther spawn.wrong_write }
+    ensures late_native { spawn.IsOther spawn.late_native }
+    ensures early_spawn { spawn.IsOther spawn.early_spawn }
+{}
+
+/// The same on a run in which a unit writes while an instruction with a write of its own stands in the last stage, and which ends at the fetch: the
+/// instruction is held by Port, and the run does not stop before the last write.
+pub fn port_run()
+    ensures rows { Lawful spawn.port spawn.port_rows }
+    ensures agrees { Agreeing bare spawn.port spawn.port_rows }
+    ensures port_left_out { spawn.IsUnlawfulAtPort spawn.port_left_out }
+    ensures port_without_write { spawn.IsUnlawfulAtPort spawn.port_without_write }
+    ensures stop_before_write { spawn.IsUnlawfulAtPort spawn.stop_before_write }
+    ensures stop_left_out { spawn.IsUnlawfulAtPort spawn.stop_left_out }
+{}
+
+/// The same on a run in which two units finish in one row: the lower one writes, the other one is frozen with all that stands in it, and what is to
+/// enter it is held by UnitFull. The condition of the last write is false: it takes its turn and changes nothing.
+pub fn frozen_run()
+    ensures rows { Lawful spawn.frozen spawn.frozen_rows }
+    ensures agrees { Agreeing bare spawn.frozen spawn.frozen_rows }
+    ensures full_left_out { spawn.IsUnlawfulFrozen spawn.full_left_out }
+    ensures full_of_another { spawn.IsUnlawfulFrozen spawn.full_of_another }
+    ensures higher_written { spawn.IsUnlawfulFrozen spawn.higher_written }
+    ensures frozen_moves { spawn.IsUnlawfulFrozen spawn.frozen_moves }
+    ensures drain_left_out { spawn.IsUnlawfulFrozen spawn.drain_left_out }
+    ensures later_left_out { spawn.IsOtherFrozen spawn.later_left_out }
+{}
+
+/// The same on a run in which an always-block and a `spawn` body write one register, with a true condition of the `spawn` body and with a false one:
+/// what the block writes is there from the retirement on, the unit writes what the instruction itself does and not what the block does, and an ebreak
+/// waits for it by Board, since the block writes the register beside each instruction.
+pub fn sharing_run()
+    ensures rows { (b : Bool) → Lawful (share.sharing b) (share.sharing_rows b) }
+    ensures drains_first { (b : Bool) → share.IsUnlawful b share.drains_first }
+    ensures block_first { (b : Bool) → share.Holds b share.sharing_three share.of_block }
+    ensures block_lost { (b : Bool) → share.HoldsNot b share.sharing_three zero_bit }
+    ensures applied { (b : Bool) → share.HoldsApplied b share.sharing_three (share.left_by b) }
+    ensures instruction_last { (b : Bool) → share.Holds b (share.sharing_four b) (share.left_by b) }
+    ensures writes_own { (b : Bool) → IsSpawnWrite (share.sharing b) share.sharing_three (share.sharing_write b) }
+    ensures block_by_unit { (b : Bool) → share.IsNoWrite b share.block_by_unit }
 {}

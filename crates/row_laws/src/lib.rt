@@ -1,7 +1,10 @@
-//! The definitions of lawful rows, tried on rows that are written out: over three runs that are made by hand, and over one of the base
-//! set, their rows are lawful, and lists that differ in one thing are not.
+//! The definitions of lawful rows, tried on rows that are written out: over runs that are made by hand, and over runs of the base set,
+//! some of whose instructions are taken as decoupled, their rows are lawful, and lists that differ in one thing are not.
 #![tactic(auto)]
 
 mod laws;
 
-pub use laws::{adding_run, detour_run, holding_run, turning_run};
+pub use laws::{
+    adding_run, detour_run, frozen_run, holding_run, passing_run, port_run, sharing_run,
+    turning_run,
+};
