@@ -16,18 +16,18 @@ use Rattle.ix_walks.specs.declared.network.Network.{Network}
 use Rattle.ix_walks.specs.declared.search.TheConstants.{LIMIT}
 use Rattle.ix_walks.specs.Search.{no_arc, arc_at, IsFeasible, AreLeast}
 use Rattle.ix_walks.proofs.Starts.{above_root}
-use Rattle.ix_walks.specs.Networks.{step_from, step_to, node_after, IsResidual, IsLongestPath}
+use Rattle.ix_walks.specs.Networks.{step_from, step_to, node_after, IsResidual, IsTightPath, IsLongestPath}
 use Rattle.ix_solve.specs.Flows.{IsWalk}
-use Rattle.ix_solve.specs.State.{HasTimes, IsNetworkOf, AreLeastOver}
+use Rattle.ix_solve.specs.State.{HasTimes, AreTimes, IsNetworkOf, AreLeastOver}
 use Rattle.ix_solve.proofs.Links.{arcs_for, arc_there, arcs_long, from_there, to_there}
 
 -- a path between two nodes, and times at which its bounds are met with equality
-pub record IsFound (n : ℕ) (arcs : List Arc) (amounts : List ℕ) (a b : ℕ) (steps : List (ℕ × Bool)) : Type 0 where
+pub record IsFound (n : ℕ) (arcs : List Arc) (amounts : List ℕ) (t : ℕ → ℕ) (a b : ℕ) (steps : List (ℕ × Bool)) : Type 0 where
   pub walk : IsWalk arcs a steps
   pub ends : node_after arcs a steps (length steps) ≡ b
   pub carried : (k : ℕ) → k < length steps → (place_at steps k).1 ≡ false → 0 < get_or amounts (place_at steps k).0 0
-  pub held : HasTimes n arcs amounts
-  pub tight : (k : ℕ) → k < length steps → IsTight held.times (arc_at arcs (place_at steps k).0)
+  pub held : AreTimes n arcs amounts t
+  pub tight : (k : ℕ) → k < length steps → IsTight t (arc_at arcs (place_at steps k).0)
 
 -- the network's first inequalities are those of the bounds
 first_there : (p : Problem) (bounds : List Bound) (net : Network) (k : ℕ) → IsNetworkOf p bounds net → k < length bounds → arc_at net.arcs.items k ≡ arc_at (arcs_for p bounds) k
@@ -40,7 +40,7 @@ both_ways t a along back = omega arith
 
 -- what meets a network meets its bounds, and those that carry an amount with equality
 pub held_by : (p : Problem) (bounds : List Bound) (net : Network) (amounts : List ℕ) (t : ℕ → ℕ) → IsNetworkOf p bounds net → IsResidual amounts net →
-    ((v : ℕ) → v ≤ net.root → t v ≤ LIMIT) → All (Meets t) net.arcs.items → HasTimes (length p.ops) (arcs_for p bounds) amounts
+    ((v : ℕ) → v ≤ net.root → t v ≤ LIMIT) → All (Meets t) net.arcs.items → AreTimes (length p.ops) (arcs_for p bounds) amounts t
 held_by p bounds net amounts t h res low met =
     let m = net.bounds in
     let len = h.is.len in
@@ -49,7 +49,6 @@ held_by p bounds net amounts t h res low met =
     (let here : Meets t (arc_at net.arcs.items k) = met k no_arc (omega (arith, h.count)) in
     rw (first_there p bounds net k h b) at here) in
     record {
-      times = t;
       low = λ v b. low v (rw h.root b);
       met = All-from_get_or (Meets t) (arcs_for p bounds) no_arc (λ k b. along k (omega (arith, arcs_long p bounds)));
       used = λ k b some.
@@ -106,7 +105,6 @@ feasible_by p bounds net amounts h res held = record {
 -- the least times over the network are the least over the bounds and those turned round that carry an amount
 pub least_over : (p : Problem) (bounds : List Bound) (net : Network) (amounts times : List ℕ) → IsNetworkOf p bounds net → IsResidual amounts net → AreLeast net.root net.arcs.items times →
     AreLeastOver (length p.ops) (arcs_for p bounds) amounts times
-unfolding held_by
 least_over p bounds net amounts times h res least =
     let t : ℕ → ℕ = λ v. get_or times v 0 in
     let low : (v : ℕ) → v ≤ net.root → t v ≤ LIMIT = λ v b. (let a = above_root net.root net.arcs.items t h.is.framed least.met v b in let z = least.root in omega (arith, a.1)) in
@@ -130,11 +128,11 @@ same_after : (xs ys : List Arc) (a : ℕ) (steps : List (ℕ × Bool)) → ((k :
 same_after xs ys a steps same zero b = refl
 same_after xs ys a steps same (suc k) b = same_to xs ys (place_at steps k) (same k (omega arith))
 
--- a longest path over the network
-pub found_by : (p : Problem) (bounds : List Bound) (net : Network) (amounts : List ℕ) (a b : ℕ) (steps : List (ℕ × Bool)) → IsNetworkOf p bounds net → IsResidual amounts net →
-    IsLongestPath net a b steps → IsFound (length p.ops) (arcs_for p bounds) amounts a b steps
-unfolding held_by
-found_by p bounds net amounts a b steps h res is =
+-- a path that times meet with equality, over the network's first inequalities
+pub tight_found : (p : Problem) (bounds : List Bound) (net : Network) (amounts : List ℕ) (t : ℕ → ℕ) (a b : ℕ) (steps : List (ℕ × Bool)) → IsNetworkOf p bounds net →
+    IsTightPath net.arcs.items net.bounds t a b steps → ((k : ℕ) → k < length steps → (place_at steps k).1 ≡ false → 0 < get_or amounts (place_at steps k).0 0) →
+    AreTimes (length p.ops) (arcs_for p bounds) amounts t → IsFound (length p.ops) (arcs_for p bounds) amounts t a b steps
+tight_found p bounds net amounts t a b steps h is carried held =
     let arcs = arcs_for p bounds in
     let within : (k : ℕ) → k < length steps → (place_at steps k).0 < length bounds = λ k k_in. (let w = is.within k k_in in omega (arith, h.count)) in
     let same : (k : ℕ) → k < length steps → arc_at net.arcs.items (place_at steps k).0 ≡ arc_at arcs (place_at steps k).0 = λ k k_in. first_there p bounds net (place_at steps k).0 h (within k k_in) in
@@ -146,10 +144,18 @@ found_by p bounds net amounts a b steps h res is =
         once = is.once;
       };
       ends = sym (after (length steps) (omega arith)) ∙ is.ends;
-      carried = λ k k_in against. All-contains (λ q. 0 < get_or amounts q 0) net.back.items (place_at steps k).0 res.only (is.carried k k_in against);
-      held = held_by p bounds net amounts is.times h res is.low is.met;
-      tight = λ k k_in. (let t : IsTight is.times (arc_at net.arcs.items (place_at steps k).0) = is.tight k k_in in rw (same k k_in) at t);
+      carried = carried;
+      held = held;
+      tight = λ k k_in. (let u : IsTight t (arc_at net.arcs.items (place_at steps k).0) = is.tight k k_in in rw (same k k_in) at u);
     }
+
+-- a longest path over the network
+pub found_by : (p : Problem) (bounds : List Bound) (net : Network) (amounts : List ℕ) (t : ℕ → ℕ) (a b : ℕ) (steps : List (ℕ × Bool)) → IsNetworkOf p bounds net → IsResidual amounts net →
+    IsLongestPath net t a b steps → IsFound (length p.ops) (arcs_for p bounds) amounts t a b steps
+found_by p bounds net amounts t a b steps h res is =
+    tight_found p bounds net amounts t a b steps h is.path
+    (λ k k_in against. All-contains (λ q. 0 < get_or amounts q 0) net.back.items (place_at steps k).0 res.only (is.carried k k_in against))
+    (held_by p bounds net amounts t h res is.low is.met)
 
 -- the nodes before and behind a step, by the bounds
 pub before_there : (p : Problem) (bounds : List Bound) (s : ℕ × Bool) → s.0 < length bounds → step_from (arcs_for p bounds) s ≡ before (length p.ops) bounds s
@@ -245,9 +251,9 @@ is_all p bounds t (s ∷ rest) some joined each =
     rw e (path_is p bounds t s rest joined each)
 
 -- a found path is a residual path with its ends
-pub residual_path : (p : Problem) (bounds : List Bound) (r : Residual) (a b : ℕ) (path : Path) → r.bounds ≡ bounds → length r.left ≡ length p.ops + 1 →
-    IsFound (length p.ops) (arcs_for p bounds) r.amounts a b path.steps → a ≢ b → IsResidualPath r path × (source_of r path ≡ a) × (target_of r path ≡ b)
-residual_path p bounds r a b path same left_len is ne =
+pub residual_path : (p : Problem) (bounds : List Bound) (r : Residual) (t : ℕ → ℕ) (a b : ℕ) (path : Path) → r.bounds ≡ bounds → length r.left ≡ length p.ops + 1 →
+    IsFound (length p.ops) (arcs_for p bounds) r.amounts t a b path.steps → a ≢ b → IsResidualPath r path × (source_of r path ≡ a) × (target_of r path ≡ b)
+residual_path p bounds r t a b path same left_len is ne =
     let n = length p.ops in
     let arcs = arcs_for p bounds in
     let steps = path.steps in
@@ -276,27 +282,26 @@ residual_path p bounds r a b path same left_len is ne =
       rw (same, root) target,
     )
 
-step_held : (p : Problem) (bounds : List Bound) (amounts : List ℕ) (held : HasTimes (length p.ops) (arcs_for p bounds) amounts) (s : ℕ × Bool) → s.0 < length bounds → (s.1 ≡ false → 0 < get_or amounts s.0 0) →
-    held.times (before (length p.ops) bounds s) + step_up p bounds s ≤ held.times (behind (length p.ops) bounds s) + step_down p bounds s
-step_held p bounds amounts held s b carried =
+step_held : (p : Problem) (bounds : List Bound) (amounts : List ℕ) (t : ℕ → ℕ) (s : ℕ × Bool) → AreTimes (length p.ops) (arcs_for p bounds) amounts t → s.0 < length bounds → (s.1 ≡ false → 0 < get_or amounts s.0 0) →
+    t (before (length p.ops) bounds s) + step_up p bounds s ≤ t (behind (length p.ops) bounds s) + step_down p bounds s
+step_held p bounds amounts t s held b carried =
     let k_in : s.0 < length (arcs_for p bounds) = omega (arith, arcs_long p bounds) in
-    step_goes p bounds held.times s b (held.met s.0 no_arc k_in) (λ e. held.used s.0 k_in (carried e))
+    step_goes p bounds t s b (held.met s.0 no_arc k_in) (λ e. held.used s.0 k_in (carried e))
 
 -- .. and no residual path between these is longer
-pub longest_found : (p : Problem) (bounds : List Bound) (r : Residual) (a b : ℕ) (path : Path) → r.bounds ≡ bounds → length r.left ≡ length p.ops + 1 →
-    IsFound (length p.ops) (arcs_for p bounds) r.amounts a b path.steps → a ≢ b → IsLongest p r path
-longest_found p bounds r a b path same left_len is ne other is_path same_source same_target =
+pub longest_found : (p : Problem) (bounds : List Bound) (r : Residual) (t : ℕ → ℕ) (a b : ℕ) (path : Path) → r.bounds ≡ bounds → length r.left ≡ length p.ops + 1 →
+    IsFound (length p.ops) (arcs_for p bounds) r.amounts t a b path.steps → a ≢ b → IsLongest p r path
+longest_found p bounds r t a b path same left_len is ne other is_path same_source same_target =
     let n = length p.ops in
-    let t = is.held.times in
     let root : root_of r ≡ n = omega arith in
-    let own = residual_path p bounds r a b path same left_len is ne in
+    let own = residual_path p bounds r t a b path same left_len is ne in
     let mine : IsResidualPath r path = own.0 in
     let own_joined : AreJoined n bounds path.steps = joined_next n bounds path.steps (rw (same, root) at mine.joined) in
     let other_joined : AreJoined n bounds other.steps = joined_next n bounds other.steps (rw (same, root) at is_path.joined) in
     let own_within : All (λ s. s.0 < length bounds) path.steps = rw same at mine.within in
     let other_within : All (λ s. s.0 < length bounds) other.steps = rw same at is_path.within in
     let goes = goes_all p bounds t other.steps is_path.some other_joined
-    (λ k k_in. step_held p bounds r.amounts is.held (place_at other.steps k) (other_within k (0, false) k_in) (is_path.carried k (0, false) k_in)) in
+    (λ k k_in. step_held p bounds r.amounts t (place_at other.steps k) is.held (other_within k (0, false) k_in) (is_path.carried k (0, false) k_in)) in
     let exact = is_all p bounds t path.steps mine.some own_joined (λ k k_in. step_is p bounds t (place_at path.steps k) (own_within k (0, false) k_in) (is.tight k k_in)) in
     let first : before n bounds (place_at other.steps 0) ≡ before n bounds (place_at path.steps 0) = rw (same, root) at same_source in
     let last : behind n bounds (place_at other.steps (length other.steps - 1)) ≡ behind n bounds (place_at path.steps (length path.steps - 1)) = rw (same, root) at same_target in

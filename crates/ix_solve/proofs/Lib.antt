@@ -1,6 +1,6 @@
 mod Sums
 mod Moves
-mod Links
+pub mod Links
 mod Chosen
 mod Found
 mod Balanced

@@ -16,15 +16,15 @@ use Rattle.ix_residual.specs.Balances.{fresh, IsLongest, AreLongest}
 use Rattle.ix_residual.proofs.Ends.{room_each, room_most, room_some}
 use Rattle.ix_walks.specs.Search.{arc_at}
 use Rattle.ix_solve.specs.Flows.{flow_at, flow_in, flow_out, GainsAlong}
-use Rattle.ix_solve.specs.State.{HasTimes, IsState, IsReplay}
+use Rattle.ix_solve.specs.State.{HasTimes, AreTimes, IsState, IsReplay}
 use Rattle.ix_solve.proofs.Balanced.{settled_at, settled_sums, one_way, below_zero, above_zero, balance_there, balances_long, even_balances, parts_of}
 use Rattle.ix_solve.proofs.Found.{IsFound, residual_path, longest_found}
 use Rattle.ix_solve.proofs.Links.{arcs_for, arcs_long, from_there, to_there}
 use Rattle.ix_solve.proofs.Moves.{pushed_all}
 
 -- a path that is found between a node that has to spare and one that needs
-pub record IsWay (p : Problem) (bounds : List Bound) (r : Residual) (a b : ℕ) (path : Path) : Type 0 where
-  pub found : IsFound (length p.ops) (arcs_for p bounds) r.amounts a b path.steps
+pub record IsWay (p : Problem) (bounds : List Bound) (r : Residual) (t : ℕ → ℕ) (a b : ℕ) (path : Path) : Type 0 where
+  pub found : IsFound (length p.ops) (arcs_for p bounds) r.amounts t a b path.steps
   pub source_in : a ≤ length p.ops
   pub target_in : b ≤ length p.ops
   pub spare : 0 < spare_of (left_at r a)
@@ -47,11 +47,11 @@ ends_apart left a b s n e =
     let at : need_of (get_or left b (pos 0)) ≡ need_of (get_or left a (pos 0)) = ap (λ v. need_of (get_or left v (pos 0))) (sym e) in
     one_way (get_or left a (pos 0)) s (omega arith)
 
-pub taken : (p : Problem) (bounds : List Bound) (r : Residual) (a b : ℕ) (path : Path) → IsValidProblem p → All (IsBoundOf p) bounds → IsState p bounds r → IsWay p bounds r a b path → IsTaken p r a b path
-taken p bounds r a b path valid of h w =
+pub taken : (p : Problem) (bounds : List Bound) (r : Residual) (t : ℕ → ℕ) (a b : ℕ) (path : Path) → IsValidProblem p → All (IsBoundOf p) bounds → IsState p bounds r → IsWay p bounds r t a b path → IsTaken p r a b path
+taken p bounds r t a b path valid of h w =
     let n = length p.ops in
     let ne : a ≢ b = ends_apart r.left a b w.spare w.need in
-    let is = residual_path p bounds r a b path h.bounds_same h.left_len w.found ne in
+    let is = residual_path p bounds r t a b path h.bounds_same h.left_len w.found ne in
     let root : root_of r ≡ n = omega (arith, h.left_len) in
     let most = min (need_of (left_at r b)) (spare_of (left_at r a)) in
     let d_is : greatest r path ≡ room r.amounts most path.steps = rw (is.1, is.2) refl in
@@ -67,14 +67,14 @@ taken p bounds r a b path valid of h w =
         ends = rw (h.bounds_same, root) (λ k d k_in.
             (let inside = ends_inside p valid (get_or bounds k d) (of k d k_in) in
             let f = from_there p (get_or bounds k d) in
-            let t = to_there p (get_or bounds k d) in
+            let g = to_there p (get_or bounds k d) in
             (omega (arith, h.left_len, inside.0), omega (arith, h.left_len, inside.1))));
         is = is.0;
         spare = rw is.1 (below_zero (left_at r a) w.spare);
         need = rw is.2 (above_zero (left_at r b) w.need);
         fits = λ k d k_in along. (let r2 = h.room (get_or path.steps k d).0 (within k d k_in) in omega arith);
       };
-      longest = longest_found p bounds r a b path h.bounds_same h.left_len w.found ne;
+      longest = longest_found p bounds r t a b path h.bounds_same h.left_len w.found ne;
       source = is.1;
       target = is.2;
       apart = ne;
@@ -85,54 +85,51 @@ taken p bounds r a b path valid of h w =
     }
 
 -- a bound that has gained was gone along, and is met with equality
-used_after : (n : ℕ) (arcs : List Arc) (old new : List ℕ) (a b d : ℕ) (steps : List (ℕ × Bool)) (is : IsFound n arcs old a b steps) → GainsAlong old new d steps (length steps) →
-    (k : ℕ) → k < length arcs → 0 < get_or new k 0 → IsTight is.held.times (arc_at arcs k)
-used_after n arcs old new a b d steps is gains k k_in some =
+used_after : (n : ℕ) (arcs : List Arc) (old new : List ℕ) (t : ℕ → ℕ) (a b d : ℕ) (steps : List (ℕ × Bool)) → IsFound n arcs old t a b steps → GainsAlong old new d steps (length steps) →
+    (k : ℕ) → k < length arcs → 0 < get_or new k 0 → IsTight t (arc_at arcs k)
+used_after n arcs old new t a b d steps is gains k k_in some =
     elim (gains k) [
       | inl less ↦ is.held.used k k_in (omega arith)
-      | inr more ↦ (let j = more.1.0 in let t : IsTight is.held.times (arc_at arcs (place_at steps j).0) = is.tight j more.1.1 in rw more.1.2 at t)
+      | inr more ↦ (let j = more.1.0 in let u : IsTight t (arc_at arcs (place_at steps j).0) = is.tight j more.1.1 in rw more.1.2 at u)
     ]
 
 -- the state after the greatest amount is moved
-pub state_after : (p : Problem) (bounds : List Bound) (r new : Residual) (a b : ℕ) (path : Path) → IsState p bounds r → IsWay p bounds r a b path → IsTaken p r a b path → new ≡ augmented r path →
-    IsState p bounds new × (sum_by need_of new.left < sum_by need_of r.left)
-state_after p bounds r new a b path h w t en =
+pub state_after : (p : Problem) (bounds : List Bound) (r new : Residual) (t : ℕ → ℕ) (a b : ℕ) (path : Path) → IsState p bounds r → IsWay p bounds r t a b path → IsTaken p r a b path → new ≡ augmented r path →
+    IsState p bounds new × (sum_by need_of new.left < sum_by need_of r.left) × AreTimes (length p.ops) (arcs_for p bounds) new.amounts t
+state_after p bounds r new t a b path h w k en =
     let arcs = arcs_for p bounds in
     let d = greatest r path in
     let same : length r.amounts ≡ length arcs = omega (arith, h.amounts_len, arcs_long p bounds) in
-    let pushed = pushed_all arcs r.amounts a d path.steps w.found.walk same t.falls in
+    let pushed = pushed_all arcs r.amounts a d path.steps w.found.walk same k.falls in
     let amounts : new.amounts ≡ moved r.amounts d path.steps = ap (λ (x : Residual). x.amounts) en in
-    let left : new.left ≡ settled r.left a b d = ap (λ (x : Residual). x.left) en ∙ rw (t.source, t.target) refl in
+    let left : new.left ≡ settled r.left a b d = ap (λ (x : Residual). x.left) en ∙ rw (k.source, k.target) refl in
     let a_in : a < length r.left = omega (arith, h.left_len, w.source_in) in
     let b_in : b < length r.left = omega (arith, h.left_len, w.target_in) in
-    let sums = settled_sums r.left a b d a_in b_in t.apart t.spare_low t.need_low in
-    let some = t.some in (
+    let sums = settled_sums r.left a b d a_in b_in k.apart k.spare_low k.need_low in
+    let some = k.some in
+    let used = used_after (length p.ops) arcs r.amounts (moved r.amounts d path.steps) t a b d path.steps w.found pushed.gains in (
       record {
         bounds_same = ap (λ (x : Residual). x.bounds) en ∙ h.bounds_same;
         amounts_len = rw amounts (omega (arith, pushed.same_len, arcs_long p bounds));
         left_len = rw left (settled_len r.left a b d ∙ h.left_len);
-        held = rw amounts (record {
-          times = w.found.held.times;
-          low = w.found.held.low;
-          met = w.found.held.met;
-          used = used_after (length p.ops) arcs r.amounts (moved r.amounts d path.steps) a b d path.steps w.found pushed.gains;
-        });
+        held = rw amounts (record { times = t; low = w.found.held.low; met = w.found.held.met; used = used });
         even = rw left (omega (arith, h.even));
-        room = λ k k_in. rw (amounts, left) (
-            let room_k = h.room k k_in in
-            let low = t.need_low in
-            elim (pushed.gains k) [
+        room = λ i i_in. rw (amounts, left) (
+            let room_k = h.room i i_in in
+            let low = k.need_low in
+            elim (pushed.gains i) [
               | inl less ↦ omega arith
               | inr more ↦ (let e = more.0 in omega arith)
             ]);
         balanced = λ v v_in. rw (amounts, left) (
             let m = pushed.moved v in
             let m2 : flow_in arcs (moved r.amounts d path.steps) v + flow_out arcs r.amounts v + cond (a == v) d 0 ≡ flow_out arcs (moved r.amounts d path.steps) v + flow_in arcs r.amounts v + cond (b == v) d 0 = rw w.found.ends at m in
-            let s = settled_at r.left a b d v a_in b_in t.apart t.spare_low t.need_low in
+            let s = settled_at r.left a b d v a_in b_in k.apart k.spare_low k.need_low in
             let old = h.balanced v v_in in
             omega arith);
       },
       rw left (omega arith),
+      rw amounts (record { low = w.found.held.low; met = w.found.held.met; used = used }),
     )
   where
     settled_len : (left : List ℤ) (a b d : ℕ) → length (settled left a b d) ≡ length left

@@ -1,17 +1,17 @@
 -- A flow on its way (successive longest paths): what each node still needs and what it has to spare.
-use Rattle.std.specs.Prelude.{ℕ, pos, ◌≡◌, ◌+◌, ◌≤◌, ◌<◌, ◌^◌, List, length, map, slice_index, sum_by, take, All}
+use Rattle.std.specs.Prelude.{ℕ, pos, Bool, true, false, ◌≡◌, ◌==◌, if◌then◌else◌, [], ◌∷◌, ◌+◌, ◌≤◌, ◌<◌, ◌^◌, List, length, map, slice_index, sum_by, take, All}
 use Rattle.ix_sheet.specs.declared.problem.Arc.{Arc}
 use Rattle.ix_sheet.specs.declared.problem.Bound.{Bound}
 use Rattle.ix_sheet.specs.declared.problem.Problem.{Problem}
 use Rattle.ix_sheet.specs.Bounds.{Meets, IsTight, turned, arc_of, weight_in, weight_out}
 use Rattle.ix_residual.specs.declared.residual.Path.{Path}
 use Rattle.ix_residual.specs.declared.residual.Residual.{Residual}
-use Rattle.ix_residual.specs.Residuals.{need_of, spare_of, left_at, replayed, AreAugmentations}
+use Rattle.ix_residual.specs.Residuals.{Step, need_of, spare_of, left_at, replayed, AreAugmentations}
 use Rattle.ix_residual.specs.Balances.{fresh, balances, AreLongest}
 use Rattle.ix_walks.specs.declared.network.Network.{Network}
 use Rattle.ix_walks.specs.declared.search.TheConstants.{LIMIT}
 use Rattle.ix_walks.specs.Search.{arc_at, IsFeasible}
-use Rattle.ix_walks.specs.Networks.{IsNetwork, IsResidual}
+use Rattle.ix_walks.specs.Networks.{IsNetwork, IsResidual, IsTightPath}
 use Rattle.ix_solve.specs.declared.meet.Met.{Met}
 use Rattle.ix_solve.specs.Flows.{flow_in, flow_out}
 
@@ -21,6 +21,12 @@ pub record HasTimes (n : ℕ) (arcs : List Arc) (amounts : List ℕ) : Type 0 wh
   pub low : (v : ℕ) → v ≤ n → times v ≤ LIMIT
   pub met : All (Meets times) arcs
   pub used : (k : ℕ) → k < length arcs → 0 < slice_index amounts k → IsTight times (arc_at arcs k)
+
+-- .. as these times do
+pub record AreTimes (n : ℕ) (arcs : List Arc) (amounts : List ℕ) (t : ℕ → ℕ) : Type 0 where
+  pub low : (v : ℕ) → v ≤ n → t v ≤ LIMIT
+  pub met : All (Meets t) arcs
+  pub used : (k : ℕ) → k < length arcs → 0 < slice_index amounts k → IsTight t (arc_at arcs k)
 
 -- what the nodes need is what they have to spare, no amount can pass 2 ^ 64, and amounts and what is left come to the balances
 pub record IsState (p : Problem) (bounds : List Bound) (r : Residual) : Type 0 where
@@ -46,6 +52,32 @@ pub record IsNetworkOf (p : Problem) (bounds : List Bound) (net : Network) : Typ
   pub root : net.root ≡ length p.ops
   pub count : net.bounds ≡ length bounds
   pub kept : take net.bounds net.arcs.items ≡ map (arc_of p) bounds
+
+-- a flow on its way, the paths that made it, and times that go with it
+pub record IsOnWay (p : Problem) (bounds : List Bound) (net : Network) (t : ℕ → ℕ) (r : Residual) (paths : List Path) : Type 0 where
+  pub state : IsState p bounds r
+  pub replay : IsReplay p bounds r paths
+  pub network : IsNetworkOf p bounds net
+  pub times : AreTimes (length p.ops) (map (arc_of p) bounds) r.amounts t
+
+-- all that steps go against carries an amount
+abbrev pub are_carried : List ℕ → List Step → Bool
+are_carried amounts [] = true
+are_carried amounts (s ∷ rest) = if s.1 then are_carried amounts rest else (if slice_index amounts s.0 == 0 then false else are_carried amounts rest)
+
+-- a path that the times meet with equality, from a node that has to spare to one that needs, and an amount can move along it
+pub record IsOpen (net : Network) (t : ℕ → ℕ) (r : Residual) (a b : ℕ) (path : Path) : Type 0 where
+  pub tight : IsTightPath net.arcs.items net.bounds t a b path.steps
+  pub carried : are_carried r.amounts path.steps ≡ true
+  pub source_in : a ≤ net.root
+  pub target_in : b ≤ net.root
+  pub spare : 0 < spare_of (left_at r a)
+  pub need : 0 < need_of (left_at r b)
+
+-- .. from some node
+pub record LeadsTo (net : Network) (t : ℕ → ℕ) (r : Residual) (b : ℕ) (path : Path) : Type 0 where
+  pub source : ℕ
+  pub is : IsOpen net t r source b path
 
 -- all is met, and the network is that of the amounts
 pub record IsMet (p : Problem) (bounds : List Bound) (net : Network) (met : Met) : Type 0 where

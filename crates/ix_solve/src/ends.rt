@@ -1,6 +1,6 @@
 //! Where an amount may still go from and to.
 
-ghost use Rattle.std.specs.Prelude.{◌≡◌, ◌⊎◌, ◌<◌, ◌≤◌, ◌^◌, pos, length, IfSome, IsNone, All, slice_index_or};
+ghost use Rattle.std.specs.Prelude.{◌≡◌, ◌⊎◌, ◌<◌, ◌≤◌, ◌^◌, pos, length, IfSome, IsNone, IsTrue, All, slice_index_or};
 ghost use Rattle.ix_residual.specs.Residuals.{need_of, spare_of};
 
 fn first_needing(left: &[i64]) -> Option<usize>
@@ -41,4 +41,20 @@ pub fn ends_left(left: &[i64]) -> Option<(u32, u32)>
         return None;
     };
     Some((source as u32, target as u32))
+}
+
+/// Whether a node needs.
+pub fn needs(left: &[i64], node: usize) -> bool
+    requires { node < length left.now }
+    ensures { IsTrue result → 0 < need_of (slice_index_or left.now node (pos 0)) }
+{
+    left[node] > 0
+}
+
+/// Whether a node has to spare.
+pub fn spares(left: &[i64], node: usize) -> bool
+    requires { node < length left.now }
+    ensures { IsTrue result → 0 < spare_of (slice_index_or left.now node (pos 0)) }
+{
+    left[node] < 0
 }

@@ -6,6 +6,8 @@ mod ends;
 mod meet;
 mod network;
 mod schedule;
+mod trees;
 
 pub use ix_residual::{Path, Residual};
-pub use schedule::{SolveErr, Solved, Traced, solve, solve_traced};
+pub use network::network_of;
+pub use schedule::{SolveErr, Solved, Traced, cycle_of, solve, solve_traced};

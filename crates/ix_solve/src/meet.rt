@@ -8,10 +8,11 @@ ghost use Rattle.ix_walks.specs.Search.{IsFeasible};
 ghost use Rattle.ix_solve.specs.State.{IsMet};
 
 use crate::ends::ends_left;
+use crate::trees::exhaust;
 use ix_bits::{List, Memory};
 use ix_residual::{Path, Residual};
 use ix_sheet::{Bound, Problem};
-use ix_walks::{Network, longest_path};
+use ix_walks::{Longest, Network, longest_path, touching};
 use std::alloc::Global;
 
 /// A flow, and the paths along which its amounts have moved, in order.
@@ -38,15 +39,17 @@ pub fn meet(
 {
     let mut residual = Residual::new(alloc, p, bounds)?;
     let mut paths = List::new(alloc);
+    let lists = touching(alloc, network)?;
     'paths: loop {
         network.turn(residual.amounts.as_slice())?;
         let Some((source, target)) = ends_left(residual.left.as_slice()) else {
             return Ok(Met { residual, paths });
         };
-        let path = Path {
-            steps: longest_path(alloc, network, source, target)?,
-        };
+        let Longest { steps, times } = longest_path(alloc, network, source, target)?;
+        let path = Path { steps };
         residual.augment(alloc, &path);
         paths.push(path)?;
+        let times = times.as_slice();
+        exhaust(alloc, p, network, lists.as_slice(), times, &mut residual, &mut paths)?;
     }
 }

@@ -79,8 +79,8 @@ fn copy_of(alloc: Global, bound: &Bound) -> Result<Bound, Memory>
     }
 }
 
-// the bounds at these places
-fn cycle_of(alloc: Global, bounds: &[Bound], places: &[usize]) -> Result<List<Bound>, Memory>
+/// The bounds at these places.
+pub fn cycle_of(alloc: Global, bounds: &[Bound], places: &[usize]) -> Result<List<Bound>, Memory>
     requires { All (λ k. k < length bounds.now) places.now }
     ensures { IfOk result (λ cycle. cycle ≡ map (bound_at bounds.now) places.now) }
 {

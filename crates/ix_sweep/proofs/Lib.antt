@@ -1,5 +1,4 @@
 pub mod Later
-mod Places
 mod Feasible
 pub mod Widest
 pub mod Entries

@@ -7,3 +7,4 @@ pub mod Trails
 pub mod Paths
 pub mod Residuals
 pub mod Turning
+pub mod Forests

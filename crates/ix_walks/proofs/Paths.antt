@@ -74,7 +74,7 @@ two_ways false true from to = inl refl
 two_ways false false from to = inr refl
 
 -- a bound's step ends at one of the bound's two ends
-two_ends : (arcs : List Arc) (p q : ℕ × Bool) → p.0 ≡ q.0 → (step_to arcs q ≡ step_from arcs p) ⊎ (step_to arcs q ≡ step_to arcs p)
+pub two_ends : (arcs : List Arc) (p q : ℕ × Bool) → p.0 ≡ q.0 → (step_to arcs q ≡ step_from arcs p) ⊎ (step_to arcs q ≡ step_to arcs p)
 two_ends arcs p q e = rw e (two_ways p.1 q.1 (arc_at arcs q.0).from (arc_at arcs q.0).to)
 
 pub path_joined : (n source base cap : ℕ) (net : Network) (reach last : List ℕ) (log : List Step) (t k : ℕ) (js : List ℕ) →

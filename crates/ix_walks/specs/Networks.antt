@@ -37,14 +37,17 @@ abbrev pub node_after : List Arc → ℕ → List (ℕ × Bool) → ℕ → ℕ
 node_after arcs a steps zero = a
 node_after arcs a steps (suc k) = step_to arcs (place_at steps k)
 
--- a path from a to b whose steps join and name no inequality twice, and times that meet the network, and the path with equality
-pub record IsLongestPath (net : Network) (a b : ℕ) (steps : List (ℕ × Bool)) : Type 0 where
-  pub within : (k : ℕ) → k < length steps → (place_at steps k).0 < net.bounds
-  pub joined : (k : ℕ) → k < length steps → step_from net.arcs.items (place_at steps k) ≡ node_after net.arcs.items a steps k
-  pub ends : node_after net.arcs.items a steps (length steps) ≡ b
+-- a path from a to b over the first m inequalities, whose steps join and name none twice, and which the times meet with equality
+pub record IsTightPath (arcs : List Arc) (m : ℕ) (t : ℕ → ℕ) (a b : ℕ) (steps : List (ℕ × Bool)) : Type 0 where
+  pub within : (k : ℕ) → k < length steps → (place_at steps k).0 < m
+  pub joined : (k : ℕ) → k < length steps → step_from arcs (place_at steps k) ≡ node_after arcs a steps k
+  pub ends : node_after arcs a steps (length steps) ≡ b
   pub once : IsOnce steps
+  pub tight : (k : ℕ) → k < length steps → IsTight t (arc_at arcs (place_at steps k).0)
+
+-- such a path that goes against none but those that are turned round; and the times meet the network
+pub record IsLongestPath (net : Network) (t : ℕ → ℕ) (a b : ℕ) (steps : List (ℕ × Bool)) : Type 0 where
+  pub path : IsTightPath net.arcs.items net.bounds t a b steps
   pub carried : (k : ℕ) → k < length steps → (place_at steps k).1 ≡ false → Contains net.back.items (place_at steps k).0
-  pub times : ℕ → ℕ
-  pub low : (v : ℕ) → v ≤ net.root → times v ≤ LIMIT
-  pub met : All (Meets times) net.arcs.items
-  pub tight : (k : ℕ) → k < length steps → IsTight times (arc_at net.arcs.items (place_at steps k).0)
+  pub low : (v : ℕ) → v ≤ net.root → t v ≤ LIMIT
+  pub met : All (Meets t) net.arcs.items

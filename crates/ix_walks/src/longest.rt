@@ -1,6 +1,6 @@
 //! Longest paths over inequalities that some times meet, and the least of these times.
 
-ghost use Rattle.std.specs.Prelude.{◌≡◌, ◌<◌, ◌≤◌, length, map, IfOk, All};
+ghost use Rattle.std.specs.Prelude.{◌≡◌, ◌+◌, ◌<◌, ◌≤◌, length, map, slice_index, IfOk, All};
 ghost use Rattle.ix_sheet.specs.Bounds.{IsTight, Meets};
 ghost use Rattle.ix_walks.specs.Networks.{IsLongestPath, IsNetwork, step_of};
 ghost use Rattle.ix_walks.specs.Search.{AreApart, AreLeast, Follows, IsFeasible, IsFramed, IsSearch, reach_at, step_at};
@@ -69,21 +69,32 @@ fn path_of(
     Ok(path)
 }
 
-/// A longest path between two nodes: the places of inequalities, each gone along (true) or turned round (false).
+/// A longest path: the places of inequalities, each gone along (true) or turned round (false); and times that meet all
+/// inequalities, and with equality those of the path, the root's last.
+#[derive(Drop)]
+pub struct Longest {
+    pub steps: List<(u32, bool)>,
+    pub times: Vec<u8>,
+}
+
+/// A longest path between two nodes.
 pub fn longest_path(
     alloc: Global,
     network: &Network,
     source: u32,
     target: u32,
-) -> Result<List<(u32, bool)>, Memory>
+) -> Result<Longest, Memory>
     requires network { IsNetwork network.now }
     requires ends { (source ≤ network.now.root) × (target ≤ network.now.root) }
     requires feasible { IsFeasible network.now.root network.now.arcs.items }
-    ensures { IfOk result (IsLongestPath network.now source target) }
+    ensures length { IfOk result (λ found. length found.times.items ≡ network.now.root + 1) }
+    ensures longest { IfOk result (λ found. IsLongestPath network.now (slice_index found.times.items) source target found.steps) }
 {
     let search = reached(alloc, network, source)?;
     let steps = trail(alloc, &search, target, network)?;
-    path_of(alloc, steps.as_slice(), search.log.as_slice(), network)
+    let steps = path_of(alloc, steps.as_slice(), search.log.as_slice(), network)?;
+    let times = times_of(alloc, &search, network.root)?;
+    Ok(Longest { steps, times })
 }
 
 /// The least times that meet all inequalities, the root's last.

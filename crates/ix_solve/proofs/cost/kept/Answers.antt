@@ -1,4 +1,4 @@
-use Rattle.std.proofs.Common.{arith, ℕ, ◌≡◌, ◌+◌, ◌-◌, ◌*◌, ◌≤◌, slice_index_or, get_or}
+use Rattle.std.proofs.Common.{arith, ℕ, ◌*◌, ◌≤◌, get_or}
 use Rattle.std.proofs.Math.Nat.{mul-le-mul}
 use Rattle.ix_residual.proofs.Counts.{weight_low}
 use Rattle.ix_solve.proofs.cost.kept.Goals as goal

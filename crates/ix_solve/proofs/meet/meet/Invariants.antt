@@ -1,5 +1,6 @@
 use Rattle.std.specs.Prelude.{sum_by}
 use Rattle.ix_residual.specs.Residuals.{need_of}
+use Rattle.ix_walks.specs.Forests.{AreTouching}
 use Rattle.ix_solve.specs.State.{IsState, IsReplay, IsNetworkOf}
 use Rattle.ix_solve.proofs.meet.meet.Given as goal
 
@@ -8,6 +9,7 @@ invariant-paths l = record {
   state : IsState l.fn.p l.fn.bounds l.residual;
   replay : IsReplay l.fn.p l.fn.bounds l.residual l.paths;
   network : IsNetworkOf l.fn.p l.fn.bounds l.network;
+  touching : AreTouching l.network.root l.network.bounds l.lists.items;
 }
 
 abbrev pub decreases-paths : goal.decreases-paths
