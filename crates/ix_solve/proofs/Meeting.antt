@@ -90,13 +90,15 @@ pub met_along : (p : Problem) (bounds : List Bound) (net : Network) (t : ℕ →
     IsOnWay p bounds net t new more × (sum_by need_of new.left < sum_by need_of r.left)
 met_along p bounds net t r new paths more a b path valid of state replay network way en em =
     let k = taken p bounds r t a b path valid of state way in
-    let after = state_after p bounds r new t a b path state way k en in
-    (record {
-      state = after.0;
-      replay = replay_after p bounds r new paths more a b path replay k en after.1 em;
-      network = network;
-      times = after.2;
-    }, after.1)
+    let after = state_after p bounds r new t a b path state way k en in (
+      record {
+        state = after.0;
+        replay = replay_after p bounds r new paths more a b path replay k en after.1 em;
+        network = network;
+        times = after.2;
+      },
+      after.1,
+    )
 
 -- .. as the times and the bounds are read
 pub on_own_bounds : (p : Problem) (bounds : List Bound) (net : Network) (times given : List ℕ) (r : Residual) (paths : List Path) → given ≡ times → IsOnWay p bounds net (λ v. get_or times v 0) r paths →

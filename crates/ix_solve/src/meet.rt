@@ -50,6 +50,14 @@ pub fn meet(
         residual.augment(alloc, &path);
         paths.push(path)?;
         let times = times.as_slice();
-        exhaust(alloc, p, network, lists.as_slice(), times, &mut residual, &mut paths)?;
+        exhaust(
+            alloc,
+            p,
+            network,
+            lists.as_slice(),
+            times,
+            &mut residual,
+            &mut paths,
+        )?;
     }
 }

@@ -93,12 +93,12 @@ trees_more n m arcs t roots log more entries new b count h inside none parent wi
       grown = λ k from k_in. elim (below_or_last k (length log) (omega arith)) [
         | inl low ↦ branch_more arcs m t log b k low (h.grown k from low)
         | inr at ↦ rw at (record {
-            earlier = rw last parent;
-            within = rw last within;
-            joined = rw (last, before) joined;
-            ends = rw last ends;
-            tight = rw last tight;
-          })
+          earlier = rw last parent;
+          within = rw last within;
+          joined = rw (last, before) joined;
+          ends = rw last ends;
+          tight = rw last tight;
+        })
       ];
     })
 
@@ -116,12 +116,12 @@ entries_begun n log more entries new b count h at em ec en =
             (let old = h.found v k (sym (get_or_append_left entries (Some (length log) ∷ []) None v (omega (arith, h.len))) ∙ e) in
             (omega (arith, old.0), ap (λ (x : Branch). x.node) (branch_old log b k old.0) ∙ old.1))
         | inr high ↦ elim (same_or_not v n) [
-            | inl same ↦
-                (let is : k ≡ length log = some_same k (length log) (sym e ∙ ap (entry_at (entries ++ Some (length log) ∷ [])) same ∙ here) in
-                rw (is, same, branch_new log b) (omega arith, at))
-            | inr other ↦ absurd (some_or_none (entry_at (entries ++ Some (length log) ∷ []) v) k e
-                (get_or_past (entries ++ Some (length log) ∷ []) v None (omega (arith, length_push entries (Some (length log)), h.len))))
-          ]
+          | inl same ↦
+              (let is : k ≡ length log = some_same k (length log) (sym e ∙ ap (entry_at (entries ++ Some (length log) ∷ [])) same ∙ here) in
+              rw (is, same, branch_new log b) (omega arith, at))
+          | inr other ↦ absurd (some_or_none (entry_at (entries ++ Some (length log) ∷ []) v) k e
+              (get_or_past (entries ++ Some (length log) ∷ []) v None (omega (arith, length_push entries (Some (length log)), h.len))))
+        ]
       ];
       known = λ k k_in. elim (below_or_last k (length log) (omega arith)) [
         | inl low ↦
@@ -140,10 +140,10 @@ entries_none n log entries new h en =
       found = λ v k e. elim (below_or_not v n) [
         | inl low ↦ h.found v k (sym (get_or_append_left entries (None ∷ []) None v (omega (arith, h.len))) ∙ e)
         | inr high ↦ elim (same_or_not v n) [
-            | inl same ↦ absurd (some_or_none (entry_at (entries ++ None ∷ []) v) k e (ap (entry_at (entries ++ None ∷ [])) same ∙ here))
-            | inr other ↦ absurd (some_or_none (entry_at (entries ++ None ∷ []) v) k e
-                (get_or_past (entries ++ None ∷ []) v None (omega (arith, length_push entries None, h.len))))
-          ]
+          | inl same ↦ absurd (some_or_none (entry_at (entries ++ None ∷ []) v) k e (ap (entry_at (entries ++ None ∷ [])) same ∙ here))
+          | inr other ↦ absurd (some_or_none (entry_at (entries ++ None ∷ []) v) k e
+              (get_or_past (entries ++ None ∷ []) v None (omega (arith, length_push entries None, h.len))))
+        ]
       ];
       known = λ k k_in.
           (let old = h.known k k_in in
