@@ -83,6 +83,7 @@ setting d image waits =
       asks = λ word. asks_in d word (decoded_in (view_extension d.extension) word);
       units = first_units d.sheet.shape.stages d.plans;
     }
+
 -- how many accesses the steps before this place make: the number of the access of the step there, from 0
 unfoldable pub accesses_before : Course → ℕ → ℕ
 accesses_before run zero = 0
@@ -115,4 +116,3 @@ has_tail (Some (Some c)) s = (c.serial == s) && is_tail c.hold
 unfoldable pub tailed : Setting → List Row → ℕ → ℕ
 tailed k [] s = 0
 tailed k (row ∷ earlier) s = if has_tail (slice_get (stages_of k row) (k.shape.stages - 1)) s then suc (tailed k earlier s) else 0
-

@@ -85,12 +85,12 @@ module _ (d : Design) (stands : Stands d) (never : NeverSpawns d) where
       let w = there (behaviours_of x) k (omega (arith, inside, plans)) in
       let n = there d.nets k (omega (arith, inside, plans, nets)) in
       by (is_block w.item) p.mode (stands.built.each k w.item p n.item w.is e n.is).planned.mode
-      where
-        by : (block : Bool) (m : Mode) → IsModeOf p.graph d.sheet block m → is_decoupled m ≡ false
-        by block InPipeline mode = refl
-        by block Tight mode = refl
-        by block Always mode = refl
-        by block Decoupled mode = absurd (never k p e mode.1)
+    where
+      by : (block : Bool) (m : Mode) → IsModeOf p.graph d.sheet block m → is_decoupled m ≡ false
+      by block InPipeline mode = refl
+      by block Tight mode = refl
+      by block Always mode = refl
+      by block Decoupled mode = absurd (never k p e mode.1)
 
   plan_quiet : (word n : ℕ) (p : Plan) → slice_get d.plans n ≡ Some p → SpawnsNothing (asks_of d word (unit_of d.plans n) p)
   plan_quiet word n p e =
