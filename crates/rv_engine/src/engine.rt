@@ -9,12 +9,12 @@ ghost use Rattle.rv_seq.specs.Steps.{word_at as specified_word_at};
 ghost use Rattle.rv_holds.specs.Tokens.{or_else};
 ghost use Rattle.rv_holds.specs.Flushing.{remains as specified_remains, fetch_after};
 ghost use Rattle.rv_engine.specs.Settings.{setting};
-ghost use Rattle.rv_engine.specs.Rows.{unless, next_after, new_by, loaded_by, arch_after, file_after as specified_file_after, going as specified_going, IsRowOf, machine_after};
+ghost use Rattle.rv_engine.specs.Rows.{unless, next_after, new_by, loaded_by, arch_after, IsRowOf, machine_after};
 ghost use Rattle.rv_engine.specs.Kept.{machine_with, machine_of, AreFitting, IsFit, AreStoredInside};
 
-use crate::filling::{fetched, fill_first, next_serial};
+use crate::filling::fetch;
 use crate::front::{Front, Kept};
-use crate::moving::{accesses_then, advance, file_after, going, retired_in, stood_then};
+use crate::moving::{accesses_then, advance, last, put_writes, retired_in, stood_then};
 use crate::reading::{owed_in, read};
 use crate::trying::{load, try_executing};
 use ix_bits::Bits;
@@ -95,22 +95,13 @@ fn prepare(
     ensures fitting { AreFitting (view_extension design.now.extension) slots.new }
 {
     let shape = design.sheet.shape;
-    let new = fetched(design, asking, front, future, word_at(image, front.fetch));
-    let next = next_serial(front.next, slots, &new);
-    fill_first(slots, new);
+    let word = word_at(image, front.fetch);
+    let next = fetch(design, asking, front, future, word, slots);
     read(shape, &arch.x, owed_in(waits, front), slots);
     try_executing(design, future, &arch.mem, slots, scratch);
     decide(shape, slots);
     load(design, &arch.mem, slots, scratch);
     next
-}
-
-/// The future file after a row: the early writes of the token that goes on from EX over the late ones of the token that goes out.
-fn future_after(executing: &Option<Token>, left: &Option<Token>, future: &[Bits; 16]) -> [Bits; 16]
-    ensures { result ≡ specified_file_after false (specified_going executing.now) (specified_file_after true left.now future.now) }
-{
-    let late = file_after(true, left, future);
-    file_after(false, &going(executing), &late)
 }
 
 /// One row of the slots of the stages, and what is kept after it.
@@ -150,14 +141,14 @@ fn row_of(
     let stopped = stop_in(shape, slots);
     let fetch = next_fetch(shown.redirect, front.fetch, slots);
     let stop = stop_of_row(image, stopped, slots, fetch);
-    let executing = slots[usize::from(shape.ex)];
-    let memory = slots[usize::from(shape.mem)];
-    let accesses = accesses_then(front.accesses, &memory);
-    let stood = stood_then(front.stood, &memory);
-    let left = advance(slots);
-    let retired = retired_in(&left);
-    *future = future_after(&executing, &left, future);
+    let memory = usize::from(shape.mem);
+    let accesses = accesses_then(front.accesses, &slots[memory]);
+    let stood = stood_then(front.stood, &slots[memory]);
+    let retired = retired_in(last(slots));
+    put_writes(true, last(slots), future);
+    put_writes(false, &slots[usize::from(shape.ex)], future);
     retire(arch, &retired);
+    advance(slots);
     *front = Front {
         fetch,
         next,
@@ -198,8 +189,7 @@ pub fn make_row(
     ensures scratch { IsScratchOf (view_extension design.now.extension) scratch.new }
 {
     let stages = usize::from(design.sheet.shape.stages);
-    let mut slots = kept.slots;
-    let row = row_of(
+    row_of(
         design,
         asking,
         image,
@@ -207,9 +197,7 @@ pub fn make_row(
         &mut kept.front,
         &mut kept.future,
         &mut kept.arch,
-        &mut slots[..stages],
+        &mut kept.slots[..stages],
         scratch,
-    );
-    kept.slots = slots;
-    row
+    )
 }

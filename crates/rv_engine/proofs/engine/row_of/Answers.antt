@@ -18,8 +18,8 @@ retire-requires c =
     let turn = turn_of c.args.design.now.sheet.shape c.args.front.now.fetch c.prepare-next.new.slots in
     let seen : AreFitting x c.flush-shown.new.slots =
     subst (λ (z : Slots). AreFitting x z) (sym c.flush-shown.ensures.slots) (cleared_fitting x (struck turn) c.prepare-next.new.slots c.prepare-next.ensures.fitting) in
-    let left : IsFittingSlot x c.advance-left.result = left_fitting x c.flush-shown.new.slots c.advance-left.result c.advance-left.ensures.left seen in
-    subst (λ (o : Option (ℕ × Commit)). AreStoredInside o) (sym c.retired_in-retired.ensures) (stored_inside x c.advance-left.result left)
+    let left : IsFittingSlot x (going c.last.result.now) = left_fitting x c.flush-shown.new.slots (going c.last.result.now) c.last.ensures seen in
+    subst (λ (o : Option (ℕ × Commit)). AreStoredInside o) (sym c.retired_in-retired.ensures) (stored_inside x (going c.last.result.now) left)
 
 pub returns-clause-future : goal.returns-clause-future
 returns-clause-future c =
@@ -28,13 +28,14 @@ returns-clause-future c =
     let turn = turn_of shape c.args.front.now.fetch c.prepare-next.new.slots in
     let seen : AreFitting x c.flush-shown.new.slots =
     subst (λ (z : Slots). AreFitting x z) (sym c.flush-shown.ensures.slots) (cleared_fitting x (struck turn) c.prepare-next.new.slots c.prepare-next.ensures.fitting) in
-    let left : IsFittingSlot x c.advance-left.result = left_fitting x c.flush-shown.new.slots c.advance-left.result c.advance-left.ensures.left seen in
-    let inside : c.from.result < length c.flush-shown.new.slots =
-    omega (arith, c.from.ensures, c.flush-shown.auto.slots, c.prepare-next.ensures.stages, shape.lawful.memory_late, shape.lawful.memory_inside) in
-    let executing : IsFittingSlot x c.index-slots-from.result = element_fitting x c.flush-shown.new.slots c.from.result c.index-slots-from.result seen inside c.index-slots-from.is in
-    subst (λ (file : List Bits). AreWide x file) (sym c.future_after.ensures)
-    (file_wide x false (going c.index-slots-from.result) (file_after true c.advance-left.result c.args.future.now) (going_fitting x c.index-slots-from.result executing)
-    (file_wide x true c.advance-left.result c.args.future.now left c.requires.future))
+    let left : IsFittingSlot x (going c.last-2.result.now) = left_fitting x c.flush-shown.new.slots (going c.last-2.result.now) c.last-2.ensures seen in
+    let inside : c.from-2.result < length c.flush-shown.new.slots =
+    omega (arith, c.from-2.ensures, c.flush-shown.auto.slots, c.prepare-next.ensures.stages, shape.lawful.memory_late, shape.lawful.memory_inside) in
+    let executing : IsFittingSlot x c.index-slots-from.result = element_fitting x c.flush-shown.new.slots c.from-2.result c.index-slots-from.result seen inside c.index-slots-from.is in
+    let late : AreWide x c.put_writes.new.file =
+    subst (λ (file : List Bits). AreWide x file) (sym c.put_writes.ensures) (file_wide x true (going c.last-2.result.now) c.args.future.now left c.requires.future) in
+    subst (λ (file : List Bits). AreWide x file) (sym c.put_writes-2.ensures)
+    (file_wide x false (going c.index-slots-from.result) c.put_writes.new.file (going_fitting x c.index-slots-from.result executing) late)
 
 pub returns-clause-fitting : goal.returns-clause-fitting
 returns-clause-fitting c =
@@ -42,4 +43,4 @@ returns-clause-fitting c =
     let turn = turn_of c.args.design.now.sheet.shape c.args.front.now.fetch c.prepare-next.new.slots in
     let seen : AreFitting x c.flush-shown.new.slots =
     subst (λ (z : Slots). AreFitting x z) (sym c.flush-shown.ensures.slots) (cleared_fitting x (struck turn) c.prepare-next.new.slots c.prepare-next.ensures.fitting) in
-    subst (λ (z : Slots). AreFitting x z) (sym c.advance-left.ensures.slots) (advanced_fitting x None c.flush-shown.new.slots tt seen)
+    subst (λ (z : Slots). AreFitting x z) (sym c.advance.ensures) (advanced_fitting x None c.flush-shown.new.slots tt seen)
