@@ -54,13 +54,18 @@ placed_ex x k future memory slots n s r e lt h g =
     ∙ sym (at_ex x k future memory 0 n slots s (omega (arith, e)) (omega (arith, e, lt)) h)
 
 -- a slot whose token was tried if it is to be
-pub tried_here : (x : ExtensionTree) (k : Shape) (future : List Bits) (memory : List ℕ) (s r : Option Token) (ripe : Bool) (older : Slots) → IfSome s (λ t. ripe ≡ is_ripe k k.ex t older)
-    → r ≡ option_map (λ t. if ripe then tried_with x memory (seeing future t.inputs) t else t) s → r ≡ with_trial x k future memory k.ex s older
-tried_here x k future memory None r ripe older i e = e
-tried_here x k future memory (Some t) r ripe older i e = e ∙ ap (λ (b : Bool). Some (if b then tried_with x memory (seeing future t.inputs) t else t)) i ∙ by_case (is_ripe k k.ex t older) where
+tried_token : (x : ExtensionTree) (k : Shape) (future : List Bits) (memory : List ℕ) (s : Option Token) (ripe : Bool) (older : Slots) → IfSome s (λ t. ripe ≡ is_ripe k k.ex t older)
+    → option_map (λ t. if ripe then tried_with x memory (seeing future t.inputs) t else t) s ≡ with_trial x k future memory k.ex s older
+tried_token x k future memory None ripe older i = refl
+tried_token x k future memory (Some t) ripe older i = ap (λ (b : Bool). Some (if b then tried_with x memory (seeing future t.inputs) t else t)) i ∙ by_case (is_ripe k k.ex t older) where
   by_case : (b : Bool) → ◌≡◌ {A = Option Token} (Some (if b then tried_with x memory (seeing future t.inputs) t else t)) (if b then Some (tried_with x memory (seeing future t.inputs) t) else Some t)
   by_case true = refl
   by_case false = refl
+
+pub tried_here : (x : ExtensionTree) (k : Shape) (future : List Bits) (memory : List ℕ) (s u r : Option Token) (ripe : Bool) (older : Slots) → u ≡ s → IfSome s (λ t. ripe ≡ is_ripe k k.ex t older)
+    → r ≡ option_map (λ t. if ripe then tried_with x memory (seeing future t.inputs) t else t) u → r ≡ with_trial x k future memory k.ex s older
+tried_here x k future memory s u r ripe older same i e =
+    e ∙ ap (λ (v : Option Token). option_map (λ t. if ripe then tried_with x memory (seeing future t.inputs) t else t) v) same ∙ tried_token x k future memory s ripe older i
 
 load_elsewhere : (x : ExtensionTree) (k : Shape) (memory : List ℕ) (stage : ℕ) (s : Option Token) → (stage == k.mem) ≡ false → with_load x k memory stage s ≡ s
 load_elsewhere x k memory stage None e = refl

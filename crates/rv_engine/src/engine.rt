@@ -1,4 +1,4 @@
-ghost use Rattle.std.specs.Prelude.{◌≡◌, ◌+◌, ◌<◌, ◌^◌, ◌||◌, length, is_some, Some, None, false, true, if◌then◌else◌};
+ghost use Rattle.std.specs.Prelude.{◌≡◌, ◌+◌, ◌<◌, ◌^◌, ◌||◌, length, take, is_some, Some, None, false, true, if◌then◌else◌};
 ghost use Rattle.ix_extension.specs.Extensions.{view_extension};
 ghost use Rattle.ix_extension.specs.WellFormed.{IsWellFormed};
 ghost use Rattle.ix_eval.specs.Scratches.{IsScratchOf};
@@ -166,6 +166,46 @@ fn row_of(
     }
 }
 
+/// The same of the slots that are kept, of which the core has the first ones as stages.
+fn row_in(
+    design: &Design,
+    asking: &Asking,
+    image: &[u32],
+    waits: &Waits,
+    front: &mut Front,
+    future: &mut [Bits; 16],
+    arch: &mut Arch,
+    slots: &mut [Option<Token>; 5],
+    scratch: &mut Scratch,
+) -> Row
+    requires well_formed { IsWellFormed design.now.extension }
+    requires asking { IsAskingOf design.now asking.now }
+    requires scratch { IsScratchOf (view_extension design.now.extension) scratch.old }
+    requires future { AreWide (view_extension design.now.extension) future.old }
+    requires fitting { AreFitting (view_extension design.now.extension) (take design.now.sheet.shape.stages slots.old) }
+    requires serial { front.old.next + 1 < 2 ^ 32 }
+    requires accesses { front.old.accesses + 1 < 2 ^ 32 }
+    requires stood { front.old.stood + 1 < 2 ^ 32 }
+    ensures scratch { IsScratchOf (view_extension design.now.extension) scratch.new }
+    ensures row { IsRowOf (setting design.now image.now waits.now) (machine_with front.old future.old arch.old (take design.now.sheet.shape.stages slots.old)) result }
+    ensures after { machine_with front.new future.new arch.new (take design.now.sheet.shape.stages slots.new) ≡ machine_after (setting design.now image.now waits.now) (machine_with front.old future.old arch.old (take design.now.sheet.shape.stages slots.old)) }
+    ensures future { AreWide (view_extension design.now.extension) future.new }
+    ensures fitting { AreFitting (view_extension design.now.extension) (take design.now.sheet.shape.stages slots.new) }
+{
+    let stages = usize::from(design.sheet.shape.stages);
+    row_of(
+        design,
+        asking,
+        image,
+        waits,
+        front,
+        future,
+        arch,
+        &mut slots[..stages],
+        scratch,
+    )
+}
+
 /// One row of a pipeline of a design, over an image and a memory with these waits, and what it keeps after the row. The asking and the
 /// scratch are of this design. It takes no memory.
 pub fn make_row(
@@ -188,8 +228,7 @@ pub fn make_row(
     ensures fit { IsFit (setting design.now image.now waits.now) (machine_of design.now.sheet.shape kept.new) }
     ensures scratch { IsScratchOf (view_extension design.now.extension) scratch.new }
 {
-    let stages = usize::from(design.sheet.shape.stages);
-    row_of(
+    row_in(
         design,
         asking,
         image,
@@ -197,7 +236,7 @@ pub fn make_row(
         &mut kept.front,
         &mut kept.future,
         &mut kept.arch,
-        &mut kept.slots[..stages],
+        &mut kept.slots,
         scratch,
     )
 }

@@ -1,4 +1,5 @@
-ghost use Rattle.std.specs.Prelude.{◌≡◌, ◌+◌, ◌<◌, ◌^◌, None, false, is_some, length, option_map, option_map_or, if◌then◌else◌};
+ghost use Rattle.std.specs.Prelude.{◌≡◌, ◌+◌, ◌-◌, ◌<◌, ◌^◌, None, false, is_some, length, get_or, slice_set, option_map, if◌then◌else◌};
+ghost use Rattle.std.specs.Option.{option_map_or};
 ghost use Rattle.rv_seq.specs.Commits.{with_slot};
 ghost use Rattle.rv_holds.specs.Tokens.{commit_of as specified_commit_of};
 ghost use Rattle.rv_engine.specs.Rows.{tail_after as specified_tail_after, waited, going, kept, advanced, leaving, with_serial, retired_of, counts as specified_counts, with_marked, with_writes, file_after, accesses_after, stood_after};
@@ -45,25 +46,30 @@ fn is_held(slot: &Option<Token>) -> bool
     }
 }
 
-/// Puts the token that goes on from a slot into another one.
-fn come(from: &Option<Token>, to: &mut Option<Token>)
-    ensures { to.new ≡ going from.now }
+/// Puts what goes on from the stage before into a stage.
+fn come_at(slots: &mut [Option<Token>], stage: usize)
+    requires before { 0 < stage }
+    requires inside { stage < length slots.old }
+    ensures { slots.new ≡ slice_set slots.old stage (going (get_or slots.old (stage - 1) None)) }
 {
-    if is_held(from) {
-        *to = None;
+    let before = stage - 1;
+    if is_held(&slots[before]) {
+        slots[stage] = None;
     } else {
-        *to = *from;
+        slots[stage] = slots[before];
     }
 }
 
-/// Moves the token of a slot into the next one, unless one of the two stays.
-fn move_on(from: &Option<Token>, to: &mut Option<Token>)
-    ensures { to.new ≡ kept (going from.now) to.old }
+/// Moves what goes on from the stage before into a stage, unless its own token stays.
+fn move_at(slots: &mut [Option<Token>], stage: usize)
+    requires before { 0 < stage }
+    requires inside { stage < length slots.old }
+    ensures { slots.new ≡ slice_set slots.old stage (kept (going (get_or slots.old (stage - 1) None)) (get_or slots.old stage None)) }
 {
-    if is_held(to) {
-        stay_in(to);
+    if is_held(&slots[stage]) {
+        stay_in(&mut slots[stage]);
     } else {
-        come(from, to);
+        come_at(slots, stage);
     }
 }
 
@@ -78,30 +84,15 @@ fn leave(slot: &mut Option<Token>)
     }
 }
 
-/// Moves the tokens of these slots, the oldest first, and into the first of them what goes on from a younger one.
-fn advance_behind(younger: &Option<Token>, slots: &mut [Option<Token>])
-    ensures { slots.new ≡ advanced (going younger.now) slots.old }
-{
-    match slots {
-        [] => {}
-        [slot, older @ ..] => {
-            advance_behind(slot, older);
-            move_on(younger, slot);
-        }
-    }
-}
-
-/// Moves the tokens.
+/// Moves the tokens, the oldest first.
 pub fn advance(slots: &mut [Option<Token>])
+    requires { 0 < length slots.old }
     ensures { slots.new ≡ advanced None slots.old }
 {
-    match slots {
-        [] => {}
-        [slot, older @ ..] => {
-            advance_behind(slot, older);
-            leave(slot);
-        }
+    for stage in (1..slots.len()).rev() {
+        move_at(slots, stage);
     }
+    leave(&mut slots[0]);
 }
 
 /// The slot of the last stage, out of which a token goes.

@@ -1,12 +1,13 @@
-use Rattle.std.proofs.Common.{◌<◌, sym, subst, length, List, Option, ℕ, arith}
+use Rattle.std.proofs.Common.{◌<◌, sym, subst, length, get_or, List, Option, ℕ, arith}
 use Rattle.std.specs.Prelude.{false, true, None}
 use Rattle.ix_bits.specs.declared.number.Bits.{Bits}
 use Rattle.ix_extension.specs.Extensions.{view_extension}
 use Rattle.rv_effect.specs.WordEffects.{AreWide}
 use Rattle.rv_seq.specs.declared.commit.Commit.{Commit}
+use Rattle.rv_holds.specs.declared.token.Token.{Token}
 use Rattle.rv_holds.specs.Tokens.{Slots}
 use Rattle.rv_holds.specs.Flushing.{turn_of, struck}
-use Rattle.rv_engine.specs.Rows.{going, file_after}
+use Rattle.rv_engine.specs.Rows.{going}
 use Rattle.rv_engine.specs.Kept.{AreFitting, IsFittingSlot, AreStoredInside}
 use Rattle.rv_engine.proofs.Fitting.{cleared_fitting, advanced_fitting, left_fitting, element_fitting, going_fitting, stored_inside}
 use Rattle.rv_engine.proofs.Widths.{file_wide}
@@ -29,13 +30,15 @@ returns-clause-future c =
     let seen : AreFitting x c.flush-shown.new.slots =
     subst (λ (z : Slots). AreFitting x z) (sym c.flush-shown.ensures.slots) (cleared_fitting x (struck turn) c.prepare-next.new.slots c.prepare-next.ensures.fitting) in
     let left : IsFittingSlot x (going c.last-2.result.now) = left_fitting x c.flush-shown.new.slots (going c.last-2.result.now) c.last-2.ensures seen in
-    let inside : c.from-2.result < length c.flush-shown.new.slots =
-    omega (arith, c.from-2.ensures, c.flush-shown.auto.slots, c.prepare-next.ensures.stages, shape.lawful.memory_late, shape.lawful.memory_inside) in
-    let executing : IsFittingSlot x c.index-slots-from.result = element_fitting x c.flush-shown.new.slots c.from-2.result c.index-slots-from.result seen inside c.index-slots-from.is in
+    let inside : c.from.result < length c.flush-shown.new.slots =
+    omega (arith, c.from.ensures, c.flush-shown.auto.slots, c.prepare-next.ensures.stages, shape.lawful.memory_late, shape.lawful.memory_inside) in
+    let there = get_or c.flush-shown.new.slots c.from.result c.index-slots-from.result in
+    let executing : IsFittingSlot x there =
+    subst (λ (s : Option Token). IsFittingSlot x s) c.index-slots-from.is (element_fitting x c.flush-shown.new.slots c.from.result c.index-slots-from.result seen inside c.index-slots-from.is) in
     let late : AreWide x c.put_writes.new.file =
     subst (λ (file : List Bits). AreWide x file) (sym c.put_writes.ensures) (file_wide x true (going c.last-2.result.now) c.args.future.now left c.requires.future) in
     subst (λ (file : List Bits). AreWide x file) (sym c.put_writes-2.ensures)
-    (file_wide x false (going c.index-slots-from.result) c.put_writes.new.file (going_fitting x c.index-slots-from.result executing) late)
+    (file_wide x false (going there) c.put_writes.new.file (going_fitting x there executing) late)
 
 pub returns-clause-fitting : goal.returns-clause-fitting
 returns-clause-fitting c =
