@@ -1,11 +1,13 @@
-ghost use Rattle.std.specs.Prelude.{◌≡◌, ◌+◌, ◌<◌, ◌^◌, None, if◌then◌else◌};
+ghost use Rattle.std.specs.Prelude.{◌≡◌, ◌+◌, ◌-◌, ◌<◌, ◌^◌, None, false, is_some, length, get_or, slice_set, option_map, if◌then◌else◌};
+ghost use Rattle.std.specs.Option.{option_map_or};
 ghost use Rattle.rv_seq.specs.Commits.{with_slot};
-ghost use Rattle.rv_engine.specs.Rows.{tail_after as specified_tail_after, waited as specified_waited, going as specified_going, kept as specified_kept, advanced, leaving, retired_of, counts as specified_counts, with_marked as specified_with_marked, file_after as specified_file_after, accesses_after, stood_after};
+ghost use Rattle.rv_holds.specs.Tokens.{commit_of as specified_commit_of};
+ghost use Rattle.rv_engine.specs.Rows.{tail_after as specified_tail_after, waited, going, kept, advanced, leaving, with_serial, retired_of, counts as specified_counts, with_marked, with_writes, file_after, accesses_after, stood_after};
 
 use ix_bits::Bits;
 use rv_asks::Asks;
-use rv_holds::{Token, access_of, commit_of};
-use rv_seq::{Commit, Slot};
+use rv_holds::{Token, access_of};
+use rv_seq::{Commit, Slot, StepAnswer};
 use rv_trace::Hold;
 
 /// For how many rows a module goes on after a row with this hold, where it went on for so many.
@@ -18,58 +20,109 @@ fn tail_after(hold: Option<Hold>, tail: u8) -> u8
     }
 }
 
-/// A token that stays, after the row.
-fn waited(token: &Token) -> Token
-    ensures { result ≡ specified_waited token.now }
+/// Takes a row from the tail of a token that stays.
+fn stay(token: &mut Token)
+    ensures { token.new ≡ waited token.old }
 {
-    let tail = tail_after(token.cell.hold, token.tail);
-    Token { tail, ..*token }
+    token.tail = tail_after(token.cell.hold, token.tail);
 }
 
-/// What a slot has after the moves, where this token comes to it.
-fn slot_kept(come: Option<Token>, slot: &Option<Token>) -> Option<Token>
-    ensures { result ≡ specified_kept come slot.now }
+/// The same for the token of a slot, where one is there.
+fn stay_in(slot: &mut Option<Token>)
+    ensures { slot.new ≡ option_map waited slot.old }
 {
-    match slot {
-        Some(token) if token.cell.hold.is_some() => Some(waited(token)),
-        _ => come,
+    if let Some(token) = slot {
+        stay(token);
     }
 }
 
-/// The token that goes on from a stage.
-pub fn going(slot: &Option<Token>) -> Option<Token>
-    ensures { result ≡ specified_going slot.now }
+/// Whether the token of a slot stays, where one is there.
+fn is_held(slot: &Option<Token>) -> bool
+    ensures { result ≡ option_map_or (λ t. is_some t.cell.hold) slot.now false }
 {
     match slot {
-        Some(token) if token.cell.hold.is_none() => Some(*token),
-        _ => None,
+        None => false,
+        Some(token) => token.cell.hold.is_some(),
     }
 }
 
-/// Moves the tokens, and gives the one that goes out of the last stage.
-pub fn advance(slots: &mut [Option<Token>]) -> Option<Token>
-    ensures slots { slots.new ≡ advanced None slots.old }
-    ensures left { result ≡ leaving None slots.old }
+/// Puts what goes on from the stage before into a stage.
+fn come_at(slots: &mut [Option<Token>], stage: usize)
+    requires before { 0 < stage }
+    requires inside { stage < length slots.old }
+    ensures { slots.new ≡ slice_set slots.old stage (going (get_or slots.old (stage - 1) None)) }
 {
-    let mut come = None;
-    for stage in 0..slots.len() {
-        let slot = slots[stage];
-        slots[stage] = slot_kept(come, &slot);
-        come = going(&slot);
+    let before = stage - 1;
+    if is_held(&slots[before]) {
+        slots[stage] = None;
+    } else {
+        slots[stage] = slots[before];
     }
-    come
 }
 
-/// What the token that goes out retires.
-pub fn retired_in(slot: &Option<Token>) -> Option<(u32, Commit)>
-    ensures { result ≡ retired_of slot.now }
+/// Moves what goes on from the stage before into a stage, unless its own token stays.
+fn move_at(slots: &mut [Option<Token>], stage: usize)
+    requires before { 0 < stage }
+    requires inside { stage < length slots.old }
+    ensures { slots.new ≡ slice_set slots.old stage (kept (going (get_or slots.old (stage - 1) None)) (get_or slots.old stage None)) }
 {
-    match slot {
+    if is_held(&slots[stage]) {
+        stay_in(&mut slots[stage]);
+    } else {
+        come_at(slots, stage);
+    }
+}
+
+/// Moves the token of a slot away, unless it stays.
+fn leave(slot: &mut Option<Token>)
+    ensures { slot.new ≡ kept None slot.old }
+{
+    if is_held(slot) {
+        stay_in(slot);
+    } else {
+        *slot = None;
+    }
+}
+
+/// Moves the tokens, the oldest first.
+pub fn advance(slots: &mut [Option<Token>])
+    requires { 0 < length slots.old }
+    ensures { slots.new ≡ advanced None slots.old }
+{
+    for stage in (1..slots.len()).rev() {
+        move_at(slots, stage);
+    }
+    leave(&mut slots[0]);
+}
+
+/// The slot of the last stage, out of which a token goes.
+pub fn last(slots: &[Option<Token>]) -> &Option<Token>
+    requires { 0 < length slots.now }
+    ensures { going result.now ≡ leaving None slots.now }
+{
+    &slots[slots.len() - 1]
+}
+
+/// What a token writes, with its serial, where it was tried and makes no stop.
+fn written_by(token: &Token) -> Option<(u32, Commit)>
+    ensures { result ≡ with_serial token.now.cell.serial (specified_commit_of token.now) }
+{
+    match &token.trial {
         None => None,
-        Some(token) => match commit_of(token) {
-            None => None,
-            Some(commit) => Some((token.cell.serial, commit)),
+        Some(trial) => match &trial.answer {
+            StepAnswer::Stopped(_) => None,
+            StepAnswer::Done(commit) => Some((token.cell.serial, *commit)),
         },
+    }
+}
+
+/// What the token of the last stage retires, where it goes out.
+pub fn retired_in(slot: &Option<Token>) -> Option<(u32, Commit)>
+    ensures { result ≡ retired_of (going slot.now) }
+{
+    match slot {
+        Some(token) if token.cell.hold.is_none() => written_by(token),
+        _ => None,
     }
 }
 
@@ -80,38 +133,46 @@ fn counts(is_late: bool, marked: bool) -> bool
     if is_late { marked } else { !marked }
 }
 
-/// A custom register after a write, where that one counts.
-fn register_after(old: Bits, slot: Slot<Bits>, counted: bool) -> Bits
-    ensures { result ≡ (if counted then with_slot old slot else old) }
+/// Writes a custom register, where the write counts.
+fn put_register(register: &mut Bits, slot: &Slot<Bits>, counted: bool)
+    ensures { register.new ≡ (if counted then with_slot register.old slot.now else register.old) }
 {
-    match slot {
-        Slot::Now(value) if counted => value,
-        _ => old,
+    if let Slot::Now(value) = slot {
+        if counted {
+            *register = *value;
+        }
     }
 }
 
-/// The future file after the writes of a commit, of those registers alone that are asked for late, or not.
-fn with_marked(is_late: bool, asks: &Asks, commit: &Commit, file: &[Bits; 16]) -> [Bits; 16]
-    ensures { result ≡ specified_with_marked is_late asks.now commit.now file.now }
+/// Makes the writes of a commit in the future file, of those registers alone that are asked for late, or not.
+fn put_marked(is_late: bool, asks: &Asks, commit: &Commit, file: &mut [Bits; 16])
+    ensures { file.new ≡ with_marked is_late asks.now commit.now file.old }
 {
-    let mut all = *file;
     for number in 0..16usize {
         let counted = counts(is_late, asks.late_customs[number]);
-        all[number] = register_after(file[number], commit.custom[number], counted);
+        put_register(&mut file[number], &commit.custom[number], counted);
     }
-    all
 }
 
-/// The future file after the late writes of a token that goes on, or those that are not.
-pub fn file_after(is_late: bool, slot: &Option<Token>, file: &[Bits; 16]) -> [Bits; 16]
-    ensures { result ≡ specified_file_after is_late slot.now file.now }
+/// Makes the writes of a token, where it was tried and makes no stop.
+fn put_of(is_late: bool, token: &Token, file: &mut [Bits; 16])
+    ensures { file.new ≡ with_writes is_late token.now.asks (specified_commit_of token.now) file.old }
 {
-    match slot {
-        None => *file,
-        Some(token) => match commit_of(token) {
-            None => *file,
-            Some(commit) => with_marked(is_late, &token.asks, &commit, file),
-        },
+    if let Some(trial) = &token.trial {
+        if let StepAnswer::Done(commit) = &trial.answer {
+            put_marked(is_late, &token.asks, commit, file);
+        }
+    }
+}
+
+/// Makes the late writes of the token that goes on from a slot, or those that are not, in the future file.
+pub fn put_writes(is_late: bool, slot: &Option<Token>, file: &mut [Bits; 16])
+    ensures { file.new ≡ file_after is_late (going slot.now) file.old }
+{
+    if let Some(token) = slot {
+        if token.cell.hold.is_none() {
+            put_of(is_late, token, file);
+        }
     }
 }
 
