@@ -9,12 +9,12 @@ ghost use Rattle.rv_seq.specs.Steps.{word_at as specified_word_at};
 ghost use Rattle.rv_holds.specs.Tokens.{or_else};
 ghost use Rattle.rv_holds.specs.Flushing.{remains as specified_remains, fetch_after};
 ghost use Rattle.rv_engine.specs.Settings.{setting};
-ghost use Rattle.rv_engine.specs.Rows.{unless, next_after, new_by, loaded_by, arch_after, file_after as specified_file_after, going as specified_going, IsRowOf, machine_after};
+ghost use Rattle.rv_engine.specs.Rows.{unless, next_after, new_by, loaded_by, arch_after, file_early as specified_file_early, file_late as specified_file_late, going as specified_going, IsRowOf, machine_after};
 ghost use Rattle.rv_engine.specs.Kept.{machine_with, machine_of, AreFitting, IsFit, AreStoredInside};
 
 use crate::filling::{fetched, fill_first, next_serial};
 use crate::front::{Front, Kept};
-use crate::moving::{accesses_then, advance, file_after, going, retired_in, stood_then};
+use crate::moving::{accesses_then, advance, file_early, file_late, going, retired_in, stood_then};
 use crate::reading::{owed_in, read};
 use crate::trying::{load, try_executing};
 use ix_bits::Bits;
@@ -107,10 +107,10 @@ fn prepare(
 
 /// The future file after a row: the early writes of the token that goes on from EX over the late ones of the token that goes out.
 fn future_after(executing: &Option<Token>, left: &Option<Token>, future: &[Bits; 16]) -> [Bits; 16]
-    ensures { result ≡ specified_file_after false (specified_going executing.now) (specified_file_after true left.now future.now) }
+    ensures { result ≡ specified_file_early (specified_going executing.now) (specified_file_late left.now future.now) }
 {
-    let late = file_after(true, left, future);
-    file_after(false, &going(executing), &late)
+    let late = file_late(left, future);
+    file_early(&going(executing), &late)
 }
 
 /// One row of the slots of the stages, and what is kept after it.

@@ -1,11 +1,12 @@
-ghost use Rattle.std.specs.Prelude.{◌≡◌, ◌+◌, ◌<◌, ◌^◌, None, if◌then◌else◌};
-ghost use Rattle.rv_seq.specs.Commits.{with_slot};
-ghost use Rattle.rv_engine.specs.Rows.{tail_after as specified_tail_after, waited as specified_waited, going as specified_going, kept as specified_kept, advanced, leaving, retired_of, counts as specified_counts, with_marked as specified_with_marked, file_after as specified_file_after, accesses_after, stood_after};
+ghost use Rattle.std.specs.Prelude.{◌≡◌, ◌+◌, ◌<◌, ◌^◌, ◌&&◌, None, if◌then◌else◌};
+ghost use Rattle.rv_seq.specs.declared.commit.Slot.TheVariants.{Absent};
+ghost use Rattle.rv_seq.specs.Commits.{slot_of as specified_slot_of, with_slot};
+ghost use Rattle.rv_engine.specs.Rows.{tail_after as specified_tail_after, waited as specified_waited, going as specified_going, kept as specified_kept, advanced, leaving, retired_of, early_write, late_write, with_writes, file_early as specified_file_early, file_late as specified_file_late, accesses_after, stood_after};
 
 use ix_bits::Bits;
 use rv_asks::Asks;
 use rv_holds::{Token, access_of, commit_of};
-use rv_seq::{Commit, Slot};
+use rv_seq::{Commit, Slot, StepAnswer};
 use rv_trace::Hold;
 
 /// For how many rows a module goes on after a row with this hold, where it went on for so many.
@@ -73,44 +74,93 @@ pub fn retired_in(slot: &Option<Token>) -> Option<(u32, Commit)>
     }
 }
 
-/// Whether a write that is so marked is one of the late writes, or of those that are not.
-fn counts(is_late: bool, marked: bool) -> bool
-    ensures { result ≡ specified_counts is_late marked }
-{
-    if is_late { marked } else { !marked }
-}
-
-/// A custom register after a write, where that one counts.
-fn register_after(old: Bits, slot: Slot<Bits>, counted: bool) -> Bits
-    ensures { result ≡ (if counted then with_slot old slot else old) }
+/// A custom register after a write.
+fn register_after(old: Bits, slot: Slot<Bits>) -> Bits
+    ensures { result ≡ with_slot old slot }
 {
     match slot {
-        Slot::Now(value) if counted => value,
+        Slot::Now(value) => value,
         _ => old,
     }
 }
 
-/// The future file after the writes of a commit, of those registers alone that are asked for late, or not.
-fn with_marked(is_late: bool, asks: &Asks, commit: &Commit, file: &[Bits; 16]) -> [Bits; 16]
-    ensures { result ≡ specified_with_marked is_late asks.now commit.now file.now }
+/// What a token writes to a custom register as it leaves EX: the blocks alone, where its own write is still to come.
+fn early_slot(is_pending: bool, block: Option<Bits>, slot: Slot<Bits>) -> Slot<Bits>
+    ensures { result ≡ (if is_pending then specified_slot_of block else slot) }
+{
+    if !is_pending {
+        return slot;
+    }
+    match block {
+        Some(value) => Slot::Now(value),
+        None => Slot::Absent,
+    }
+}
+
+/// What a token writes to a custom register late.
+fn late_slot(is_late: bool, is_own: bool, slot: Slot<Bits>) -> Slot<Bits>
+    ensures { result ≡ (if is_late && is_own then slot else Absent) }
+{
+    if is_late && is_own {
+        slot
+    } else {
+        Slot::Absent
+    }
+}
+
+/// The future file after what a token with this record writes as it leaves EX.
+fn with_early(asks: &Asks, blocks: &[Option<Bits>; 16], commit: &Commit, file: &[Bits; 16]) -> [Bits; 16]
+    ensures { result ≡ with_writes (early_write asks.now blocks.now commit.now) file.now }
 {
     let mut all = *file;
     for number in 0..16usize {
-        let counted = counts(is_late, asks.late_customs[number]);
-        all[number] = register_after(file[number], commit.custom[number], counted);
+        let is_pending = asks.late_customs[number] || asks.spawned_customs[number];
+        let slot = early_slot(is_pending, blocks[number], commit.custom[number]);
+        all[number] = register_after(file[number], slot);
     }
     all
 }
 
-/// The future file after the late writes of a token that goes on, or those that are not.
-pub fn file_after(is_late: bool, slot: &Option<Token>, file: &[Bits; 16]) -> [Bits; 16]
-    ensures { result ≡ specified_file_after is_late slot.now file.now }
+/// The future file after what a token with this record writes late.
+fn with_late(asks: &Asks, own: &[bool; 16], commit: &Commit, file: &[Bits; 16]) -> [Bits; 16]
+    ensures { result ≡ with_writes (late_write asks.now own.now commit.now) file.now }
+{
+    let mut all = *file;
+    for number in 0..16usize {
+        let slot = late_slot(asks.late_customs[number], own[number], commit.custom[number]);
+        all[number] = register_after(file[number], slot);
+    }
+    all
+}
+
+/// The future file after a token leaves EX, where one does.
+pub fn file_early(slot: &Option<Token>, file: &[Bits; 16]) -> [Bits; 16]
+    ensures { result ≡ specified_file_early slot.now file.now }
 {
     match slot {
         None => *file,
-        Some(token) => match commit_of(token) {
+        Some(token) => match &token.trial {
             None => *file,
-            Some(commit) => with_marked(is_late, &token.asks, &commit, file),
+            Some(trial) => match &trial.answer {
+                StepAnswer::Done(commit) => with_early(&token.asks, &trial.blocks, commit, file),
+                StepAnswer::Stopped(_) => *file,
+            },
+        },
+    }
+}
+
+/// The future file after a token goes out of the last stage, where one does.
+pub fn file_late(slot: &Option<Token>, file: &[Bits; 16]) -> [Bits; 16]
+    ensures { result ≡ specified_file_late slot.now file.now }
+{
+    match slot {
+        None => *file,
+        Some(token) => match &token.trial {
+            None => *file,
+            Some(trial) => match &trial.answer {
+                StepAnswer::Done(commit) => with_late(&token.asks, &trial.own, commit, file),
+                StepAnswer::Stopped(_) => *file,
+            },
         },
     }
 }

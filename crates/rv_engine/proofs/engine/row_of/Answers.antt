@@ -6,10 +6,10 @@ use Rattle.rv_effect.specs.WordEffects.{AreWide}
 use Rattle.rv_seq.specs.declared.commit.Commit.{Commit}
 use Rattle.rv_holds.specs.Tokens.{Slots}
 use Rattle.rv_holds.specs.Flushing.{turn_of, struck}
-use Rattle.rv_engine.specs.Rows.{going, file_after}
+use Rattle.rv_engine.specs.Rows.{going, file_late}
 use Rattle.rv_engine.specs.Kept.{AreFitting, IsFittingSlot, AreStoredInside}
 use Rattle.rv_engine.proofs.Fitting.{cleared_fitting, advanced_fitting, left_fitting, element_fitting, going_fitting, stored_inside}
-use Rattle.rv_engine.proofs.Widths.{file_wide}
+use Rattle.rv_engine.proofs.Widths.{early_file_wide, late_file_wide}
 use Rattle.rv_engine.proofs.engine.row_of.Goals as goal
 
 pub retire-requires : goal.retire-requires
@@ -33,8 +33,8 @@ returns-clause-future c =
     omega (arith, c.from.ensures, c.flush-shown.auto.slots, c.prepare-next.ensures.stages, shape.lawful.memory_late, shape.lawful.memory_inside) in
     let executing : IsFittingSlot x c.index-slots-from.result = element_fitting x c.flush-shown.new.slots c.from.result c.index-slots-from.result seen inside c.index-slots-from.is in
     subst (λ (file : List Bits). AreWide x file) (sym c.future_after.ensures)
-    (file_wide x false (going c.index-slots-from.result) (file_after true c.advance-left.result c.args.future.now) (going_fitting x c.index-slots-from.result executing)
-    (file_wide x true c.advance-left.result c.args.future.now left c.requires.future))
+    (early_file_wide x (going c.index-slots-from.result) (file_late c.advance-left.result c.args.future.now) (going_fitting x c.index-slots-from.result executing)
+    (late_file_wide x c.advance-left.result c.args.future.now left c.requires.future))
 
 pub returns-clause-fitting : goal.returns-clause-fitting
 returns-clause-fitting c =
