@@ -166,12 +166,7 @@ fn put_late_in(register: &mut Bits, is_late: bool, is_own: bool, slot: &Slot<Bit
 }
 
 /// Makes what a token with this record writes as it leaves EX in the future file.
-fn put_early_of(
-    asks: &Asks,
-    blocks: &[Option<Bits>; 16],
-    commit: &Commit,
-    file: &mut [Bits; 16],
-)
+fn put_early_of(asks: &Asks, blocks: &[Option<Bits>; 16], commit: &Commit, file: &mut [Bits; 16])
     ensures { file.new ≡ with_writes (early_write asks.now blocks.now commit.now) file.old }
 {
     for number in 0..16usize {
