@@ -9,7 +9,6 @@ use Rattle.ix_extension.specs.Extensions.{ExtensionTree}
 use Rattle.rv_core.specs.declared.Shape.{Shape}
 use Rattle.rv_holds.specs.declared.token.Token.{Token}
 use Rattle.rv_holds.specs.Tokens.{Slots}
-use Rattle.ix_mean.specs.declared.evaluate.State.{State}
 use Rattle.rv_engine.specs.Rows.{tried_with, seeing, is_ripe, with_trial, trying, with_load, loading}
 
 unequal : (a b : ℕ) → b < a → (a == b) ≡ false

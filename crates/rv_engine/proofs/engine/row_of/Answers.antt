@@ -1,5 +1,5 @@
 use Rattle.std.proofs.Common.{◌<◌, sym, subst, length, get_or, List, Option, ℕ, arith}
-use Rattle.std.specs.Prelude.{false, true, None}
+use Rattle.std.specs.Prelude.{None}
 use Rattle.ix_bits.specs.declared.number.Bits.{Bits}
 use Rattle.ix_extension.specs.Extensions.{view_extension}
 use Rattle.rv_effect.specs.WordEffects.{AreWide}

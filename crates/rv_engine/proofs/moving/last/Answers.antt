@@ -1,4 +1,4 @@
-use Rattle.std.proofs.Common.{◌+◌, ◌-◌, length, arith}
+use Rattle.std.proofs.Common.{◌-◌, length, arith}
 use Rattle.std.specs.Prelude.{None}
 use Rattle.rv_engine.proofs.Going.{leaving_last}
 use Rattle.rv_engine.proofs.moving.last.Goals as goal
