@@ -2,3 +2,4 @@ pub mod Fitting
 pub mod Placing
 pub mod Widths
 pub mod Starting
+pub mod Going

@@ -1,6 +1,6 @@
 -- A pass that changes one stage's token changes one slot.
-use Rattle.std.proofs.Common.{◌≡◌, ◌∙◌, sym, ap, refl, ℕ, zero, suc, ◌+◌, ◌<◌, List, [], ◌∷◌, drop, length, get_or, Option, Some, None, false, arith}
-use Rattle.std.specs.Prelude.{slice_set, ◌==◌}
+use Rattle.std.proofs.Common.{◌≡◌, ◌∙◌, sym, ap, refl, ℕ, zero, suc, ◌+◌, ◌<◌, List, [], ◌∷◌, drop, length, get_or, Option, Some, None, true, false, arith}
+use Rattle.std.specs.Prelude.{slice_set, option_map, IfSome, Bool, if◌then◌else◌, ◌==◌}
 use Rattle.std.proofs.Common.{take, ◌-◌, length-drop}
 use Rattle.std.proofs.lemmas.Bool.Decides.{nat_tests}
 use Rattle.std.proofs.lemmas.List.{take_all}
@@ -9,7 +9,7 @@ use Rattle.ix_extension.specs.Extensions.{ExtensionTree}
 use Rattle.rv_core.specs.declared.Shape.{Shape}
 use Rattle.rv_holds.specs.declared.token.Token.{Token}
 use Rattle.rv_holds.specs.Tokens.{Slots}
-use Rattle.rv_engine.specs.Rows.{with_trial, trying, with_load, loading}
+use Rattle.rv_engine.specs.Rows.{tried_with, seeing, is_ripe, with_trial, trying, with_load, loading}
 
 unequal : (a b : ℕ) → b < a → (a == b) ≡ false
 unequal a b h = grind (arith, nat_tests)
@@ -51,6 +51,20 @@ placed_ex x k future memory slots n s r e lt h g =
     let older : take (length slots - (n + 1)) (drop (n + 1) slots) ≡ drop (suc n) slots = whole ∙ ap (λ (m : ℕ). drop m slots) d in
     ap (λ (u : Option Token). slice_set slots n u) (g ∙ ap (λ (us : Slots). with_trial x k future memory k.ex s us) older)
     ∙ sym (at_ex x k future memory 0 n slots s (omega (arith, e)) (omega (arith, e, lt)) h)
+
+-- a slot whose token was tried if it is to be
+tried_token : (x : ExtensionTree) (k : Shape) (future : List Bits) (memory : List ℕ) (s : Option Token) (ripe : Bool) (older : Slots) → IfSome s (λ t. ripe ≡ is_ripe k k.ex t older)
+    → option_map (λ t. if ripe then tried_with x memory (seeing future t.inputs) t else t) s ≡ with_trial x k future memory k.ex s older
+tried_token x k future memory None ripe older i = refl
+tried_token x k future memory (Some t) ripe older i = ap (λ (b : Bool). Some (if b then tried_with x memory (seeing future t.inputs) t else t)) i ∙ by_case (is_ripe k k.ex t older) where
+  by_case : (b : Bool) → ◌≡◌ {A = Option Token} (Some (if b then tried_with x memory (seeing future t.inputs) t else t)) (if b then Some (tried_with x memory (seeing future t.inputs) t) else Some t)
+  by_case true = refl
+  by_case false = refl
+
+pub tried_here : (x : ExtensionTree) (k : Shape) (future : List Bits) (memory : List ℕ) (s u r : Option Token) (ripe : Bool) (older : Slots) → u ≡ s → IfSome s (λ t. ripe ≡ is_ripe k k.ex t older)
+    → r ≡ option_map (λ t. if ripe then tried_with x memory (seeing future t.inputs) t else t) u → r ≡ with_trial x k future memory k.ex s older
+tried_here x k future memory s u r ripe older same i e =
+    e ∙ ap (λ (v : Option Token). option_map (λ t. if ripe then tried_with x memory (seeing future t.inputs) t else t) v) same ∙ tried_token x k future memory s ripe older i
 
 load_elsewhere : (x : ExtensionTree) (k : Shape) (memory : List ℕ) (stage : ℕ) (s : Option Token) → (stage == k.mem) ≡ false → with_load x k memory stage s ≡ s
 load_elsewhere x k memory stage None e = refl

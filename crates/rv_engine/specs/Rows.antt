@@ -1,5 +1,5 @@
 -- The row that a machine makes, and what it keeps then (this project's choice).
-use Rattle.std.specs.Prelude.{◌≡◌, ℕ, suc, ◌-◌, List, [], ◌∷◌, get_or, take, drop, replicate, slice_index, Option, Some, None, Bool, true, false, not, ◌&&◌, ◌||◌, if◌then◌else◌, ◌==◌, is_some, is_none}
+use Rattle.std.specs.Prelude.{◌≡◌, ℕ, suc, ◌-◌, List, [], ◌∷◌, get_or, take, drop, replicate, slice_index, Option, Some, None, Bool, false, ◌&&◌, ◌||◌, if◌then◌else◌, ◌==◌, is_some, is_none}
 use Rattle.ix_bits.specs.declared.number.Bits.{Bits}
 use Rattle.ix_eval.specs.Tables.{table}
 use Rattle.ix_extension.specs.Extensions.{ExtensionTree, view_extension}

@@ -1,4 +1,4 @@
-ghost use Rattle.std.specs.Prelude.{◌≡◌, ◌+◌, ◌<◌, ◌^◌, ◌||◌, length, is_some, Some, None, false, true, if◌then◌else◌};
+ghost use Rattle.std.specs.Prelude.{◌≡◌, ◌+◌, ◌<◌, ◌^◌, ◌||◌, length, take, is_some, Some, None, false, true, if◌then◌else◌};
 ghost use Rattle.ix_extension.specs.Extensions.{view_extension};
 ghost use Rattle.ix_extension.specs.WellFormed.{IsWellFormed};
 ghost use Rattle.ix_eval.specs.Scratches.{IsScratchOf};
@@ -9,12 +9,12 @@ ghost use Rattle.rv_seq.specs.Steps.{word_at as specified_word_at};
 ghost use Rattle.rv_holds.specs.Tokens.{or_else};
 ghost use Rattle.rv_holds.specs.Flushing.{remains as specified_remains, fetch_after};
 ghost use Rattle.rv_engine.specs.Settings.{setting};
-ghost use Rattle.rv_engine.specs.Rows.{unless, next_after, new_by, loaded_by, arch_after, file_early as specified_file_early, file_late as specified_file_late, going as specified_going, IsRowOf, machine_after};
+ghost use Rattle.rv_engine.specs.Rows.{unless, next_after, new_by, loaded_by, arch_after, IsRowOf, machine_after};
 ghost use Rattle.rv_engine.specs.Kept.{machine_with, machine_of, AreFitting, IsFit, AreStoredInside};
 
-use crate::filling::{fetched, fill_first, next_serial};
+use crate::filling::fetch;
 use crate::front::{Front, Kept};
-use crate::moving::{accesses_then, advance, file_early, file_late, going, retired_in, stood_then};
+use crate::moving::{accesses_then, advance, last, put_early, put_late, retired_in, stood_then};
 use crate::reading::{owed_in, read};
 use crate::trying::{load, try_executing};
 use ix_bits::Bits;
@@ -95,22 +95,13 @@ fn prepare(
     ensures fitting { AreFitting (view_extension design.now.extension) slots.new }
 {
     let shape = design.sheet.shape;
-    let new = fetched(design, asking, front, future, word_at(image, front.fetch));
-    let next = next_serial(front.next, slots, &new);
-    fill_first(slots, new);
+    let word = word_at(image, front.fetch);
+    let next = fetch(design, asking, front, future, word, slots);
     read(shape, &arch.x, owed_in(waits, front), slots);
     try_executing(design, future, &arch.mem, slots, scratch);
     decide(shape, slots);
     load(design, &arch.mem, slots, scratch);
     next
-}
-
-/// The future file after a row: the early writes of the token that goes on from EX over the late ones of the token that goes out.
-fn future_after(executing: &Option<Token>, left: &Option<Token>, future: &[Bits; 16]) -> [Bits; 16]
-    ensures { result ≡ specified_file_early (specified_going executing.now) (specified_file_late left.now future.now) }
-{
-    let late = file_late(left, future);
-    file_early(&going(executing), &late)
 }
 
 /// One row of the slots of the stages, and what is kept after it.
@@ -150,14 +141,14 @@ fn row_of(
     let stopped = stop_in(shape, slots);
     let fetch = next_fetch(shown.redirect, front.fetch, slots);
     let stop = stop_of_row(image, stopped, slots, fetch);
-    let executing = slots[usize::from(shape.ex)];
-    let memory = slots[usize::from(shape.mem)];
-    let accesses = accesses_then(front.accesses, &memory);
-    let stood = stood_then(front.stood, &memory);
-    let left = advance(slots);
-    let retired = retired_in(&left);
-    *future = future_after(&executing, &left, future);
+    let memory = usize::from(shape.mem);
+    let accesses = accesses_then(front.accesses, &slots[memory]);
+    let stood = stood_then(front.stood, &slots[memory]);
+    let retired = retired_in(last(slots));
+    put_late(last(slots), future);
+    put_early(&slots[usize::from(shape.ex)], future);
     retire(arch, &retired);
+    advance(slots);
     *front = Front {
         fetch,
         next,
@@ -173,6 +164,46 @@ fn row_of(
         taken: None,
         stop,
     }
+}
+
+/// The same of the slots that are kept, of which the core has the first ones as stages.
+fn row_in(
+    design: &Design,
+    asking: &Asking,
+    image: &[u32],
+    waits: &Waits,
+    front: &mut Front,
+    future: &mut [Bits; 16],
+    arch: &mut Arch,
+    slots: &mut [Option<Token>; 5],
+    scratch: &mut Scratch,
+) -> Row
+    requires well_formed { IsWellFormed design.now.extension }
+    requires asking { IsAskingOf design.now asking.now }
+    requires scratch { IsScratchOf (view_extension design.now.extension) scratch.old }
+    requires future { AreWide (view_extension design.now.extension) future.old }
+    requires fitting { AreFitting (view_extension design.now.extension) (take design.now.sheet.shape.stages slots.old) }
+    requires serial { front.old.next + 1 < 2 ^ 32 }
+    requires accesses { front.old.accesses + 1 < 2 ^ 32 }
+    requires stood { front.old.stood + 1 < 2 ^ 32 }
+    ensures scratch { IsScratchOf (view_extension design.now.extension) scratch.new }
+    ensures row { IsRowOf (setting design.now image.now waits.now) (machine_with front.old future.old arch.old (take design.now.sheet.shape.stages slots.old)) result }
+    ensures after { machine_with front.new future.new arch.new (take design.now.sheet.shape.stages slots.new) ≡ machine_after (setting design.now image.now waits.now) (machine_with front.old future.old arch.old (take design.now.sheet.shape.stages slots.old)) }
+    ensures future { AreWide (view_extension design.now.extension) future.new }
+    ensures fitting { AreFitting (view_extension design.now.extension) (take design.now.sheet.shape.stages slots.new) }
+{
+    let stages = usize::from(design.sheet.shape.stages);
+    row_of(
+        design,
+        asking,
+        image,
+        waits,
+        front,
+        future,
+        arch,
+        &mut slots[..stages],
+        scratch,
+    )
 }
 
 /// One row of a pipeline of a design, over an image and a memory with these waits, and what it keeps after the row. The asking and the
@@ -197,9 +228,7 @@ pub fn make_row(
     ensures fit { IsFit (setting design.now image.now waits.now) (machine_of design.now.sheet.shape kept.new) }
     ensures scratch { IsScratchOf (view_extension design.now.extension) scratch.new }
 {
-    let stages = usize::from(design.sheet.shape.stages);
-    let mut slots = kept.slots;
-    let row = row_of(
+    row_in(
         design,
         asking,
         image,
@@ -207,9 +236,7 @@ pub fn make_row(
         &mut kept.front,
         &mut kept.future,
         &mut kept.arch,
-        &mut slots[..stages],
+        &mut kept.slots,
         scratch,
-    );
-    kept.slots = slots;
-    row
+    )
 }

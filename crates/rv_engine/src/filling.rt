@@ -3,8 +3,8 @@ ghost use Rattle.ix_extension.specs.Extensions.{view_extension};
 ghost use Rattle.ix_extension.specs.WellFormed.{IsWellFormed};
 ghost use Rattle.rv_effect.specs.WordEffects.{AreWide};
 ghost use Rattle.rv_asks.specs.Asks.{IsAskingOf};
-ghost use Rattle.rv_engine.specs.Rows.{new_token as specified_new_token, fetched as specified_fetched, fill_first as specified_fill_first, next_after};
-ghost use Rattle.rv_engine.specs.Kept.{IsFitting, IsFittingSlot};
+ghost use Rattle.rv_engine.specs.Rows.{new_token as specified_new_token, fetched, fill_first, next_after};
+ghost use Rattle.rv_engine.specs.Kept.{IsFitting, AreFitting};
 
 use crate::front::Front;
 use ix_bits::Bits;
@@ -55,43 +55,33 @@ fn new_token(
     }
 }
 
-/// The token that is fetched, where there is a word at the fetch address.
-pub fn fetched(
+/// Puts the token of a fetched word, where there is one, into stage 0 where that is free, and gives the serial of the next fetch.
+pub fn fetch(
     design: &Design,
     asking: &Asking,
     front: Front,
     future: &[Bits; 16],
     word: Option<u32>,
-) -> Option<Token>
+    slots: &mut [Option<Token>],
+) -> u32
     requires well_formed { IsWellFormed design.now.extension }
     requires asking { IsAskingOf design.now asking.now }
     requires future { AreWide (view_extension design.now.extension) future.now }
-    ensures token { result ≡ specified_fetched design.now future.now front.next front.fetch word }
-    ensures fitting { IsFittingSlot (view_extension design.now.extension) result }
+    requires stages { 0 < length slots.old }
+    requires fitting { AreFitting (view_extension design.now.extension) slots.old }
+    requires serial { front.next + 1 < 2 ^ 32 }
+    ensures next { result ≡ next_after front.next slots.old (fetched design.now future.now front.next front.fetch word) }
+    ensures slots { slots.new ≡ fill_first (fetched design.now future.now front.next front.fetch word) slots.old }
+    ensures fitting { AreFitting (view_extension design.now.extension) slots.new }
 {
     match word {
-        None => None,
-        Some(word) => Some(new_token(design, asking, front, future, word)),
-    }
-}
-
-/// The serial of the next fetch, where this token is the fetched one.
-pub fn next_serial(next: u32, slots: &[Option<Token>], new: &Option<Token>) -> u32
-    requires { next + 1 < 2 ^ 32 }
-    ensures { result ≡ next_after next slots.now new.now }
-{
-    match slots {
-        [None, ..] if new.is_some() => next + 1,
-        _ => next,
-    }
-}
-
-/// Puts a token into stage 0 where that is free.
-pub fn fill_first(slots: &mut [Option<Token>], new: Option<Token>)
-    requires { 0 < length slots.old }
-    ensures { slots.new ≡ specified_fill_first new slots.old }
-{
-    if slots[0].is_none() {
-        slots[0] = new;
+        None => front.next,
+        Some(word) => {
+            if slots[0].is_some() {
+                return front.next;
+            }
+            slots[0] = Some(new_token(design, asking, front, future, word));
+            front.next + 1
+        }
     }
 }

@@ -1,11 +1,13 @@
-ghost use Rattle.std.specs.Prelude.{◌≡◌, ◌+◌, ◌<◌, ◌^◌, ◌&&◌, None, if◌then◌else◌};
+ghost use Rattle.std.specs.Prelude.{◌≡◌, ◌+◌, ◌-◌, ◌<◌, ◌^◌, ◌&&◌, None, false, is_some, length, get_or, slice_set, option_map, if◌then◌else◌};
+ghost use Rattle.std.specs.Option.{option_map_or};
 ghost use Rattle.rv_seq.specs.declared.commit.Slot.TheVariants.{Absent};
 ghost use Rattle.rv_seq.specs.Commits.{slot_of as specified_slot_of, with_slot};
-ghost use Rattle.rv_engine.specs.Rows.{tail_after as specified_tail_after, waited as specified_waited, going as specified_going, kept as specified_kept, advanced, leaving, retired_of, early_write, late_write, with_writes, file_early as specified_file_early, file_late as specified_file_late, accesses_after, stood_after};
+ghost use Rattle.rv_holds.specs.Tokens.{commit_of as specified_commit_of};
+ghost use Rattle.rv_engine.specs.Rows.{tail_after as specified_tail_after, waited, going, kept, advanced, leaving, with_serial, retired_of, early_write, late_write, with_writes, trial_early, trial_late, file_early, file_late, accesses_after, stood_after};
 
 use ix_bits::Bits;
 use rv_asks::Asks;
-use rv_holds::{Token, access_of, commit_of};
+use rv_holds::{Token, access_of};
 use rv_seq::{Commit, Slot, StepAnswer};
 use rv_trace::Hold;
 
@@ -19,149 +21,220 @@ fn tail_after(hold: Option<Hold>, tail: u8) -> u8
     }
 }
 
-/// A token that stays, after the row.
-fn waited(token: &Token) -> Token
-    ensures { result ≡ specified_waited token.now }
+/// Takes a row from the tail of a token that stays.
+fn stay(token: &mut Token)
+    ensures { token.new ≡ waited token.old }
 {
-    let tail = tail_after(token.cell.hold, token.tail);
-    Token { tail, ..*token }
+    token.tail = tail_after(token.cell.hold, token.tail);
 }
 
-/// What a slot has after the moves, where this token comes to it.
-fn slot_kept(come: Option<Token>, slot: &Option<Token>) -> Option<Token>
-    ensures { result ≡ specified_kept come slot.now }
+/// The same for the token of a slot, where one is there.
+fn stay_in(slot: &mut Option<Token>)
+    ensures { slot.new ≡ option_map waited slot.old }
 {
-    match slot {
-        Some(token) if token.cell.hold.is_some() => Some(waited(token)),
-        _ => come,
+    if let Some(token) = slot {
+        stay(token);
     }
 }
 
-/// The token that goes on from a stage.
-pub fn going(slot: &Option<Token>) -> Option<Token>
-    ensures { result ≡ specified_going slot.now }
+/// Whether the token of a slot stays, where one is there.
+fn is_held(slot: &Option<Token>) -> bool
+    ensures { result ≡ option_map_or (λ t. is_some t.cell.hold) slot.now false }
 {
     match slot {
-        Some(token) if token.cell.hold.is_none() => Some(*token),
+        None => false,
+        Some(token) => token.cell.hold.is_some(),
+    }
+}
+
+/// Puts what goes on from the stage before into a stage.
+fn come_at(slots: &mut [Option<Token>], stage: usize)
+    requires before { 0 < stage }
+    requires inside { stage < length slots.old }
+    ensures { slots.new ≡ slice_set slots.old stage (going (get_or slots.old (stage - 1) None)) }
+{
+    let before = stage - 1;
+    if is_held(&slots[before]) {
+        slots[stage] = None;
+    } else {
+        slots[stage] = slots[before];
+    }
+}
+
+/// Moves what goes on from the stage before into a stage, unless its own token stays.
+fn move_at(slots: &mut [Option<Token>], stage: usize)
+    requires before { 0 < stage }
+    requires inside { stage < length slots.old }
+    ensures { slots.new ≡ slice_set slots.old stage (kept (going (get_or slots.old (stage - 1) None)) (get_or slots.old stage None)) }
+{
+    if is_held(&slots[stage]) {
+        stay_in(&mut slots[stage]);
+    } else {
+        come_at(slots, stage);
+    }
+}
+
+/// Moves the token of a slot away, unless it stays.
+fn leave(slot: &mut Option<Token>)
+    ensures { slot.new ≡ kept None slot.old }
+{
+    if is_held(slot) {
+        stay_in(slot);
+    } else {
+        *slot = None;
+    }
+}
+
+/// Moves the tokens, the oldest first.
+pub fn advance(slots: &mut [Option<Token>])
+    requires { 0 < length slots.old }
+    ensures { slots.new ≡ advanced None slots.old }
+{
+    for stage in (1..slots.len()).rev() {
+        move_at(slots, stage);
+    }
+    leave(&mut slots[0]);
+}
+
+/// The slot of the last stage, out of which a token goes.
+pub fn last(slots: &[Option<Token>]) -> &Option<Token>
+    requires { 0 < length slots.now }
+    ensures { going result.now ≡ leaving None slots.now }
+{
+    &slots[slots.len() - 1]
+}
+
+/// What a token writes, with its serial, where it was tried and makes no stop.
+fn written_by(token: &Token) -> Option<(u32, Commit)>
+    ensures { result ≡ with_serial token.now.cell.serial (specified_commit_of token.now) }
+{
+    match &token.trial {
+        None => None,
+        Some(trial) => match &trial.answer {
+            StepAnswer::Stopped(_) => None,
+            StepAnswer::Done(commit) => Some((token.cell.serial, *commit)),
+        },
+    }
+}
+
+/// What the token of the last stage retires, where it goes out.
+pub fn retired_in(slot: &Option<Token>) -> Option<(u32, Commit)>
+    ensures { result ≡ retired_of (going slot.now) }
+{
+    match slot {
+        Some(token) if token.cell.hold.is_none() => written_by(token),
         _ => None,
     }
 }
 
-/// Moves the tokens, and gives the one that goes out of the last stage.
-pub fn advance(slots: &mut [Option<Token>]) -> Option<Token>
-    ensures slots { slots.new ≡ advanced None slots.old }
-    ensures left { result ≡ leaving None slots.old }
+/// Writes a custom register.
+fn put_register(register: &mut Bits, slot: &Slot<Bits>)
+    ensures { register.new ≡ with_slot register.old slot.now }
 {
-    let mut come = None;
-    for stage in 0..slots.len() {
-        let slot = slots[stage];
-        slots[stage] = slot_kept(come, &slot);
-        come = going(&slot);
-    }
-    come
-}
-
-/// What the token that goes out retires.
-pub fn retired_in(slot: &Option<Token>) -> Option<(u32, Commit)>
-    ensures { result ≡ retired_of slot.now }
-{
-    match slot {
-        None => None,
-        Some(token) => match commit_of(token) {
-            None => None,
-            Some(commit) => Some((token.cell.serial, commit)),
-        },
+    if let Slot::Now(value) = slot {
+        *register = *value;
     }
 }
 
-/// A custom register after a write.
-fn register_after(old: Bits, slot: Slot<Bits>) -> Bits
-    ensures { result ≡ with_slot old slot }
+/// Writes a custom register as blocks do.
+fn put_block(register: &mut Bits, block: &Option<Bits>)
+    ensures { register.new ≡ with_slot register.old (specified_slot_of block.now) }
 {
-    match slot {
-        Slot::Now(value) => value,
-        _ => old,
+    if let Some(value) = block {
+        *register = *value;
     }
 }
 
-/// What a token writes to a custom register as it leaves EX: the blocks alone, where its own write is still to come.
-fn early_slot(is_pending: bool, block: Option<Bits>, slot: Slot<Bits>) -> Slot<Bits>
-    ensures { result ≡ (if is_pending then specified_slot_of block else slot) }
+/// Writes what a token writes to a custom register as it leaves EX: the blocks alone, where its own write is still to come.
+fn put_early_in(register: &mut Bits, is_pending: bool, block: &Option<Bits>, slot: &Slot<Bits>)
+    ensures { register.new ≡ with_slot register.old (if is_pending then specified_slot_of block.now else slot.now) }
 {
-    if !is_pending {
-        return slot;
-    }
-    match block {
-        Some(value) => Slot::Now(value),
-        None => Slot::Absent,
+    if is_pending {
+        put_block(register, block);
+    } else {
+        put_register(register, slot);
     }
 }
 
-/// What a token writes to a custom register late.
-fn late_slot(is_late: bool, is_own: bool, slot: Slot<Bits>) -> Slot<Bits>
-    ensures { result ≡ (if is_late && is_own then slot else Absent) }
+/// Writes what a token writes to a custom register late.
+fn put_late_in(register: &mut Bits, is_late: bool, is_own: bool, slot: &Slot<Bits>)
+    ensures { register.new ≡ with_slot register.old (if is_late && is_own then slot.now else Absent) }
 {
     if is_late && is_own {
-        slot
-    } else {
-        Slot::Absent
+        put_register(register, slot);
     }
 }
 
-/// The future file after what a token with this record writes as it leaves EX.
-fn with_early(asks: &Asks, blocks: &[Option<Bits>; 16], commit: &Commit, file: &[Bits; 16]) -> [Bits; 16]
-    ensures { result ≡ with_writes (early_write asks.now blocks.now commit.now) file.now }
+/// Makes what a token with this record writes as it leaves EX in the future file.
+fn put_early_of(asks: &Asks, blocks: &[Option<Bits>; 16], commit: &Commit, file: &mut [Bits; 16])
+    ensures { file.new ≡ with_writes (early_write asks.now blocks.now commit.now) file.old }
 {
-    let mut all = *file;
     for number in 0..16usize {
         let is_pending = asks.late_customs[number] || asks.spawned_customs[number];
-        let slot = early_slot(is_pending, blocks[number], commit.custom[number]);
-        all[number] = register_after(file[number], slot);
+        put_early_in(
+            &mut file[number],
+            is_pending,
+            &blocks[number],
+            &commit.custom[number],
+        );
     }
-    all
 }
 
-/// The future file after what a token with this record writes late.
-fn with_late(asks: &Asks, own: &[bool; 16], commit: &Commit, file: &[Bits; 16]) -> [Bits; 16]
-    ensures { result ≡ with_writes (late_write asks.now own.now commit.now) file.now }
+/// Makes what a token with this record writes late in the future file.
+fn put_late_of(asks: &Asks, own: &[bool; 16], commit: &Commit, file: &mut [Bits; 16])
+    ensures { file.new ≡ with_writes (late_write asks.now own.now commit.now) file.old }
 {
-    let mut all = *file;
     for number in 0..16usize {
-        let slot = late_slot(asks.late_customs[number], own[number], commit.custom[number]);
-        all[number] = register_after(file[number], slot);
-    }
-    all
-}
-
-/// The future file after a token leaves EX, where one does.
-pub fn file_early(slot: &Option<Token>, file: &[Bits; 16]) -> [Bits; 16]
-    ensures { result ≡ specified_file_early slot.now file.now }
-{
-    match slot {
-        None => *file,
-        Some(token) => match &token.trial {
-            None => *file,
-            Some(trial) => match &trial.answer {
-                StepAnswer::Done(commit) => with_early(&token.asks, &trial.blocks, commit, file),
-                StepAnswer::Stopped(_) => *file,
-            },
-        },
+        put_late_in(
+            &mut file[number],
+            asks.late_customs[number],
+            own[number],
+            &commit.custom[number],
+        );
     }
 }
 
-/// The future file after a token goes out of the last stage, where one does.
-pub fn file_late(slot: &Option<Token>, file: &[Bits; 16]) -> [Bits; 16]
-    ensures { result ≡ specified_file_late slot.now file.now }
+/// Makes the writes of a token that leaves EX.
+fn put_early_by(token: &Token, file: &mut [Bits; 16])
+    ensures { file.new ≡ trial_early token.now.asks token.now.trial file.old }
 {
-    match slot {
-        None => *file,
-        Some(token) => match &token.trial {
-            None => *file,
-            Some(trial) => match &trial.answer {
-                StepAnswer::Done(commit) => with_late(&token.asks, &trial.own, commit, file),
-                StepAnswer::Stopped(_) => *file,
-            },
-        },
+    if let Some(trial) = &token.trial {
+        if let StepAnswer::Done(commit) = &trial.answer {
+            put_early_of(&token.asks, &trial.blocks, commit, file);
+        }
+    }
+}
+
+/// Makes the writes of a token that goes out of the last stage.
+fn put_late_by(token: &Token, file: &mut [Bits; 16])
+    ensures { file.new ≡ trial_late token.now.asks token.now.trial file.old }
+{
+    if let Some(trial) = &token.trial {
+        if let StepAnswer::Done(commit) = &trial.answer {
+            put_late_of(&token.asks, &trial.own, commit, file);
+        }
+    }
+}
+
+/// Makes the writes of the token that leaves EX, of which this is the slot, where one does.
+pub fn put_early(slot: &Option<Token>, file: &mut [Bits; 16])
+    ensures { file.new ≡ file_early (going slot.now) file.old }
+{
+    if let Some(executed) = slot {
+        if executed.cell.hold.is_none() {
+            put_early_by(executed, file);
+        }
+    }
+}
+
+/// Makes the writes of the token that goes out of the last stage, of which this is the slot, where one does.
+pub fn put_late(slot: &Option<Token>, file: &mut [Bits; 16])
+    ensures { file.new ≡ file_late (going slot.now) file.old }
+{
+    if let Some(token) = slot {
+        if token.cell.hold.is_none() {
+            put_late_by(token, file);
+        }
     }
 }
 

@@ -1,7 +1,7 @@
 ghost use Rattle.std.specs.Prelude.{◌≡◌, ◌-◌, ◌==◌, ◌&&◌, if◌then◌else◌};
 ghost use Rattle.rv_waits.specs.Waits.{wait_at};
 ghost use Rattle.rv_holds.specs.Tokens.{makes_access};
-ghost use Rattle.rv_engine.specs.Rows.{operands as specified_operands, with_operands, reading};
+ghost use Rattle.rv_engine.specs.Rows.{operands, with_inputs, with_operands, reading};
 
 use crate::front::Front;
 use ix_eval::Inputs;
@@ -29,52 +29,31 @@ fn wait_of(shape: Shape, owed: u8, stage: usize, token: &Token) -> u8
     }
 }
 
-/// The inputs with the operands that the register file has.
-fn operands(file: &[u32; 32], inputs: &Inputs) -> Inputs
-    ensures { result ≡ specified_operands file.now inputs.now }
+/// Puts the operands that the register file has into inputs.
+fn read_operands(file: &[u32; 32], inputs: &mut Inputs)
+    ensures { inputs.new ≡ operands file.now inputs.old }
 {
     let word = inputs.word;
-    let rs1 = file[usize::from(rs1_of(word))];
-    let rs2 = file[usize::from(rs2_of(word))];
-    Inputs {
-        rs1,
-        rs2,
-        ..*inputs
-    }
+    inputs.rs1 = file[usize::from(rs1_of(word))];
+    inputs.rs2 = file[usize::from(rs2_of(word))];
 }
 
-/// The inputs of a token of this stage, which reads its operands at RD.
-fn inputs_of(shape: Shape, file: &[u32; 32], stage: usize, token: &Token) -> Inputs
-    ensures { result ≡ (if stage == shape.rd then specified_operands file.now token.now.inputs else token.now.inputs) }
+/// Gives a token its operands, where its stage is RD, and the rows for which it waits, where that is MEM.
+fn read_token(shape: Shape, file: &[u32; 32], owed: u8, stage: usize, token: &mut Token)
+    ensures { token.new ≡ with_inputs (if stage == shape.rd then operands file.now token.old.inputs else token.old.inputs) (if (stage == shape.mem) && makes_access token.old then owed else 0) token.old }
 {
+    token.wait = wait_of(shape, owed, stage, token);
     if stage == usize::from(shape.rd) {
-        operands(file, &token.inputs)
-    } else {
-        token.inputs
+        read_operands(file, &mut token.inputs);
     }
 }
 
-/// The slot with its operands, where its stage is RD, and with the rows for which it waits, where it is MEM.
-fn slot_read(
-    shape: Shape,
-    file: &[u32; 32],
-    owed: u8,
-    stage: usize,
-    slot: &Option<Token>,
-) -> Option<Token>
-    ensures { result ≡ with_operands shape file.now owed stage slot.now }
+/// The same for the token of a slot, where one is there.
+fn read_slot(shape: Shape, file: &[u32; 32], owed: u8, stage: usize, slot: &mut Option<Token>)
+    ensures { slot.new ≡ with_operands shape file.now owed stage slot.old }
 {
-    match slot {
-        None => None,
-        Some(token) => {
-            let inputs = inputs_of(shape, file, stage, token);
-            let wait = wait_of(shape, owed, stage, token);
-            Some(Token {
-                inputs,
-                wait,
-                ..*token
-            })
-        }
+    if let Some(token) = slot {
+        read_token(shape, file, owed, stage, token);
     }
 }
 
@@ -83,6 +62,6 @@ pub fn read(shape: Shape, file: &[u32; 32], owed: u8, slots: &mut [Option<Token>
     ensures { slots.new ≡ reading shape file.now owed 0 slots.old }
 {
     for stage in 0..slots.len() {
-        slots[stage] = slot_read(shape, file, owed, stage, &slots[stage]);
+        read_slot(shape, file, owed, stage, &mut slots[stage]);
     }
 }

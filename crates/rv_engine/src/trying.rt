@@ -1,52 +1,56 @@
-ghost use Rattle.std.specs.Prelude.{◌≡◌, ◌<◌, length, IfSome};
+ghost use Rattle.std.specs.Prelude.{◌≡◌, ◌<◌, length, option_map, if◌then◌else◌, IfSome};
 ghost use Rattle.ix_extension.specs.Extensions.{view_extension};
 ghost use Rattle.ix_extension.specs.WellFormed.{IsWellFormed};
 ghost use Rattle.ix_eval.specs.Scratches.{IsScratchOf};
-ghost use Rattle.rv_effect.specs.Decoding.{IsIn};
 ghost use Rattle.rv_effect.specs.WordEffects.{AreWide};
-ghost use Rattle.rv_engine.specs.Rows.{tried_with, seeing as specified_seeing, is_ripe as specified_is_ripe, with_trial, trying, is_loading as specified_is_loading, with_load, loading};
+ghost use Rattle.rv_engine.specs.Rows.{tried_with, seeing, is_ripe as specified_is_ripe, trying, is_loading as specified_is_loading, with_load, loading};
 ghost use Rattle.rv_engine.specs.Kept.{IsFitting, IsFittingSlot, AreFitting};
 
 use ix_bits::Bits;
-use ix_eval::{Inputs, Scratch};
+use ix_eval::Scratch;
 use ix_plan::Design;
 use rv_core::Shape;
 use rv_holds::{Token, waiting_hold};
 use rv_memory::RandomAccess;
 use rv_tried::try_word;
 
-/// The token, tried with these inputs on this memory.
-fn try_token(
-    design: &Design,
-    memory: &RandomAccess,
-    inputs: &Inputs,
-    token: &Token,
-    scratch: &mut Scratch,
-) -> Token
+/// Tries a token with its inputs on this memory.
+fn try_token(design: &Design, memory: &RandomAccess, token: &mut Token, scratch: &mut Scratch)
     requires well_formed { IsWellFormed design.now.extension }
-    requires is_in { IfSome token.now.decoded (λ d. IsIn (view_extension design.now.extension) d) }
-    requires wide { AreWide (view_extension design.now.extension) inputs.now.custom }
+    requires fitting { IsFitting (view_extension design.now.extension) token.old }
     requires scratch { IsScratchOf (view_extension design.now.extension) scratch.old }
     ensures scratch { IsScratchOf (view_extension design.now.extension) scratch.new }
-    ensures token { result ≡ tried_with (view_extension design.now.extension) memory.now inputs.now token.now }
-    ensures fitting { IsFitting (view_extension design.now.extension) result }
+    ensures token { token.new ≡ tried_with (view_extension design.now.extension) memory.now token.old.inputs token.old }
+    ensures fitting { IsFitting (view_extension design.now.extension) token.new }
 {
-    let trial = try_word(&design.extension, token.decoded, inputs, memory, scratch);
-    Token {
-        inputs: *inputs,
-        trial: Some(trial),
-        ..*token
-    }
+    let trial = try_word(
+        &design.extension,
+        token.decoded,
+        &token.inputs,
+        memory,
+        scratch,
+    );
+    token.trial = Some(trial);
 }
 
-/// The inputs with the custom registers of the future file.
-fn seeing(future: &[Bits; 16], inputs: &Inputs) -> Inputs
-    ensures { result ≡ specified_seeing future.now inputs.now }
+/// Tries a token, which sees the custom registers of the future file, on this memory.
+fn execute(
+    design: &Design,
+    future: &[Bits; 16],
+    memory: &RandomAccess,
+    token: &mut Token,
+    scratch: &mut Scratch,
+)
+    requires well_formed { IsWellFormed design.now.extension }
+    requires future { AreWide (view_extension design.now.extension) future.now }
+    requires fitting { IsFitting (view_extension design.now.extension) token.old }
+    requires scratch { IsScratchOf (view_extension design.now.extension) scratch.old }
+    ensures scratch { IsScratchOf (view_extension design.now.extension) scratch.new }
+    ensures token { token.new ≡ tried_with (view_extension design.now.extension) memory.now (seeing future.now token.old.inputs) token.old }
+    ensures fitting { IsFitting (view_extension design.now.extension) token.new }
 {
-    Inputs {
-        custom: *future,
-        ..*inputs
-    }
+    token.inputs.custom = *future;
+    try_token(design, memory, token, scratch);
 }
 
 /// Whether a token of this stage is to be tried: at EX, once, when it waits for no register and no pc.
@@ -62,33 +66,36 @@ fn is_ripe(shape: Shape, stage: usize, token: &Token, older: &[Option<Token>]) -
     waiting_hold(shape, stage, token, older).is_none()
 }
 
-/// The slot of this stage, tried if it is to be.
-fn slot_tried(
+/// Whether the token of EX in this slot, where one is there, is to be tried.
+fn is_ripe_in(shape: Shape, slot: &Option<Token>, older: &[Option<Token>]) -> bool
+    ensures { IfSome slot.now (λ t. result ≡ specified_is_ripe shape shape.ex t older.now) }
+{
+    match slot {
+        None => false,
+        Some(token) => is_ripe(shape, usize::from(shape.ex), token, older),
+    }
+}
+
+/// Tries the token of EX in this slot, if it is to be.
+fn execute_if(
     design: &Design,
     future: &[Bits; 16],
     memory: &RandomAccess,
-    slot: &Option<Token>,
-    older: &[Option<Token>],
+    ripe: bool,
+    slot: &mut Option<Token>,
     scratch: &mut Scratch,
-) -> Option<Token>
+)
     requires well_formed { IsWellFormed design.now.extension }
     requires future { AreWide (view_extension design.now.extension) future.now }
-    requires fitting { IsFittingSlot (view_extension design.now.extension) slot.now }
+    requires fitting { IsFittingSlot (view_extension design.now.extension) slot.old }
     requires scratch { IsScratchOf (view_extension design.now.extension) scratch.old }
     ensures scratch { IsScratchOf (view_extension design.now.extension) scratch.new }
-    ensures slot { result ≡ with_trial (view_extension design.now.extension) design.now.sheet.shape future.now memory.now design.now.sheet.shape.ex slot.now older.now }
-    ensures fitting { IsFittingSlot (view_extension design.now.extension) result }
+    ensures slot { slot.new ≡ option_map (λ t. if ripe then tried_with (view_extension design.now.extension) memory.now (seeing future.now t.inputs) t else t) slot.old }
+    ensures fitting { IsFittingSlot (view_extension design.now.extension) slot.new }
 {
-    let shape = design.sheet.shape;
-    match slot {
-        None => None,
-        Some(token) => {
-            if is_ripe(shape, usize::from(shape.ex), token, older) {
-                let inputs = seeing(future, &token.inputs);
-                Some(try_token(design, memory, &inputs, token, scratch))
-            } else {
-                Some(*token)
-            }
+    if let Some(token) = slot {
+        if ripe {
+            execute(design, future, memory, token, scratch);
         }
     }
 }
@@ -111,14 +118,8 @@ pub fn try_executing(
     ensures fitting { AreFitting (view_extension design.now.extension) slots.new }
 {
     let stage = usize::from(design.sheet.shape.ex);
-    slots[stage] = slot_tried(
-        design,
-        future,
-        memory,
-        &slots[stage],
-        &slots[stage + 1..],
-        scratch,
-    );
+    let ripe = is_ripe_in(design.sheet.shape, &slots[stage], &slots[stage + 1..]);
+    execute_if(design, future, memory, ripe, &mut slots[stage], scratch);
 }
 
 /// Whether a token of this stage reads the memory as it leaves: a load at MEM.
@@ -128,29 +129,24 @@ fn is_loading(shape: Shape, stage: usize, token: &Token) -> bool
     stage == usize::from(shape.mem) && token.cell.hold.is_none() && token.asks.loads
 }
 
-/// The slot of MEM, tried again on the memory as it leaves, if it loads.
-fn slot_loaded(
+/// Lets the token of MEM in this slot read the memory, if it is a load that leaves.
+fn load_slot(
     design: &Design,
     memory: &RandomAccess,
-    slot: &Option<Token>,
+    slot: &mut Option<Token>,
     scratch: &mut Scratch,
-) -> Option<Token>
+)
     requires well_formed { IsWellFormed design.now.extension }
-    requires fitting { IsFittingSlot (view_extension design.now.extension) slot.now }
+    requires fitting { IsFittingSlot (view_extension design.now.extension) slot.old }
     requires scratch { IsScratchOf (view_extension design.now.extension) scratch.old }
     ensures scratch { IsScratchOf (view_extension design.now.extension) scratch.new }
-    ensures slot { result ≡ with_load (view_extension design.now.extension) design.now.sheet.shape memory.now design.now.sheet.shape.mem slot.now }
-    ensures fitting { IsFittingSlot (view_extension design.now.extension) result }
+    ensures slot { slot.new ≡ with_load (view_extension design.now.extension) design.now.sheet.shape memory.now design.now.sheet.shape.mem slot.old }
+    ensures fitting { IsFittingSlot (view_extension design.now.extension) slot.new }
 {
     let shape = design.sheet.shape;
-    match slot {
-        None => None,
-        Some(token) => {
-            if is_loading(shape, usize::from(shape.mem), token) {
-                Some(try_token(design, memory, &token.inputs, token, scratch))
-            } else {
-                Some(*token)
-            }
+    if let Some(token) = slot {
+        if is_loading(shape, usize::from(shape.mem), token) {
+            try_token(design, memory, token, scratch);
         }
     }
 }
@@ -171,5 +167,5 @@ pub fn load(
     ensures fitting { AreFitting (view_extension design.now.extension) slots.new }
 {
     let stage = usize::from(design.sheet.shape.mem);
-    slots[stage] = slot_loaded(design, memory, &slots[stage], scratch);
+    load_slot(design, memory, &mut slots[stage], scratch);
 }

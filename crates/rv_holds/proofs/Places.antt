@@ -1,6 +1,6 @@
 -- Slots from a place on, and what loops over the stages make of them step by step.
 use Rattle.std.proofs.Common.{◌≡◌, ℕ, zero, suc, ◌+◌, ◌-◌, ◌<◌, ◌≤◌, [], ◌∷◌, drop, take, length, get_or, Option, Some, None, true, false, refl, sym, ap, ◌∙◌, arith}
-use Rattle.std.specs.Prelude.{if◌then◌else◌, is_some}
+use Rattle.std.specs.Prelude.{if◌then◌else◌, is_some, option_map, IfSome}
 use Rattle.std.proofs.Math.ListN.{set}
 use Rattle.std.proofs.lemmas.List.{at_drop_more, take_all, length-drop, drop-set, take-set, get_or-take}
 use Rattle.rv_core.specs.declared.Shape.{Shape}
@@ -8,7 +8,7 @@ use Rattle.rv_trace.specs.declared.row.Hold.{Hold}
 use Rattle.rv_seq.specs.declared.commit.Stop.{Stop}
 use Rattle.rv_holds.specs.declared.token.Token.{Token}
 use Rattle.rv_holds.specs.Tokens.{Slots, or_else, stop_of}
-use Rattle.rv_holds.specs.Holds.{first_from, stops_now, with_hold, decided}
+use Rattle.rv_holds.specs.Holds.{first_from, stops_now, shown, held, with_hold, decided}
 use Rattle.rv_holds.specs.Flushing.{next_of, settles, settled, slot_stop}
 
 up : (n : ℕ) → suc n ≡ n + 1
@@ -90,6 +90,11 @@ take_less (suc n) (suc m) (x ∷ xs) le = ap (λ l. x ∷ l) (take_less n m xs (
 -- lists that agree in their first elements agree in fewer
 fewer : (n : ℕ) (xs ys : Slots) → take (n + 1) xs ≡ take (n + 1) ys → take n xs ≡ take n ys
 fewer n xs ys e = sym (take_less n (n + 1) xs (omega arith)) ∙ ap (λ l. take n l) e ∙ take_less n (n + 1) ys (omega arith)
+
+-- a slot whose token was given the hold that it shows
+pub held_here : (k : Shape) (n : ℕ) (s r : Option Token) (h : Option Hold) (older : Slots) → IfSome s (λ t. h ≡ shown k n t older) → r ≡ option_map (held h) s → r ≡ with_hold k n s older
+held_here k n None r h older i e = e
+held_here k n (Some t) r h older i e = e ∙ ap (λ (g : Option Hold). Some (held g t)) i
 
 -- what is left of a loop from the oldest down, with one more of them decided
 pub decided_more : (k : Shape) (n : ℕ) (now old older : Slots) (s r : Option Token) → n < length old → length now ≡ length old → take (n + 1) now ≡ take (n + 1) old → drop (n + 1) now ≡ decided k (n + 1) (drop (n + 1) old)

@@ -1,11 +1,11 @@
-ghost use Rattle.std.specs.Prelude.{◌≡◌, ◌+◌, ◌<◌, ◌==◌, length, suc, is_some};
+ghost use Rattle.std.specs.Prelude.{◌≡◌, ◌+◌, ◌<◌, ◌==◌, length, suc, is_some, option_map, IfSome};
 ghost use Rattle.rv_holds.specs.Tokens.{or_else};
-ghost use Rattle.rv_holds.specs.Holds.{oldest, does_write, writes_late, does_store, is_late, waits_for, operand_hold, waits_for_custom, custom_hold, late_hold, waiting_hold as specified_waiting_hold, staying, drain_hold, store_hold, memory_hold, tail_hold, own_hold, stops_now, is_blocked as specified_is_blocked, shown, held as specified_held, with_hold, decided};
+ghost use Rattle.rv_holds.specs.Holds.{oldest, does_write, writes_late, does_store, is_late, waits_for, operand_hold, waits_for_custom, custom_hold, late_hold, waiting_hold as specified_waiting_hold, staying, drain_hold, store_hold, memory_hold, tail_hold, own_hold, stops_now, is_blocked as specified_is_blocked, shown, held as specified_held, decided};
 
 use crate::token::{Token, stop_of};
 use rv_asks::Asks;
 use rv_core::Shape;
-use rv_trace::{Cell, Hold};
+use rv_trace::Hold;
 
 /// The oldest token that writes this x register.
 fn oldest_writer(older: &[Option<Token>], r: u8) -> Option<u32>
@@ -303,27 +303,28 @@ fn hold_of(shape: Shape, stage: usize, token: &Token, older: &[Option<Token>]) -
     }
 }
 
-/// The token with this hold.
-pub fn held(token: &Token, hold: Option<Hold>) -> Token
-    ensures { result ≡ specified_held hold token.now }
-{
-    let cell = Cell { hold, ..token.cell };
-    Token { cell, ..*token }
-}
-
-/// The slot with its hold, where the older ones have theirs.
-fn slot_held(
+/// The hold of the token of this slot, where one is there.
+fn hold_in(
     shape: Shape,
     stage: usize,
     slot: &Option<Token>,
     older: &[Option<Token>],
-) -> Option<Token>
+) -> Option<Hold>
     requires { stage < 100 }
-    ensures { result ≡ with_hold shape stage slot.now older.now }
+    ensures { IfSome slot.now (λ t. result ≡ shown shape stage t older.now) }
 {
     match slot {
         None => None,
-        Some(token) => Some(held(token, hold_of(shape, stage, token, older))),
+        Some(token) => hold_of(shape, stage, token, older),
+    }
+}
+
+/// Gives the token of this slot a hold.
+pub fn hold(slot: &mut Option<Token>, hold: Option<Hold>)
+    ensures { slot.new ≡ option_map (specified_held hold) slot.old }
+{
+    if let Some(token) = slot {
+        token.cell.hold = hold;
     }
 }
 
@@ -333,6 +334,7 @@ pub fn decide(shape: Shape, slots: &mut [Option<Token>])
     ensures { slots.new ≡ decided shape 0 slots.old }
 {
     for stage in (0..slots.len()).rev() {
-        slots[stage] = slot_held(shape, stage, &slots[stage], &slots[stage + 1..]);
+        let shown = hold_in(shape, stage, &slots[stage], &slots[stage + 1..]);
+        hold(&mut slots[stage], shown);
     }
 }

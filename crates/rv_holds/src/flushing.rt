@@ -2,10 +2,10 @@ ghost use Rattle.std.specs.Prelude.{◌≡◌, ◌≤◌, ◌<◌, length, take,
 ghost use Rattle.rv_holds.specs.Tokens.{cell_of, cells_of};
 ghost use Rattle.rv_holds.specs.Flushing.{next_of as specified_next_of, settles_at as specified_settles_at, settles as specified_settles, settled, nearest, turn_of, redirect_of as specified_redirect_of, struck as specified_struck, freed as specified_freed, unheld, cleared, serial_in as specified_serial_in, flushed_of, slot_stop, remains as specified_remains, fetch_after};
 
-use crate::deciding::{does_stop, held, is_last};
-use crate::token::{Token, commit_of, stop_of};
+use crate::deciding::{does_stop, hold, is_last};
+use crate::token::{Token, stop_of};
 use rv_core::Shape;
-use rv_seq::Stop;
+use rv_seq::{StepAnswer, Stop};
 use rv_trace::Cell;
 
 /// Where a token settles its successor, and the address of that one.
@@ -49,9 +49,12 @@ fn cells_in(slots: &[Option<Token>]) -> [Option<Cell>; 5]
 fn next_of(token: &Token) -> u32
     ensures { result ≡ specified_next_of token.now }
 {
-    match commit_of(token) {
+    match &token.trial {
+        Some(trial) => match &trial.answer {
+            StepAnswer::Done(commit) => commit.next,
+            StepAnswer::Stopped(_) => token.cell.at.wrapping_add(4),
+        },
         None => token.cell.at.wrapping_add(4),
-        Some(commit) => commit.next,
     }
 }
 
@@ -170,21 +173,21 @@ fn serials_in(slots: &[Option<Token>]) -> [Option<u32>; 5]
     serials
 }
 
-fn freed(slot: &Option<Token>) -> Option<Token>
-    ensures { result ≡ specified_freed slot.now }
-{
-    match slot {
-        None => None,
-        Some(token) => Some(held(token, None)),
-    }
-}
-
 /// Flushed tokens show no hold.
 fn free(slots: &mut [Option<Token>])
     ensures { slots.new ≡ map specified_freed slots.old }
 {
     for stage in 0..slots.len() {
-        slots[stage] = freed(&slots[stage]);
+        hold(&mut slots[stage], None);
+    }
+}
+
+/// Takes the tokens away.
+fn empty(slots: &mut [Option<Token>])
+    ensures { slots.new ≡ replicate (length slots.old) None }
+{
+    for stage in 0..slots.len() {
+        slots[stage] = None;
     }
 }
 
@@ -203,7 +206,7 @@ pub fn flush(shape: Shape, fetch: u32, slots: &mut [Option<Token>]) -> Shown
     let flushed = serials_in(&slots[..count]);
     free(&mut slots[..count]);
     let cells = cells_in(slots);
-    slots[..count].fill(None);
+    empty(&mut slots[..count]);
     Shown {
         cells,
         flushed,

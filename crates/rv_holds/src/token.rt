@@ -28,10 +28,10 @@ pub struct Token {
 pub fn stop_of(token: &Token) -> Option<Stop>
     ensures { result ≡ specified_stop_of token.now }
 {
-    match token.trial {
-        Some(trial) => match trial.answer {
+    match &token.trial {
+        Some(trial) => match &trial.answer {
             StepAnswer::Done(_) => None,
-            StepAnswer::Stopped(stop) => Some(stop),
+            StepAnswer::Stopped(stop) => Some(*stop),
         },
         None => None,
     }
@@ -41,9 +41,9 @@ pub fn stop_of(token: &Token) -> Option<Stop>
 pub fn commit_of(token: &Token) -> Option<Commit>
     ensures { result ≡ specified_commit_of token.now }
 {
-    match token.trial {
-        Some(trial) => match trial.answer {
-            StepAnswer::Done(commit) => Some(commit),
+    match &token.trial {
+        Some(trial) => match &trial.answer {
+            StepAnswer::Done(commit) => Some(*commit),
             StepAnswer::Stopped(_) => None,
         },
         None => None,
@@ -54,7 +54,7 @@ pub fn commit_of(token: &Token) -> Option<Commit>
 pub fn access_of(token: &Token) -> bool
     ensures { result ≡ makes_access token.now }
 {
-    match token.trial {
+    match &token.trial {
         Some(trial) => trial.accesses,
         None => false,
     }

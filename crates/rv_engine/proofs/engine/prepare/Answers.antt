@@ -2,16 +2,14 @@ use Rattle.std.proofs.Common.{sym, subst}
 use Rattle.ix_extension.specs.Extensions.{view_extension}
 use Rattle.rv_holds.specs.Tokens.{Slots}
 use Rattle.rv_engine.specs.Kept.{AreFitting}
-use Rattle.rv_engine.proofs.Fitting.{fill_fitting, reading_fitting, decided_fitting}
+use Rattle.rv_engine.proofs.Fitting.{reading_fitting, decided_fitting}
 use Rattle.rv_engine.proofs.engine.prepare.Goals as goal
 
 pub try_executing-requires-clause-fitting : goal.try_executing-requires-clause-fitting
 try_executing-requires-clause-fitting c =
     let x = view_extension c.args.design.now.extension in
-    let filled : AreFitting x c.fill_first.new.slots =
-    subst (λ (z : Slots). AreFitting x z) (sym c.fill_first.ensures) (fill_fitting x c.fetched-new.result c.args.slots.now c.fetched-new.ensures.fitting c.requires.fitting) in
     subst (λ (z : Slots). AreFitting x z) (sym c.read.ensures)
-    (reading_fitting x c.args.design.now.sheet.shape c.args.arch.now.x c.owed_in.result 0 c.fill_first.new.slots filled)
+    (reading_fitting x c.args.design.now.sheet.shape c.args.arch.now.x c.owed_in.result 0 c.fetch-next.new.slots c.fetch-next.ensures.fitting)
 
 pub load-requires-clause-fitting : goal.load-requires-clause-fitting
 load-requires-clause-fitting c =

@@ -1,12 +1,13 @@
-use Rattle.std.proofs.Common.{◌<◌, sym, subst, length, List, Option, ℕ, arith}
-use Rattle.std.specs.Prelude.{false, true, None}
+use Rattle.std.proofs.Common.{◌<◌, sym, subst, length, get_or, List, Option, ℕ, arith}
+use Rattle.std.specs.Prelude.{None}
 use Rattle.ix_bits.specs.declared.number.Bits.{Bits}
 use Rattle.ix_extension.specs.Extensions.{view_extension}
 use Rattle.rv_effect.specs.WordEffects.{AreWide}
 use Rattle.rv_seq.specs.declared.commit.Commit.{Commit}
+use Rattle.rv_holds.specs.declared.token.Token.{Token}
 use Rattle.rv_holds.specs.Tokens.{Slots}
 use Rattle.rv_holds.specs.Flushing.{turn_of, struck}
-use Rattle.rv_engine.specs.Rows.{going, file_late}
+use Rattle.rv_engine.specs.Rows.{going}
 use Rattle.rv_engine.specs.Kept.{AreFitting, IsFittingSlot, AreStoredInside}
 use Rattle.rv_engine.proofs.Fitting.{cleared_fitting, advanced_fitting, left_fitting, element_fitting, going_fitting, stored_inside}
 use Rattle.rv_engine.proofs.Widths.{early_file_wide, late_file_wide}
@@ -18,8 +19,8 @@ retire-requires c =
     let turn = turn_of c.args.design.now.sheet.shape c.args.front.now.fetch c.prepare-next.new.slots in
     let seen : AreFitting x c.flush-shown.new.slots =
     subst (λ (z : Slots). AreFitting x z) (sym c.flush-shown.ensures.slots) (cleared_fitting x (struck turn) c.prepare-next.new.slots c.prepare-next.ensures.fitting) in
-    let left : IsFittingSlot x c.advance-left.result = left_fitting x c.flush-shown.new.slots c.advance-left.result c.advance-left.ensures.left seen in
-    subst (λ (o : Option (ℕ × Commit)). AreStoredInside o) (sym c.retired_in-retired.ensures) (stored_inside x c.advance-left.result left)
+    let left : IsFittingSlot x (going c.last.result.now) = left_fitting x c.flush-shown.new.slots (going c.last.result.now) c.last.ensures seen in
+    subst (λ (o : Option (ℕ × Commit)). AreStoredInside o) (sym c.retired_in-retired.ensures) (stored_inside x (going c.last.result.now) left)
 
 pub returns-clause-future : goal.returns-clause-future
 returns-clause-future c =
@@ -28,13 +29,16 @@ returns-clause-future c =
     let turn = turn_of shape c.args.front.now.fetch c.prepare-next.new.slots in
     let seen : AreFitting x c.flush-shown.new.slots =
     subst (λ (z : Slots). AreFitting x z) (sym c.flush-shown.ensures.slots) (cleared_fitting x (struck turn) c.prepare-next.new.slots c.prepare-next.ensures.fitting) in
-    let left : IsFittingSlot x c.advance-left.result = left_fitting x c.flush-shown.new.slots c.advance-left.result c.advance-left.ensures.left seen in
+    let left : IsFittingSlot x (going c.last-2.result.now) = left_fitting x c.flush-shown.new.slots (going c.last-2.result.now) c.last-2.ensures seen in
     let inside : c.from.result < length c.flush-shown.new.slots =
     omega (arith, c.from.ensures, c.flush-shown.auto.slots, c.prepare-next.ensures.stages, shape.lawful.memory_late, shape.lawful.memory_inside) in
-    let executing : IsFittingSlot x c.index-slots-from.result = element_fitting x c.flush-shown.new.slots c.from.result c.index-slots-from.result seen inside c.index-slots-from.is in
-    subst (λ (file : List Bits). AreWide x file) (sym c.future_after.ensures)
-    (early_file_wide x (going c.index-slots-from.result) (file_late c.advance-left.result c.args.future.now) (going_fitting x c.index-slots-from.result executing)
-    (late_file_wide x c.advance-left.result c.args.future.now left c.requires.future))
+    let there = get_or c.flush-shown.new.slots c.from.result c.index-slots-from.result in
+    let executing : IsFittingSlot x there =
+    subst (λ (s : Option Token). IsFittingSlot x s) c.index-slots-from.is (element_fitting x c.flush-shown.new.slots c.from.result c.index-slots-from.result seen inside c.index-slots-from.is) in
+    let late : AreWide x c.put_late.new.file =
+    subst (λ (file : List Bits). AreWide x file) (sym c.put_late.ensures) (late_file_wide x (going c.last-2.result.now) c.args.future.now left c.requires.future) in
+    subst (λ (file : List Bits). AreWide x file) (sym c.put_early.ensures)
+    (early_file_wide x (going there) c.put_late.new.file (going_fitting x there executing) late)
 
 pub returns-clause-fitting : goal.returns-clause-fitting
 returns-clause-fitting c =
@@ -42,4 +46,4 @@ returns-clause-fitting c =
     let turn = turn_of c.args.design.now.sheet.shape c.args.front.now.fetch c.prepare-next.new.slots in
     let seen : AreFitting x c.flush-shown.new.slots =
     subst (λ (z : Slots). AreFitting x z) (sym c.flush-shown.ensures.slots) (cleared_fitting x (struck turn) c.prepare-next.new.slots c.prepare-next.ensures.fitting) in
-    subst (λ (z : Slots). AreFitting x z) (sym c.advance-left.ensures.slots) (advanced_fitting x None c.flush-shown.new.slots tt seen)
+    subst (λ (z : Slots). AreFitting x z) (sym c.advance.ensures) (advanced_fitting x None c.flush-shown.new.slots tt seen)

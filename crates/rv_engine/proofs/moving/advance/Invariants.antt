@@ -1,12 +1,12 @@
-use Rattle.std.proofs.Common.{◌≡◌, ◌++◌, drop, take, length}
+use Rattle.std.proofs.Common.{◌≡◌, ◌-◌, ◌<◌, drop, take, length, get_or}
 use Rattle.std.specs.Prelude.{None}
-use Rattle.rv_engine.specs.Rows.{advanced, leaving}
+use Rattle.rv_engine.specs.Rows.{going, advanced}
 use Rattle.rv_engine.proofs.moving.advance.Given as goal
 
 abbrev pub invariant-loop-stage : goal.invariant-loop-stage
 invariant-loop-stage l = record {
-  done : take l.stage l.slots ++ advanced l.come (drop l.stage l.fn.slots) ≡ advanced None l.fn.slots;
-  left : leaving l.come (drop l.stage l.fn.slots) ≡ leaving None l.fn.slots;
-  rest : drop l.stage l.slots ≡ drop l.stage l.fn.slots;
+  done : drop l.stage l.slots ≡ advanced (going (get_or l.fn.slots (l.stage - 1) None)) (drop l.stage l.fn.slots);
+  rest : take l.stage l.slots ≡ take l.stage l.fn.slots;
+  least : 0 < l.stage;
   long : length l.slots ≡ length l.fn.slots;
 }

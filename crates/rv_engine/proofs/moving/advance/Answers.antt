@@ -1,0 +1,32 @@
+use Rattle.std.proofs.Common.{◌≡◌, ◌∙◌, ◌+◌, ◌-◌, ap, subst, take, drop, length, get_or, arith}
+use Rattle.std.specs.Prelude.{None}
+use Rattle.std.proofs.lemmas.List.{length-set}
+use Rattle.rv_holds.specs.Tokens.{Slots}
+use Rattle.rv_engine.specs.Rows.{going, kept, advanced}
+use Rattle.rv_engine.proofs.Going.{advanced_more, front_more, advanced_first}
+use Rattle.rv_engine.proofs.moving.advance.Goals as goal
+
+pub loop-stage-preserved : goal.loop-stage-preserved
+loop-stage-preserved c =
+    let n = c.loop-stage.stage - 1 in
+    let now = c.loop-stage.slots in
+    let old = c.args.slots.now in
+    let new = c.move_at.new.slots in
+    let e : c.loop-stage.stage ≡ n + 1 = omega (arith, c.loop-stage-test.true) in
+    let front : take (n + 1) now ≡ take (n + 1) old = subst (λ m. take m now ≡ take m old) e c.loop-stage.invariant.rest in
+    let back : drop (n + 1) now ≡ advanced (going (get_or old n None)) (drop (n + 1) old) = subst (λ m. drop m now ≡ advanced (going (get_or old n None)) (drop m old)) e c.loop-stage.invariant.done in
+    record {
+      done = advanced_more n now old new (omega (arith, c.loop-stage-test.true, c.loop-stage.auto.stage)) c.loop-stage.invariant.long front back c.move_at.ensures;
+      rest = front_more n now old new (kept (going (get_or now (n - 1) None)) (get_or now n None)) front c.move_at.ensures;
+      least = omega (arith, c.loop-stage-test.true);
+      long = ap (λ (l : Slots). length l) c.move_at.ensures ∙ length-set now n (kept (going (get_or now (n - 1) None)) (get_or now n None)) ∙ c.loop-stage.invariant.long;
+    }
+
+pub returns : goal.returns
+returns c =
+    let now = c.loop-stage.slots in
+    let old = c.args.slots.now in
+    let e : c.loop-stage.stage ≡ 1 = omega (arith, c.loop-stage-test.false, c.loop-stage.invariant.least) in
+    let front : take 1 now ≡ take 1 old = subst (λ m. take m now ≡ take m old) e c.loop-stage.invariant.rest in
+    let back : drop 1 now ≡ advanced (going (get_or old 0 None)) (drop 1 old) = subst (λ m. drop m now ≡ advanced (going (get_or old (m - 1) None)) (drop m old)) e c.loop-stage.invariant.done in
+    advanced_first now old _ c.leave.new.slot c.requires c.loop-stage.invariant.long front back c.leave.ensures
