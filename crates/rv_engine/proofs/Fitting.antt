@@ -89,7 +89,7 @@ element_fitting x (first ∷ older) (suc n) s h lt e = element_fitting x older n
 -- what a token writes, and retires, is sound
 sound_trial : (x : ExtensionTree) (o : Option Trial) → IsSoundTrial x o → IfSome (tried_commit o) (IsSoundCommit x)
 sound_trial x None h = tt
-sound_trial x (Some trial) h = by_answer trial.answer h where
+sound_trial x (Some trial) h = by_answer trial.answer h.0 where
   by_answer : (a : StepAnswer) → IsSound x a → IfSome (commit_in a) (IsSoundCommit x)
   by_answer (Done c) h = h
   by_answer (Stopped stop) h = tt

@@ -1,6 +1,6 @@
 -- Widths of the registers of the future file.
 use Rattle.std.proofs.Common.{◌≡◌, ℕ, zero, suc, ◌<◌, List, [], ◌∷◌, get_or, length, Option, Some, None, Bool, true, false, arith}
-use Rattle.std.specs.Prelude.{slice_get, IfSome, if◌then◌else◌}
+use Rattle.std.specs.Prelude.{slice_get, IfSome, if◌then◌else◌, ◌&&◌}
 use Rattle.ix_bits.specs.declared.number.Bits.{Bits}
 use Rattle.ix_extension.specs.Extensions.{ExtensionTree}
 use Rattle.ix_eval.specs.Tables.{table}
@@ -9,16 +9,17 @@ use Rattle.ix_eval.proofs.Tables.{table_length}
 use Rattle.rv_effect.specs.WordEffects.{AreWide}
 use Rattle.rv_seq.specs.declared.commit.Slot.{Slot}
 use Rattle.rv_seq.specs.declared.commit.Slot.TheVariants.{Absent, Now, Later}
-use Rattle.rv_seq.specs.declared.commit.Commit.{Commit}
 use Rattle.rv_seq.specs.States.{zero_bit}
-use Rattle.rv_seq.specs.Commits.{with_slot}
-use Rattle.rv_seq.specs.Sound.{IsNowWide, IsSoundCommit}
+use Rattle.rv_seq.specs.declared.answer.StepAnswer.{StepAnswer}
+use Rattle.rv_seq.specs.declared.answer.StepAnswer.TheVariants.{Done, Stopped}
+use Rattle.rv_seq.specs.Commits.{slot_of, with_slot}
+use Rattle.rv_seq.specs.Sound.{IsNowWide, IsSound}
 use Rattle.rv_asks.specs.declared.asks.Asks.{Asks}
 use Rattle.rv_holds.specs.declared.token.Token.{Token}
-use Rattle.rv_holds.specs.Tokens.{commit_of}
-use Rattle.rv_engine.specs.Rows.{counts, with_marked, with_writes, file_after}
-use Rattle.rv_engine.specs.Kept.{IsFittingSlot}
-use Rattle.rv_engine.proofs.Fitting.{sound_commit}
+use Rattle.rv_tried.specs.declared.trial.Trial.{Trial}
+use Rattle.rv_tried.specs.Whole.{AreBlocksWide}
+use Rattle.rv_engine.specs.Rows.{is_pending, early_write, late_write, with_writes, early_after, late_after, trial_early, trial_late, file_early, file_late}
+use Rattle.rv_engine.specs.Kept.{IsSoundTrial, IsFittingSlot}
 
 table_get : {A : Type 0} (P : ℕ → A → Type 0) (f : ℕ → A) (n : ℕ) → ((r : ℕ) → r < n → P r (f r)) → (r : ℕ) → IfSome (slice_get (table f n) r) (P r)
 table_get P f zero h r = tt
@@ -31,28 +32,49 @@ get_wide P [] r d lt h = absurd (omega (arith, lt))
 get_wide P (x ∷ xs) zero d lt h = h
 get_wide P (x ∷ xs) (suc r) d lt h = get_wide P xs r d (omega (arith, lt)) h
 
-with_wide : (width : ℕ) (old : Bits) (s : Slot Bits) (b : Bool) → old.width ≡ width → IsNowWide width s → (if b then with_slot old s else old).width ≡ width
-with_wide width old s false e h = e
-with_wide width old Absent true e h = e
-with_wide width old (Now v) true e h = h
-with_wide width old Later true e h = e
+with_wide : (width : ℕ) (old : Bits) (s : Slot Bits) → old.width ≡ width → IsNowWide width s → (with_slot old s).width ≡ width
+with_wide width old Absent e h = e
+with_wide width old (Now v) e h = h
+with_wide width old Later e h = e
 
-marked_wide : (x : ExtensionTree) (is_late : Bool) (a : Asks) (c : Commit) (file : List Bits) → IsSoundCommit x c → AreWide x file → AreWide x (with_marked is_late a c file)
-marked_wide x is_late a c file s h =
-    let f : ℕ → Bits = λ r. if counts is_late (get_or a.late_customs r false) then with_slot (get_or file r zero_bit) (get_or c.custom r Absent) else get_or file r zero_bit in
+writes_wide : (x : ExtensionTree) (f : ℕ → Slot Bits) (file : List Bits) → ((r : ℕ) → IsNowWide (type_of_custom x r).width (f r)) → AreWide x file → AreWide x (with_writes f file)
+writes_wide x f file s h =
+    let g : ℕ → Bits = λ r. with_slot (get_or file r zero_bit) (f r) in
     record {
-      count = table_length f 16;
+      count = table_length g 16;
       widths =
-          table_get (λ r b. b.width ≡ (type_of_custom x r).width) f 16
-          (λ r lt.
-          with_wide (type_of_custom x r).width (get_or file r zero_bit) (get_or c.custom r Absent) (counts is_late (get_or a.late_customs r false))
-          (get_wide (λ b. b.width ≡ (type_of_custom x r).width) file r zero_bit (omega (arith, lt, h.count)) (h.widths r)) (s.wide r));
+          table_get (λ r b. b.width ≡ (type_of_custom x r).width) g 16
+          (λ r lt. with_wide (type_of_custom x r).width (get_or file r zero_bit) (f r) (get_wide (λ b. b.width ≡ (type_of_custom x r).width) file r zero_bit (omega (arith, lt, h.count)) (h.widths r)) (s r));
     }
 
-writes_wide : (x : ExtensionTree) (is_late : Bool) (a : Asks) (o : Option Commit) (file : List Bits) → IfSome o (IsSoundCommit x) → AreWide x file → AreWide x (with_writes is_late a o file)
-writes_wide x is_late a None file s h = h
-writes_wide x is_late a (Some c) file s h = marked_wide x is_late a c file s h
+either_wide : (width : ℕ) (b : Bool) (s u : Slot Bits) → IsNowWide width s → IsNowWide width u → IsNowWide width (if b then s else u)
+either_wide width true s u h g = h
+either_wide width false s u h g = g
 
-pub file_wide : (x : ExtensionTree) (is_late : Bool) (s : Option Token) (file : List Bits) → IsFittingSlot x s → AreWide x file → AreWide x (file_after is_late s file)
-file_wide x is_late None file f h = h
-file_wide x is_late (Some t) file f h = writes_wide x is_late t.asks (commit_of t) file (sound_commit x t f) h
+early_wide : (x : ExtensionTree) (a : Asks) (blocks : List (Option Bits)) (y : StepAnswer) (file : List Bits) → IsSound x y → AreBlocksWide x blocks → AreWide x file → AreWide x (early_after a blocks y file)
+early_wide x a blocks (Done c) file s w h =
+    writes_wide x (early_write a blocks c) file
+    (λ r. either_wide (type_of_custom x r).width (is_pending a r) (slot_of (get_or blocks r None)) (get_or c.custom r Absent) (w r) (s.wide r)) h
+early_wide x a blocks (Stopped stop) file s w h = h
+
+late_wide : (x : ExtensionTree) (a : Asks) (own : List Bool) (y : StepAnswer) (file : List Bits) → IsSound x y → AreWide x file → AreWide x (late_after a own y file)
+late_wide x a own (Done c) file s h =
+    writes_wide x (late_write a own c) file
+    (λ r. either_wide (type_of_custom x r).width (get_or a.late_customs r false && get_or own r false) (get_or c.custom r Absent) Absent (s.wide r) tt) h
+late_wide x a own (Stopped stop) file s h = h
+
+trial_early_wide : (x : ExtensionTree) (a : Asks) (o : Option Trial) (file : List Bits) → IsSoundTrial x o → AreWide x file → AreWide x (trial_early a o file)
+trial_early_wide x a None file s h = h
+trial_early_wide x a (Some trial) file s h = early_wide x a trial.blocks trial.answer file s.0 s.1 h
+
+trial_late_wide : (x : ExtensionTree) (a : Asks) (o : Option Trial) (file : List Bits) → IsSoundTrial x o → AreWide x file → AreWide x (trial_late a o file)
+trial_late_wide x a None file s h = h
+trial_late_wide x a (Some trial) file s h = late_wide x a trial.own trial.answer file s.0 h
+
+pub early_file_wide : (x : ExtensionTree) (s : Option Token) (file : List Bits) → IsFittingSlot x s → AreWide x file → AreWide x (file_early s file)
+early_file_wide x None file f h = h
+early_file_wide x (Some t) file f h = trial_early_wide x t.asks t.trial file f.sound h
+
+pub late_file_wide : (x : ExtensionTree) (s : Option Token) (file : List Bits) → IsFittingSlot x s → AreWide x file → AreWide x (file_late s file)
+late_file_wide x None file f h = h
+late_file_wide x (Some t) file f h = trial_late_wide x t.asks t.trial file f.sound h

@@ -11,6 +11,7 @@ use Rattle.rv_seq.specs.Commits.{IsStoredInside}
 use Rattle.rv_effect.specs.Decoding.{IsIn}
 use Rattle.rv_effect.specs.WordEffects.{AreWide}
 use Rattle.rv_tried.specs.declared.trial.Trial.{Trial}
+use Rattle.rv_tried.specs.Whole.{AreBlocksWide}
 use Rattle.rv_holds.specs.declared.token.Token.{Token}
 use Rattle.rv_holds.specs.Tokens.{Slots}
 use Rattle.rv_engine.specs.declared.front.Front.{Front}
@@ -26,9 +27,9 @@ machine_with front future arch slots =
 abbrev pub machine_of : Shape → Kept → Machine
 machine_of shape kept = machine_with kept.front kept.future kept.arch (take shape.stages kept.slots)
 
--- what a token was tried to is sound
+-- what a token was tried to is sound, with the widths of the extension in what the blocks write
 abbrev pub IsSoundTrial : ExtensionTree → Option Trial → Type 0
-IsSoundTrial x o = IfSome o (λ trial. IsSound x trial.answer)
+IsSoundTrial x o = IfSome o (λ trial. IsSound x trial.answer × AreBlocksWide x trial.blocks)
 
 -- the token's instruction is one of the core's, and it sees custom registers of their widths
 pub record IsFitting (x : ExtensionTree) (t : Token) : Type 0 where

@@ -1,5 +1,5 @@
 -- The row that a machine makes, and what it keeps then (this project's choice).
-use Rattle.std.specs.Prelude.{◌≡◌, ℕ, suc, ◌-◌, List, [], ◌∷◌, get_or, take, drop, replicate, slice_index, Option, Some, None, Bool, true, false, not, ◌&&◌, ◌||◌, if◌then◌else◌, ◌==◌, is_some, is_none}
+use Rattle.std.specs.Prelude.{◌≡◌, ℕ, suc, ◌-◌, List, [], ◌∷◌, get_or, take, drop, replicate, slice_index, Option, Some, None, Bool, false, ◌&&◌, ◌||◌, if◌then◌else◌, ◌==◌, is_some, is_none}
 use Rattle.ix_bits.specs.declared.number.Bits.{Bits}
 use Rattle.ix_eval.specs.Tables.{table}
 use Rattle.ix_extension.specs.Extensions.{ExtensionTree, view_extension}
@@ -9,19 +9,23 @@ use Rattle.rv_core.specs.declared.Shape.{Shape}
 use Rattle.rv_isa.specs.Fields.{rs1_of, rs2_of}
 use Rattle.rv_effect.specs.Decoding.{decoded_in}
 use Rattle.rv_seq.specs.declared.arch.Arch.{Arch}
+use Rattle.rv_seq.specs.declared.answer.StepAnswer.{StepAnswer}
+use Rattle.rv_seq.specs.declared.answer.StepAnswer.TheVariants.{Done, Stopped}
+use Rattle.rv_seq.specs.declared.commit.Slot.{Slot}
 use Rattle.rv_seq.specs.declared.commit.Slot.TheVariants.{Absent}
 use Rattle.rv_seq.specs.declared.commit.Commit.{Commit}
 use Rattle.rv_seq.specs.declared.commit.Stop.{Stop}
 use Rattle.rv_seq.specs.declared.commit.Stop.TheVariants.{Fetch}
 use Rattle.rv_seq.specs.States.{zero_bit}
 use Rattle.rv_seq.specs.Steps.{word_at}
-use Rattle.rv_seq.specs.Commits.{with_slot, applied}
+use Rattle.rv_seq.specs.Commits.{slot_of, with_slot, applied}
 use Rattle.rv_waits.specs.Waits.{wait_at}
 use Rattle.rv_trace.specs.declared.row.Hold.{Hold}
 use Rattle.rv_trace.specs.declared.row.Hold.TheVariants.{Tail}
 use Rattle.rv_trace.specs.declared.row.Row.{Row}
 use Rattle.rv_asks.specs.declared.asks.Asks.{Asks}
 use Rattle.rv_asks.specs.Asks.{asks_in}
+use Rattle.rv_tried.specs.declared.trial.Trial.{Trial}
 use Rattle.rv_tried.specs.Tried.{tried}
 use Rattle.rv_holds.specs.declared.token.Token.{Token}
 use Rattle.rv_holds.specs.declared.flushing.Turn.{Turn}
@@ -165,25 +169,50 @@ retired_of (Some t) = with_serial t.cell.serial (commit_of t)
 
 -- The future file
 
--- is this a late write, or one that is not, as asked?
-abbrev pub counts : Bool → Bool → Bool
-counts true marked = marked
-counts false marked = not marked
+-- the instruction's own write of this register comes later than EX: by its time, or by `spawn`
+abbrev pub is_pending : Asks → ℕ → Bool
+is_pending a r = get_or a.late_customs r false || get_or a.spawned_customs r false
 
--- the custom registers after a commit's writes of the registers that are marked as late, or of those that are not
-abbrev pub with_marked : Bool → Asks → Commit → List Bits → List Bits
-with_marked is_late a c file =
-    table (λ r. if counts is_late (get_or a.late_customs r false) then with_slot (get_or file r zero_bit) (get_or c.custom r Absent) else get_or file r zero_bit) 16
+-- what a record writes to a custom register as its token leaves EX, where the blocks write these: the blocks alone where its own write is still to come
+abbrev pub early_write : Asks → List (Option Bits) → Commit → ℕ → Slot Bits
+early_write a blocks c r = if is_pending a r then slot_of (get_or blocks r None) else get_or c.custom r Absent
 
--- the same where it may write nothing
-abbrev pub with_writes : Bool → Asks → Option Commit → List Bits → List Bits
-with_writes is_late a None file = file
-with_writes is_late a (Some c) file = with_marked is_late a c file
+-- what it writes late, where the instruction itself writes these
+abbrev pub late_write : Asks → List Bool → Commit → ℕ → Slot Bits
+late_write a own c r = if get_or a.late_customs r false && get_or own r false then get_or c.custom r Absent else Absent
 
--- a token that goes on writes these registers
-abbrev pub file_after : Bool → Option Token → List Bits → List Bits
-file_after is_late None file = file
-file_after is_late (Some t) file = with_writes is_late t.asks (commit_of t) file
+-- the custom registers after these writes
+abbrev pub with_writes : (ℕ → Slot Bits) → List Bits → List Bits
+with_writes f file = table (λ r. with_slot (get_or file r zero_bit) (f r)) 16
+
+-- after what a step writes as its token leaves EX; a stop writes nothing
+abbrev pub early_after : Asks → List (Option Bits) → StepAnswer → List Bits → List Bits
+early_after a blocks (Done c) file = with_writes (early_write a blocks c) file
+early_after a blocks (Stopped stop) file = file
+
+-- after what it writes late
+abbrev pub late_after : Asks → List Bool → StepAnswer → List Bits → List Bits
+late_after a own (Done c) file = with_writes (late_write a own c) file
+late_after a own (Stopped stop) file = file
+
+-- the same of a trial, where there is one
+abbrev pub trial_early : Asks → Option Trial → List Bits → List Bits
+trial_early a None file = file
+trial_early a (Some trial) file = early_after a trial.blocks trial.answer file
+
+abbrev pub trial_late : Asks → Option Trial → List Bits → List Bits
+trial_late a None file = file
+trial_late a (Some trial) file = late_after a trial.own trial.answer file
+
+-- the future file after a token leaves EX, where one does
+abbrev pub file_early : Option Token → List Bits → List Bits
+file_early None file = file
+file_early (Some t) file = trial_early t.asks t.trial file
+
+-- and after one goes out of the last stage
+abbrev pub file_late : Option Token → List Bits → List Bits
+file_late None file = file
+file_late (Some t) file = trial_late t.asks t.trial file
 
 -- The row
 
@@ -273,7 +302,7 @@ pub record IsRowOf (k : Setting) (m : Machine) (row : Row) : Type 0 where
   pub taken : row.taken ≡ None
   pub stop : row.stop ≡ stop_after k m
 
--- what it keeps then: a token that leaves EX has put its early writes into the future file, one that retires its late ones
+-- what it keeps then: a token that leaves EX has put the writes of the blocks and its own of EX into the future file, one that retires its late ones
 abbrev pub machine_after : Setting → Machine → Machine
 machine_after k m =
     record {
@@ -282,6 +311,6 @@ machine_after k m =
       next = next_after m.next m.slots (new_by k m);
       accesses = accesses_after m.accesses (memory_by k m);
       stood = stood_after m.stood (memory_by k m);
-      future = file_after false (executed_by k m) (file_after true (left_by k m) m.future);
+      future = file_early (executed_by k m) (file_late (left_by k m) m.future);
       arch = arch_after m.arch (retired_of (left_by k m));
     }

@@ -14,7 +14,7 @@ ghost use Rattle.rv_engine.specs.Kept.{machine_with, machine_of, AreFitting, IsF
 
 use crate::filling::fetch;
 use crate::front::{Front, Kept};
-use crate::moving::{accesses_then, advance, last, put_writes, retired_in, stood_then};
+use crate::moving::{accesses_then, advance, last, put_early, put_late, retired_in, stood_then};
 use crate::reading::{owed_in, read};
 use crate::trying::{load, try_executing};
 use ix_bits::Bits;
@@ -145,8 +145,8 @@ fn row_of(
     let accesses = accesses_then(front.accesses, &slots[memory]);
     let stood = stood_then(front.stood, &slots[memory]);
     let retired = retired_in(last(slots));
-    put_writes(true, last(slots), future);
-    put_writes(false, &slots[usize::from(shape.ex)], future);
+    put_late(last(slots), future);
+    put_early(&slots[usize::from(shape.ex)], future);
     retire(arch, &retired);
     advance(slots);
     *front = Front {

@@ -1,8 +1,9 @@
-ghost use Rattle.std.specs.Prelude.{◌≡◌, ◌+◌, ◌-◌, ◌<◌, ◌^◌, None, false, is_some, length, get_or, slice_set, option_map, if◌then◌else◌};
+ghost use Rattle.std.specs.Prelude.{◌≡◌, ◌+◌, ◌-◌, ◌<◌, ◌^◌, ◌&&◌, None, false, is_some, length, get_or, slice_set, option_map, if◌then◌else◌};
 ghost use Rattle.std.specs.Option.{option_map_or};
-ghost use Rattle.rv_seq.specs.Commits.{with_slot};
+ghost use Rattle.rv_seq.specs.declared.commit.Slot.TheVariants.{Absent};
+ghost use Rattle.rv_seq.specs.Commits.{slot_of as specified_slot_of, with_slot};
 ghost use Rattle.rv_holds.specs.Tokens.{commit_of as specified_commit_of};
-ghost use Rattle.rv_engine.specs.Rows.{tail_after as specified_tail_after, waited, going, kept, advanced, leaving, with_serial, retired_of, counts as specified_counts, with_marked, with_writes, file_after, accesses_after, stood_after};
+ghost use Rattle.rv_engine.specs.Rows.{tail_after as specified_tail_after, waited, going, kept, advanced, leaving, with_serial, retired_of, early_write, late_write, with_writes, trial_early, trial_late, file_early, file_late, accesses_after, stood_after};
 
 use ix_bits::Bits;
 use rv_asks::Asks;
@@ -126,52 +127,113 @@ pub fn retired_in(slot: &Option<Token>) -> Option<(u32, Commit)>
     }
 }
 
-/// Whether a write that is so marked is one of the late writes, or of those that are not.
-fn counts(is_late: bool, marked: bool) -> bool
-    ensures { result ≡ specified_counts is_late marked }
-{
-    if is_late { marked } else { !marked }
-}
-
-/// Writes a custom register, where the write counts.
-fn put_register(register: &mut Bits, slot: &Slot<Bits>, counted: bool)
-    ensures { register.new ≡ (if counted then with_slot register.old slot.now else register.old) }
+/// Writes a custom register.
+fn put_register(register: &mut Bits, slot: &Slot<Bits>)
+    ensures { register.new ≡ with_slot register.old slot.now }
 {
     if let Slot::Now(value) = slot {
-        if counted {
-            *register = *value;
-        }
+        *register = *value;
     }
 }
 
-/// Makes the writes of a commit in the future file, of those registers alone that are asked for late, or not.
-fn put_marked(is_late: bool, asks: &Asks, commit: &Commit, file: &mut [Bits; 16])
-    ensures { file.new ≡ with_marked is_late asks.now commit.now file.old }
+/// Writes a custom register as blocks do.
+fn put_block(register: &mut Bits, block: &Option<Bits>)
+    ensures { register.new ≡ with_slot register.old (specified_slot_of block.now) }
+{
+    if let Some(value) = block {
+        *register = *value;
+    }
+}
+
+/// Writes what a token writes to a custom register as it leaves EX: the blocks alone, where its own write is still to come.
+fn put_early_in(register: &mut Bits, is_pending: bool, block: &Option<Bits>, slot: &Slot<Bits>)
+    ensures { register.new ≡ with_slot register.old (if is_pending then specified_slot_of block.now else slot.now) }
+{
+    if is_pending {
+        put_block(register, block);
+    } else {
+        put_register(register, slot);
+    }
+}
+
+/// Writes what a token writes to a custom register late.
+fn put_late_in(register: &mut Bits, is_late: bool, is_own: bool, slot: &Slot<Bits>)
+    ensures { register.new ≡ with_slot register.old (if is_late && is_own then slot.now else Absent) }
+{
+    if is_late && is_own {
+        put_register(register, slot);
+    }
+}
+
+/// Makes what a token with this record writes as it leaves EX in the future file.
+fn put_early_of(asks: &Asks, blocks: &[Option<Bits>; 16], commit: &Commit, file: &mut [Bits; 16])
+    ensures { file.new ≡ with_writes (early_write asks.now blocks.now commit.now) file.old }
 {
     for number in 0..16usize {
-        let counted = counts(is_late, asks.late_customs[number]);
-        put_register(&mut file[number], &commit.custom[number], counted);
+        let is_pending = asks.late_customs[number] || asks.spawned_customs[number];
+        put_early_in(
+            &mut file[number],
+            is_pending,
+            &blocks[number],
+            &commit.custom[number],
+        );
     }
 }
 
-/// Makes the writes of a token, where it was tried and makes no stop.
-fn put_of(is_late: bool, token: &Token, file: &mut [Bits; 16])
-    ensures { file.new ≡ with_writes is_late token.now.asks (specified_commit_of token.now) file.old }
+/// Makes what a token with this record writes late in the future file.
+fn put_late_of(asks: &Asks, own: &[bool; 16], commit: &Commit, file: &mut [Bits; 16])
+    ensures { file.new ≡ with_writes (late_write asks.now own.now commit.now) file.old }
+{
+    for number in 0..16usize {
+        put_late_in(
+            &mut file[number],
+            asks.late_customs[number],
+            own[number],
+            &commit.custom[number],
+        );
+    }
+}
+
+/// Makes the writes of a token that leaves EX.
+fn put_early_by(token: &Token, file: &mut [Bits; 16])
+    ensures { file.new ≡ trial_early token.now.asks token.now.trial file.old }
 {
     if let Some(trial) = &token.trial {
         if let StepAnswer::Done(commit) = &trial.answer {
-            put_marked(is_late, &token.asks, commit, file);
+            put_early_of(&token.asks, &trial.blocks, commit, file);
         }
     }
 }
 
-/// Makes the late writes of the token that goes on from a slot, or those that are not, in the future file.
-pub fn put_writes(is_late: bool, slot: &Option<Token>, file: &mut [Bits; 16])
-    ensures { file.new ≡ file_after is_late (going slot.now) file.old }
+/// Makes the writes of a token that goes out of the last stage.
+fn put_late_by(token: &Token, file: &mut [Bits; 16])
+    ensures { file.new ≡ trial_late token.now.asks token.now.trial file.old }
+{
+    if let Some(trial) = &token.trial {
+        if let StepAnswer::Done(commit) = &trial.answer {
+            put_late_of(&token.asks, &trial.own, commit, file);
+        }
+    }
+}
+
+/// Makes the writes of the token that leaves EX, of which this is the slot, where one does.
+pub fn put_early(slot: &Option<Token>, file: &mut [Bits; 16])
+    ensures { file.new ≡ file_early (going slot.now) file.old }
+{
+    if let Some(executed) = slot {
+        if executed.cell.hold.is_none() {
+            put_early_by(executed, file);
+        }
+    }
+}
+
+/// Makes the writes of the token that goes out of the last stage, of which this is the slot, where one does.
+pub fn put_late(slot: &Option<Token>, file: &mut [Bits; 16])
+    ensures { file.new ≡ file_late (going slot.now) file.old }
 {
     if let Some(token) = slot {
         if token.cell.hold.is_none() {
-            put_of(is_late, token, file);
+            put_late_by(token, file);
         }
     }
 }

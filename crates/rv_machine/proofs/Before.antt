@@ -1,7 +1,10 @@
 -- The slots before a row is made: with their operands, trials, holds and loads, and what goes out of them.
 use Rattle.std.proofs.Common.{◌≡◌, ℕ, zero, suc, ◌+◌, ◌%◌, ◌^◌, ◌<◌, ◌≤◌, List, [], ◌∷◌, drop, take, length, get_or, Option, Some, None, Bool, true, false, refl, sym, ap, ◌∙◌, subst, arith, add-zero}
-use Rattle.std.specs.Prelude.{if◌then◌else◌, ◌==◌, is_some, slice_index, nat_lt}
+use Rattle.std.specs.Prelude.{if◌then◌else◌, ◌==◌, slice_index, nat_lt}
 use Rattle.rv_seq.specs.declared.arch.Arch.{Arch}
+use Rattle.ix_bits.specs.declared.number.Bits.{Bits}
+use Rattle.rv_asks.specs.declared.asks.Asks.{Asks}
+use Rattle.rv_seq.specs.Commits.{with_slot}
 use Rattle.rv_seq.specs.States.{zero_bit}
 use Rattle.rv_seq.specs.Steps.{word_at}
 use Rattle.rv_trace.specs.declared.row.Row.{Row}
@@ -9,16 +12,15 @@ use Rattle.rv_trace.specs.Trace.{retirements}
 use Rattle.rv_holds.specs.declared.token.Token.{Token}
 use Rattle.rv_holds.specs.declared.flushing.Turn.{Turn}
 use Rattle.rv_holds.specs.Tokens.{Slots}
-use Rattle.rv_holds.specs.Holds.{oldest, writes_late}
 use Rattle.rv_holds.specs.Flushing.{next_of, settles, settled, nearest, mismatch, turn_of, struck}
 use Rattle.rv_engine.specs.Settings.{Setting, Machine, shape_of, tree_of}
 use Rattle.rv_engine.specs.Rows.{fill_first, trying, loading, owed_by, new_by, read_by, held_by, loaded_by, turn_by, seen_by}
-use Rattle.rv_machine.specs.Placed.{run, count, tail, settling_stage, expected_after, expected, settled_before, IsFuture, Placed, IsReady, Inv}
+use Rattle.rv_machine.specs.Placed.{run, count, tail, settling_stage, expected_after, expected, owed_write, paid_late, IsFuture, Placed, IsReady, Inv}
 use Rattle.rv_machine.specs.Told.{Decided, NoStops}
 use Rattle.rv_machine.proofs.Deciding.{decided_is}
 use Rattle.rv_machine.proofs.Moving.{fill_length}
 use Rattle.rv_machine.proofs.Filling.{fill_placed}
-use Rattle.rv_machine.proofs.Reading.{AlikeSlot, Alike, IsAlike, alike_length, alike_count, alike_oldest, reading_alike, trying_alike, decided_alike, loading_alike, Read, reading_placed, reading_read, trying_read, decided_read, loading_read, cleared_read, all_decided}
+use Rattle.rv_machine.proofs.Reading.{AlikeSlot, Alike, IsAlike, alike_length, alike_count, reading_alike, trying_alike, decided_alike, loading_alike, Read, reading_placed, reading_read, trying_read, decided_read, loading_read, cleared_read, all_decided}
 use Rattle.rv_machine.proofs.Trying.{at_ex, trying_placed}
 use Rattle.rv_machine.proofs.Loading.{Loaded, loading_decided, loading_placed, loading_loaded}
 use Rattle.rv_machine.proofs.Ripe.{Ripe, trying_ripe, decided_ripe, loading_ripe, cleared_ripe}
@@ -52,14 +54,24 @@ alike_drop (suc n) [] (u ∷ b) h = absurd h
 alike_drop (suc n) (s ∷ a) [] h = absurd h
 alike_drop (suc n) (s ∷ a) (u ∷ b) h = alike_drop n a b h.1
 
-pub alike_settled : (reg : ℕ) (a b : Slots) → Alike a b → settled_before reg b ≡ settled_before reg a
-alike_settled reg [] [] h = refl
-alike_settled reg [] (u ∷ b) h = absurd h
-alike_settled reg (s ∷ a) [] h = absurd h
-alike_settled reg (s ∷ a) (u ∷ b) h =
-    ap (λ (o : Option ℕ). if is_some o then settled_before reg b else count (u ∷ b)) (alike_oldest (λ x. get_or x.late_customs reg false) (s ∷ a) (u ∷ b) h)
-    ∙ ap (λ n. if is_some (oldest (writes_late reg) (s ∷ a)) then n else count (u ∷ b)) (alike_settled reg a b h.1)
-    ∙ ap (λ n. if is_some (oldest (writes_late reg) (s ∷ a)) then settled_before reg a else n) (alike_count (s ∷ a) (u ∷ b) h)
+-- they owe the same
+alike_paid : (k : Setting) (r reg : ℕ) (a b : Slots) (v : Bits) → Alike a b → paid_late k r reg b v ≡ paid_late k r reg a v
+alike_paid k r reg [] [] v h = refl
+alike_paid k r reg [] (u ∷ b) v h = absurd h
+alike_paid k r reg (s ∷ a) [] v h = absurd h
+alike_paid k r reg (s ∷ a) (u ∷ b) v h = by_slot s u h.0 (alike_paid k r reg a b v h.1) where
+  by_slot : (s u : Option Token) → AlikeSlot s u → paid_late k r reg b v ≡ paid_late k r reg a v → paid_late k r reg (u ∷ b) v ≡ paid_late k r reg (s ∷ a) v
+  by_slot None None e i = i
+  by_slot None (Some u) e i = absurd e
+  by_slot (Some t) None e i = absurd e
+  by_slot (Some t) (Some u) e i =
+      ap (λ w. with_slot w (owed_write k u.asks (r + count b) reg)) i
+      ∙ ap (λ (x : Asks). with_slot (paid_late k r reg a v) (owed_write k x (r + count b) reg)) e.asks
+      ∙ ap (λ n. with_slot (paid_late k r reg a v) (owed_write k t.asks (r + n) reg)) (alike_count a b h.1)
+
+pub alike_future : (k : Setting) (r : ℕ) (future : List Bits) (a b : Slots) → Alike a b → IsFuture k r future a → IsFuture k r future b
+alike_future k r future a b h file reg lt =
+    alike_paid k r reg a b (get_or future reg zero_bit) h ∙ file reg lt ∙ ap (λ n. get_or (run k (r + n)).custom reg zero_bit) (sym (alike_count a b h))
 
 drop_filled : (n : ℕ) (new : Option Token) (l : Slots) → drop (suc n) (fill_first new l) ≡ drop (suc n) l
 drop_filled n new [] = refl
@@ -194,9 +206,7 @@ module _ (k : Setting) (ready : IsReady k) (earlier : List Row) (m : Machine) (i
       (alike_drop (suc n) filled (read_by k m) (reading_alike (shape_of k) m.arch.x (owed_by k m) 0 filled))
 
   future_there : IsFuture k r m.future (drop (suc (shape_of k).ex) (read_by k m))
-  future_there reg =
-      inv.future reg
-      ∙ ap (λ n. get_or (run k (r + n)).custom reg zero_bit) (sym (alike_settled reg (drop (suc (shape_of k).ex) m.slots) (drop (suc (shape_of k).ex) (read_by k m)) (read_from (shape_of k).ex)))
+  future_there = alike_future k r m.future (drop (suc (shape_of k).ex) m.slots) (drop (suc (shape_of k).ex) (read_by k m)) (read_from (shape_of k).ex) inv.future
 
   tried_placed : Placed k r 0 tried_slots
   tried_placed =

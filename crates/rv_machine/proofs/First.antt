@@ -1,8 +1,9 @@
 -- Before the first row the machine is at the start of the run.
-use Rattle.std.proofs.Common.{◌≡◌, ℕ, zero, suc, ◌+◌, ◌≤◌, List, [], ◌∷◌, drop, take, length, get_or, Some, None, Bool, true, false, refl, sym, ap, arith}
-use Rattle.std.specs.Prelude.{if◌then◌else◌, is_some, nat_lt, replicate}
+use Rattle.std.proofs.Common.{◌≡◌, ℕ, zero, suc, ◌+◌, ◌≤◌, List, [], ◌∷◌, drop, take, length, get_or, Some, None, refl, sym, ap, ◌∙◌, arith}
+use Rattle.std.specs.Prelude.{false, nat_lt, replicate}
 use Rattle.std.proofs.lemmas.Bool.Decides.{nat_tests}
 use Rattle.rv_core.specs.declared.Shape.{Shape}
+use Rattle.ix_bits.specs.declared.number.Bits.{Bits}
 use Rattle.rv_seq.specs.States.{first as first_state, zero_bit}
 use Rattle.rv_seq.specs.Runs.{run as seq_run}
 use Rattle.rv_waits.specs.Waits.{greatest}
@@ -11,13 +12,12 @@ use Rattle.rv_trace.specs.Trace.{blank, place, is_flushed, is_retired, retiremen
 use Rattle.rv_trace.specs.RowParts.{MovesInto, names_of, serial_after}
 use Rattle.rv_holds.specs.declared.token.Token.{Token}
 use Rattle.rv_holds.specs.Tokens.{Slots, cell_of, cells_of}
-use Rattle.rv_holds.specs.Holds.{oldest, writes_late}
 use Rattle.rv_engine.specs.Settings.{Setting, shape_of, first_machine}
 use Rattle.rv_engine.specs.Rows.{first_slot, owed_by}
 use Rattle.rv_lawful.specs.Settings.{Course, accesses_before}
 use Rattle.rv_lawful.specs.Outstanding.{architecture}
 use Rattle.rv_lawful.specs.LawfulTrace.{fetch_address, next_serial}
-use Rattle.rv_machine.specs.Placed.{judged, run, count, tail, expected, past_ex, settled_before, to_go, Placed, Serials, IsReady, Inv}
+use Rattle.rv_machine.specs.Placed.{judged, run, count, tail, expected, past_ex, paid_late, to_go, Placed, Serials, IsReady, Inv}
 
 abbrev nothing : ℕ → Slots
 nothing n = replicate n None
@@ -70,14 +70,11 @@ none_dropped zero (suc n) t older e = cc
 none_dropped (suc i) zero t older e = cc
 none_dropped (suc i) (suc n) t older e = none_dropped i n t older e
 
--- with no token nothing is settled before a register
-settled_zero : (reg : ℕ) (l : Slots) → count l ≡ 0 → settled_before reg l ≡ 0
-settled_zero reg [] e = refl
-settled_zero reg (None ∷ l) e = by_case (is_some (oldest (writes_late reg) l)) (settled_zero reg l e) where
-  by_case : (b : Bool) → settled_before reg l ≡ 0 → (if b then settled_before reg l else count l) ≡ 0
-  by_case true h = h
-  by_case false h = e
-settled_zero reg (Some t ∷ l) e = absurd (omega (arith, e))
+-- with no token nothing is owed to a register
+paid_none : (k : Setting) (r reg : ℕ) (l : Slots) (v : Bits) → count l ≡ 0 → paid_late k r reg l v ≡ v
+paid_none k r reg [] v e = refl
+paid_none k r reg (None ∷ l) v e = paid_none k r reg l v e
+paid_none k r reg (Some t ∷ l) v e = absurd (omega (arith, e))
 
 no_accesses : (run : Course) (p : ℕ) → p ≡ 0 → 0 ≡ accesses_before run p
 unfolding accesses_before
@@ -108,10 +105,10 @@ first k ready =
       accesses = no_accesses (judged k).course _ (omega (arith, dropped));
       stood_is = λ t older e. none_dropped (shape_of k).mem n t older e;
       tail_is = λ i t older e. none_dropped i n t older e;
-      future = λ reg.
-          let z = settled_zero reg (past_ex k (nothing n)) (count_dropped (suc (shape_of k).ex) n) in
-          let e : 0 ≡ 0 + settled_before reg (past_ex k (nothing n)) = omega (arith, z) in
-          ap (λ p. get_or (run k p).custom reg zero_bit) e;
+      future = λ reg lt.
+          let z = count_dropped (suc (shape_of k).ex) n in
+          let e : 0 ≡ 0 + count (past_ex k (nothing n)) = omega (arith, z) in
+          paid_none k 0 reg (past_ex k (nothing n)) (get_or (first_machine k).future reg zero_bit) z ∙ ap (λ p. get_or (run k p).custom reg zero_bit) e;
       future_wide = ready.wide 0;
       placed = placed_none k 0 n;
       serials = serials_none [] n;

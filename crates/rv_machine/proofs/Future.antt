@@ -1,36 +1,38 @@
--- The future file through a row: what goes out writes its late registers into it, and what leaves EX the others.
-use Rattle.std.proofs.Common.{◌≡◌, ℕ, suc, ◌+◌, ◌<◌, ◌≤◌, List, [], ◌∷◌, ◌++◌, length, get_or, Option, Some, None, Bool, true, false, refl, sym, ap, ◌∙◌, subst, arith, add-zero, inl, inr}
-use Rattle.std.specs.Prelude.{if◌then◌else◌, ◌||◌, is_some}
+-- The future file through a row: what goes out writes its late registers into it, and what leaves EX the others, with what the blocks write.
+use Rattle.std.proofs.Common.{◌≡◌, ℕ, suc, ◌+◌, ◌<◌, List, [], ◌∷◌, ◌++◌, length, get_or, Option, Some, None, Bool, true, false, refl, sym, ap, ◌∙◌, arith, add-zero}
+use Rattle.std.specs.Prelude.{if◌then◌else◌, ◌||◌, ◌&&◌, is_some}
 use Rattle.std.specs.List.{list_any}
-use Rattle.std.proofs.lemmas.Bool.{cases_lt}
-use Rattle.std.proofs.lemmas.List.{get_or_past}
 use Rattle.ix_bits.specs.declared.number.Bits.{Bits}
-use Rattle.ix_eval.specs.Tables.{table}
+use Rattle.ix_eval.specs.Evaluated.{type_of_custom}
 use Rattle.ix_eval.proofs.Tables.{table_length, table_at}
 use Rattle.rv_effect.specs.WordEffects.{AreWide}
 use Rattle.rv_seq.specs.declared.answer.StepAnswer.{StepAnswer}
 use Rattle.rv_seq.specs.declared.answer.StepAnswer.TheVariants.{Done, Stopped}
 use Rattle.rv_seq.specs.declared.commit.Commit.{Commit}
+use Rattle.rv_seq.specs.declared.commit.Slot.{Slot}
 use Rattle.rv_seq.specs.declared.commit.Slot.TheVariants.{Absent}
-use Rattle.rv_seq.specs.Commits.{with_slot}
+use Rattle.rv_seq.specs.Commits.{slot_of, with_slot}
+use Rattle.rv_seq.specs.Sound.{IsNowWide}
 use Rattle.rv_seq.specs.States.{zero_bit}
 use Rattle.rv_seq.specs.Steps.{word_at}
 use Rattle.rv_asks.specs.declared.asks.Asks.{Asks}
 use Rattle.rv_tried.specs.declared.trial.Trial.{Trial}
+use Rattle.rv_tried.specs.Whole.{IsWhole}
 use Rattle.rv_holds.specs.declared.token.Token.{Token}
-use Rattle.rv_holds.specs.Tokens.{Slots, or_else, stop_in, commit_in, tried_commit, commit_of}
+use Rattle.rv_holds.specs.Tokens.{Slots, or_else, stop_in}
 use Rattle.rv_holds.specs.Holds.{oldest, writes_late}
 use Rattle.rv_engine.specs.Settings.{Setting, shape_of, tree_of}
-use Rattle.rv_engine.specs.Rows.{waited, going, kept, advanced, leaving, first_slot, counts, with_marked, with_writes, file_after}
-use Rattle.rv_lawful.specs.Sight.{IsEarly}
-use Rattle.rv_machine.specs.Placed.{run, one_more, count, expected, settled_before, IsFuture, IsPlaced, IsPlacedSlot, Placed, IsReady}
+use Rattle.rv_engine.specs.Rows.{waited, going, kept, advanced, leaving, first_slot, is_pending, early_write, late_write, with_writes, early_after, late_after, trial_early, trial_late, file_early, file_late}
+use Rattle.rv_lawful.specs.Sight.{asked, IsEarly}
+use Rattle.rv_machine.specs.Placed.{judged, run, one_more, count, expected, late_in_answer, owed_write, paid_late, IsFuture, IsPlaced, IsPlacedSlot, Placed, IsReady}
 use Rattle.rv_machine.specs.Told.{Decided, NoStops}
 use Rattle.rv_machine.proofs.Deciding.{decided_tail, no_stops_tail, expected_run}
 use Rattle.rv_machine.proofs.Asking.{used_late}
-use Rattle.rv_machine.proofs.Runs.{answer, kept_word, run_custom, run_done_custom, custom_past}
-use Rattle.rv_machine.proofs.Operands.{OnPath, on_path, path_word}
+use Rattle.rv_machine.proofs.Runs.{answer, kept_word, run_custom, run_done_custom, whole_word, blocks_word}
 use Rattle.rv_machine.proofs.Loading.{early_stop}
 use Rattle.rv_machine.proofs.Going.{Free, free_ahead}
+use Rattle.rv_machine.proofs.Trying.{not_late}
+use Rattle.rv_machine.proofs.WideFuture.{wide_at, wide_of, slot_wide, now_wide}
 
 -- ---- what is asked of the tokens, the youngest first
 
@@ -51,10 +53,10 @@ use_at reg a = get_or a.customs reg false
 abbrev late_in : ℕ → List Asks → Bool
 late_in reg xs = list_any (late_at reg) xs
 
--- how many of these are older than the oldest that writes the register late, all where none does
-abbrev settled_in : ℕ → List Asks → ℕ
-settled_in reg [] = 0
-settled_in reg (a ∷ xs) = if late_in reg (a ∷ xs) then settled_in reg xs else suc (length xs)
+-- a custom register with what these owe it, of which the oldest stands at the place r
+abbrev paid_in : Setting → ℕ → ℕ → List Asks → Bits → Bits
+paid_in k r reg [] v = v
+paid_in k r reg (a ∷ xs) v = with_slot (paid_in k r reg xs v) (owed_write k a (r + length xs) reg)
 
 asks_count : (l : Slots) → count l ≡ length (all_asks l)
 asks_count [] = refl
@@ -72,20 +74,23 @@ asks_late reg [] = refl
 asks_late reg (None ∷ l) = asks_late reg l
 asks_late reg (Some t ∷ l) = some_or (oldest (writes_late reg) l) (late_at reg t.asks) t.cell.serial ∙ ap (λ b. late_at reg t.asks || b) (asks_late reg l)
 
-none_late : (reg : ℕ) (xs : List Asks) → late_in reg xs ≡ false → settled_in reg xs ≡ length xs
-none_late reg [] h = refl
-none_late reg (a ∷ xs) h = ap (λ (b : Bool). if b then settled_in reg xs else suc (length xs)) h
+paid_asks : (k : Setting) (r reg : ℕ) (l : Slots) (v : Bits) → paid_late k r reg l v ≡ paid_in k r reg (all_asks l) v
+paid_asks k r reg [] v = refl
+paid_asks k r reg (None ∷ l) v = paid_asks k r reg l v
+paid_asks k r reg (Some t ∷ l) v =
+    ap (λ w. with_slot w (owed_write k t.asks (r + count l) reg)) (paid_asks k r reg l v)
+    ∙ ap (λ n. with_slot (paid_in k r reg (all_asks l) v) (owed_write k t.asks (r + n) reg)) (asks_count l)
 
-settled_asks : (reg : ℕ) (l : Slots) → settled_before reg l ≡ settled_in reg (all_asks l)
-settled_asks reg [] = refl
-settled_asks reg (None ∷ l) = ap (λ (b : Bool). if b then settled_before reg l else count l) (asks_late reg l) ∙ by_case (late_in reg (all_asks l)) refl (settled_asks reg l) where
-  by_case : (b : Bool) → late_in reg (all_asks l) ≡ b → settled_before reg l ≡ settled_in reg (all_asks l) → (if b then settled_before reg l else count l) ≡ settled_in reg (all_asks l)
-  by_case true e h = h
-  by_case false e h = asks_count l ∙ sym (none_late reg (all_asks l) e)
-settled_asks reg (Some t ∷ l) =
-    ap (λ (b : Bool). if b then settled_before reg l else suc (count l)) (asks_late reg (Some t ∷ l))
-    ∙ ap (λ n. if late_in reg (t.asks ∷ all_asks l) then n else suc (count l)) (settled_asks reg l)
-    ∙ ap (λ n. if late_in reg (t.asks ∷ all_asks l) then settled_in reg (all_asks l) else suc n) (asks_count l)
+neither : (p q : Bool) → (p || q) ≡ false → (p ≡ false) × (q ≡ false)
+neither false q e = (refl, e)
+neither true q e = cc
+
+none_owed : (k : Setting) (r reg : ℕ) (xs : List Asks) (v : Bits) → late_in reg xs ≡ false → paid_in k r reg xs v ≡ v
+none_owed k r reg [] v h = refl
+none_owed k r reg (a ∷ xs) v h =
+    let e = neither (late_at reg a) (late_in reg xs) h in
+    ap (λ s. with_slot (paid_in k r reg xs v) s) (not_late a ((judged k).course.own (r + length xs)) reg (answer k (r + length xs)) e.0)
+    ∙ none_owed k r reg xs v e.1
 
 -- ---- the moves leave what is asked, but for what goes out
 
@@ -126,33 +131,18 @@ leaving_any come (s ∷ older) lt = refl
 
 -- ---- the last of a list
 
-late_last : (reg : ℕ) (ys : List Asks) (u : Asks) → late_at reg u ≡ true → late_in reg (ys ++ (u ∷ [])) ≡ true
-late_last reg [] u h = ap (λ b. b || false) h
-late_last reg (a ∷ ys) u h = by_case (late_at reg a) (late_last reg ys u h) where
-  by_case : (b : Bool) → late_in reg (ys ++ (u ∷ [])) ≡ true → (b || late_in reg (ys ++ (u ∷ []))) ≡ true
-  by_case true e = refl
-  by_case false e = e
-
-late_front : (reg : ℕ) (ys : List Asks) (u : Asks) → late_at reg u ≡ false → late_in reg (ys ++ (u ∷ [])) ≡ late_in reg ys
-late_front reg [] u h = ap (λ b. b || false) h
-late_front reg (a ∷ ys) u h = ap (λ b. late_at reg a || b) (late_front reg ys u h)
-
 last_length : (ys : List Asks) (u : Asks) → length (ys ++ (u ∷ [])) ≡ suc (length ys)
 last_length [] u = refl
 last_length (a ∷ ys) u = ap suc (last_length ys u)
 
-settled_late : (reg : ℕ) (ys : List Asks) (u : Asks) → late_at reg u ≡ true → settled_in reg (ys ++ (u ∷ [])) ≡ 0
-settled_late reg [] u h = ap (λ (b : Bool). if b || false then 0 else 1) h
-settled_late reg (a ∷ ys) u h = ap (λ (b : Bool). if b then settled_in reg (ys ++ (u ∷ [])) else suc (length (ys ++ (u ∷ [])))) (late_last reg (a ∷ ys) u h) ∙ settled_late reg ys u h
-
-settled_early : (reg : ℕ) (ys : List Asks) (u : Asks) → late_at reg u ≡ false → settled_in reg (ys ++ (u ∷ [])) ≡ suc (settled_in reg ys)
-settled_early reg [] u h = ap (λ (b : Bool). if b || false then 0 else 1) h
-settled_early reg (a ∷ ys) u h =
-    ap (λ (b : Bool). if b then settled_in reg (ys ++ (u ∷ [])) else suc (length (ys ++ (u ∷ [])))) (late_front reg (a ∷ ys) u h)
-    ∙ by_case (late_in reg (a ∷ ys)) (settled_early reg ys u h) where
-      by_case : (b : Bool) → settled_in reg (ys ++ (u ∷ [])) ≡ suc (settled_in reg ys) → (if b then settled_in reg (ys ++ (u ∷ [])) else suc (length (ys ++ (u ∷ [])))) ≡ suc (if b then settled_in reg ys else suc (length ys))
-      by_case true e = e
-      by_case false e = ap suc (last_length ys u)
+-- what the oldest owes is paid first
+paid_last : (k : Setting) (r reg : ℕ) (ys : List Asks) (u : Asks) (v : Bits) → paid_in k r reg (ys ++ (u ∷ [])) v ≡ paid_in k (r + 1) reg ys (with_slot v (owed_write k u r reg))
+paid_last k r reg [] u v = ap (λ n. with_slot v (owed_write k u n reg)) (add-zero r)
+paid_last k r reg (a ∷ ys) u v =
+    let n = last_length ys u in
+    let place : r + length (ys ++ (u ∷ [])) ≡ r + 1 + length ys = omega (arith, n) in
+    ap (λ w. with_slot w (owed_write k a (r + length (ys ++ (u ∷ []))) reg)) (paid_last k r reg ys u v)
+    ∙ ap (λ m. with_slot (paid_in k (r + 1) reg ys (with_slot v (owed_write k u r reg))) (owed_write k a m reg)) place
 
 late_more : (reg : ℕ) (ys zs : List Asks) → late_in reg (ys ++ zs) ≡ false → late_in reg ys ≡ false
 late_more reg [] zs h = refl
@@ -166,154 +156,219 @@ late_more reg (a ∷ ys) zs h = by_case (late_at reg a) (late_more reg ys zs) h 
 abbrev value : Setting → ℕ → ℕ → Bits
 value k reg p = get_or (run k p).custom reg zero_bit
 
--- what uses the register has no older one that writes it late, and what does not leaves it
-abbrev AreClear : Setting → ℕ → ℕ → List Asks → Type 0
-AreClear k reg r [] = Unit {0}
-AreClear k reg r (a ∷ xs) =
-    ((use_at reg a ≡ true → late_in reg xs ≡ false) × (late_at reg a ≡ true → use_at reg a ≡ true) × (use_at reg a ≡ false → value k reg (r + suc (length xs)) ≡ value k reg (r + length xs))) × AreClear k reg r xs
-
 none_is : (o : Option ℕ) → o ≡ None → is_some o ≡ false
 none_is o h = ap (λ q. is_some q) h
 
-are_clear : (k : Setting) (ready : IsReady k) (reg r stage : ℕ) (l : Slots) → (shape_of k).ex < stage → Placed k r stage l → OnPath k l → AreClear k reg r (all_asks l)
-are_clear k ready reg r stage [] lt h path = tt
-are_clear k ready reg r stage (None ∷ l) lt h path = are_clear k ready reg r (suc stage) l (omega (arith, lt)) h.1 path
-are_clear k ready reg r stage (Some t ∷ l) lt h path =
-    let g = h.0.gone lt in
-    let same = λ (f : Asks → Bool). ap f h.0.asks in (
-      (
-        λ u. sym (asks_late reg l) ∙ none_is (oldest (writes_late reg) l) (h.0.clear g.0 g.1 reg u),
-        λ e. same (use_at reg) ∙ used_late k.design t.cell.word reg (sym (same (late_at reg)) ∙ e),
-        λ n.
-            ap (λ m. value k reg (r + suc m)) (sym (asks_count l))
-            ∙ ap (λ m. value k reg m) (up r (count l))
-            ∙ run_custom k ready (r + count l) t.cell.word reg (path_word k r stage t l (omega (arith, lt)) h path) (sym (same (use_at reg)) ∙ n)
-            ∙ ap (λ m. value k reg (r + m)) (asks_count l),
-      ),
-      are_clear k ready reg r (suc stage) l (omega (arith, lt)) h.1 path.1,
-    ) where
-      up : (a b : ℕ) → a + suc b ≡ suc (a + b)
-      up a b = omega arith
-
--- behind one that writes it late nothing uses it
-all_clear : (k : Setting) (reg r : ℕ) (ys : List Asks) (u : Asks) → late_at reg u ≡ true → AreClear k reg r (ys ++ (u ∷ [])) → (late_in reg ys ≡ false) × (value k reg (r + length (ys ++ (u ∷ []))) ≡ value k reg (r + 1))
-all_clear k reg r [] u late h = (refl, refl)
-all_clear k reg r (a ∷ ys) u late h =
-    let rest = all_clear k reg r ys u late h.1 in
-    let unused = no_use (use_at reg a) (late_in reg (ys ++ (u ∷ []))) (late_last reg ys u late) h.0.0 in
-    (or_false (late_at reg a) (late_in reg ys) (no_late (late_at reg a) (use_at reg a) unused h.0.1) rest.0, h.0.2 unused ∙ rest.1) where
-      or_false : (p q : Bool) → p ≡ false → q ≡ false → (p || q) ≡ false
-      or_false false q e h = h
-      or_false true q e h = cc
-
-      no_use : (p q : Bool) → q ≡ true → (p ≡ true → q ≡ false) → p ≡ false
-      no_use true q e h = absurd (cc (h refl, e))
-      no_use false q e h = refl
-
-      no_late : (p q : Bool) → q ≡ false → (p ≡ true → q ≡ true) → p ≡ false
-      no_late true q e h = absurd (cc (h refl, e))
-      no_late false q e h = refl
-
 -- ---- what is written
 
-mark_at : (b : Bool) (a : Asks) (c : Commit) (file : List Bits) (reg : ℕ) → reg < 16
-    → get_or (with_marked b a c file) reg zero_bit ≡ (if counts b (late_at reg a) then with_slot (get_or file reg zero_bit) (get_or c.custom reg Absent) else get_or file reg zero_bit)
-mark_at b a c file reg lt =
-    table_at (λ r. if counts b (get_or a.late_customs r false) then with_slot (get_or file r zero_bit) (get_or c.custom r Absent) else get_or file r zero_bit) 16 reg zero_bit lt
+-- a register after some writes
+put_at : (f : ℕ → Slot Bits) (file : List Bits) (reg : ℕ) → reg < 16 → get_or (with_writes f file) reg zero_bit ≡ with_slot (get_or file reg zero_bit) (f reg)
+put_at f file reg lt = table_at (λ r. with_slot (get_or file r zero_bit) (f r)) 16 reg zero_bit lt
 
--- past the sixteen registers there is nothing
-writes_past : (b : Bool) (a : Asks) (o : Option Commit) (file : List Bits) (reg : ℕ) → 16 ≤ reg → get_or file reg zero_bit ≡ zero_bit → get_or (with_writes b a o file) reg zero_bit ≡ zero_bit
-writes_past b a None file reg le h = h
-writes_past b a (Some c) file reg le h =
-    let f : ℕ → Bits = λ r. if counts b (get_or a.late_customs r false) then with_slot (get_or file r zero_bit) (get_or c.custom r Absent) else get_or file r zero_bit in
-    let n = table_length f 16 in
-    get_or_past (table f 16) reg zero_bit (omega (arith, n, le))
+-- what a step with this answer writes as its token leaves EX
+abbrev early_in_answer : Asks → List (Option Bits) → ℕ → StepAnswer → Slot Bits
+early_in_answer a blocks reg (Done c) = early_write a blocks c reg
+early_in_answer a blocks reg (Stopped stop) = Absent
 
-file_past : (b : Bool) (s : Option Token) (file : List Bits) (reg : ℕ) → 16 ≤ reg → get_or file reg zero_bit ≡ zero_bit → get_or (file_after b s file) reg zero_bit ≡ zero_bit
-file_past b None file reg le h = h
-file_past b (Some t) file reg le h = writes_past b t.asks (commit_of t) file reg le h
+early_at : (a : Asks) (blocks : List (Option Bits)) (y : StepAnswer) (file : List Bits) (reg : ℕ) → reg < 16
+    → get_or (early_after a blocks y file) reg zero_bit ≡ with_slot (get_or file reg zero_bit) (early_in_answer a blocks reg y)
+early_at a blocks (Done c) file reg lt = put_at (early_write a blocks c) file reg lt
+early_at a blocks (Stopped stop) file reg lt = refl
+
+late_after_at : (a : Asks) (own : List Bool) (y : StepAnswer) (file : List Bits) (reg : ℕ) → reg < 16
+    → get_or (late_after a own y file) reg zero_bit ≡ with_slot (get_or file reg zero_bit) (late_in_answer a own reg y)
+late_after_at a own (Done c) file reg lt = put_at (late_write a own c) file reg lt
+late_after_at a own (Stopped stop) file reg lt = refl
+
+-- and the file keeps its sixteen
+early_length : (s : Option Token) (file : List Bits) → length file ≡ 16 → length (file_early s file) ≡ 16
+early_length None file h = h
+early_length (Some t) file h = by_trial t.trial where
+  by_answer : (blocks : List (Option Bits)) (y : StepAnswer) → length (early_after t.asks blocks y file) ≡ 16
+  by_answer blocks (Done c) = table_length (λ r. with_slot (get_or file r zero_bit) (early_write t.asks blocks c r)) 16
+  by_answer blocks (Stopped stop) = h
+
+  by_trial : (o : Option Trial) → length (trial_early t.asks o file) ≡ 16
+  by_trial None = h
+  by_trial (Some trial) = by_answer trial.blocks trial.answer
+
+late_length : (s : Option Token) (file : List Bits) → length file ≡ 16 → length (file_late s file) ≡ 16
+late_length None file h = h
+late_length (Some t) file h = by_trial t.trial where
+  by_answer : (own : List Bool) (y : StepAnswer) → length (late_after t.asks own y file) ≡ 16
+  by_answer own (Done c) = table_length (λ r. with_slot (get_or file r zero_bit) (late_write t.asks own c r)) 16
+  by_answer own (Stopped stop) = h
+
+  by_trial : (o : Option Trial) → length (trial_late t.asks o file) ≡ 16
+  by_trial None = h
+  by_trial (Some trial) = by_answer trial.own trial.answer
 
 -- a token that comes to a record of the run's step
 done_of : (a : StepAnswer) → stop_in a ≡ None → (c : Commit) × (a ≡ Done c)
 done_of (Done c) h = (c, refl)
 done_of (Stopped stop) h = cc
 
-commit_is : (t : Token) (trial : Trial) (c : Commit) → t.trial ≡ Some trial → trial.answer ≡ Done c → commit_of t ≡ Some c
-commit_is t trial c e h = ap (λ o. tried_commit o) e ∙ ap (λ a. commit_in a) h
+-- what is known by EX writes the same as the step
+early_same : (a : Asks) (blocks : List (Option Bits)) (reg : ℕ) (x y : StepAnswer) → IsEarly a x y → early_in_answer a blocks reg x ≡ early_in_answer a blocks reg y
+early_same a blocks reg (Done c) (Done d) h = by_case (late_at reg a) (get_or a.spawned_customs reg false) refl refl where
+  by_case : (p q : Bool) → late_at reg a ≡ p → get_or a.spawned_customs reg false ≡ q
+      → (if p || q then slot_of (get_or blocks reg None) else get_or c.custom reg Absent) ≡ (if p || q then slot_of (get_or blocks reg None) else get_or d.custom reg Absent)
+  by_case true q e f = refl
+  by_case false true e f = refl
+  by_case false false e f = h.customs reg e f
+early_same a blocks reg (Stopped s) (Stopped u) h = refl
+early_same a blocks reg (Done c) (Stopped s) h = absurd h
+early_same a blocks reg (Stopped s) (Done c) h = absurd h
 
-early_custom : (a : Asks) (x : StepAnswer) (c d : Commit) (reg : ℕ) (y : StepAnswer) → x ≡ Done c → y ≡ Done d → IsEarly a x y → late_at reg a ≡ false → get_or a.spawned_customs reg false ≡ false → get_or c.custom reg Absent ≡ get_or d.custom reg Absent
-early_custom a x c d reg y ex ey h n s = (subst (λ z. IsEarly a (Done c) z) ey (subst (λ z. IsEarly a z y) ex h)).customs reg n s
+-- the blocks' write, and over it the instruction's own, are the whole of a record
+whole_of : (own : List Bool) (blocks : List (Option Bits)) (c : Commit) (reg : ℕ) (v : Bits) → IsWhole own blocks c reg
+    → with_slot (with_slot v (slot_of (get_or blocks reg None))) (if get_or own reg false then get_or c.custom reg Absent else Absent) ≡ with_slot v (get_or c.custom reg Absent)
+whole_of own blocks c reg v w = by_case (get_or own reg false) refl where
+  by_case : (b : Bool) → get_or own reg false ≡ b → with_slot (with_slot v (slot_of (get_or blocks reg None))) (if b then get_or c.custom reg Absent else Absent) ≡ with_slot v (get_or c.custom reg Absent)
+  by_case false e = ap (λ s. with_slot v s) (sym (w.others e))
+  by_case true e =
+      let x = w.itself e in
+      ap (λ s. with_slot (with_slot v (slot_of (get_or blocks reg None))) s) x.1 ∙ ap (λ s. with_slot v s) (sym x.1)
 
 module _ (k : Setting) (ready : IsReady k) (r reg : ℕ) (lt : reg < 16) where
-  -- what goes out has written its late registers
-  retire_late : (t : Token) (address : ℕ) (file : List Bits) (ys : List Asks) → IsPlaced k r address (shape_of k).stages [] t → AreClear k reg r (ys ++ (t.asks ∷ []))
-      → get_or file reg zero_bit ≡ value k reg (r + settled_in reg (ys ++ (t.asks ∷ []))) → get_or (file_after true (Some t) file) reg zero_bit ≡ value k reg (r + 1 + settled_in reg ys)
-  retire_late t address file ys here clear h =
+  -- what goes out pays what it owes
+  retire_late : (t : Token) (address : ℕ) (file : List Bits) → IsPlaced k r address (shape_of k).stages [] t → get_or (file_late (Some t) file) reg zero_bit ≡ with_slot (get_or file reg zero_bit) (owed_write k t.asks r reg)
+  retire_late t address file here =
       let past = ready.mem_last in
       let past_ex = ready.ex_last in
       let g = here.gone (omega (arith, past_ex)) in
       let exact = here.exact g.0 g.1 (λ l. past) in
-      let c = done_of g.0.answer g.2 in
-      ap (λ o. get_or (with_writes true t.asks o file) reg zero_bit) (commit_is t g.0 c.0 g.1 c.1)
-      ∙ mark_at true t.asks c.0 file reg lt
-      ∙ by_case (late_at reg t.asks) refl c.0 (sym exact.answer ∙ c.1) where
-        up : (a : ℕ) → a + 1 ≡ suc a
-        up a = omega arith
+      ap (λ o. get_or (trial_late t.asks o file) reg zero_bit) g.1
+      ∙ late_after_at t.asks g.0.own g.0.answer file reg lt
+      ∙ ap (λ l. with_slot (get_or file reg zero_bit) (late_in_answer t.asks l reg g.0.answer)) exact.own
+      ∙ ap (λ y. with_slot (get_or file reg zero_bit) (late_in_answer t.asks ((judged k).course.own r) reg y)) exact.answer
 
-        shift : (a n : ℕ) → a + suc n ≡ a + 1 + n
-        shift a n = omega arith
+  -- what leaves EX writes what the step of its place does by then
+  leave_early : (t : Token) (p address : ℕ) (older : Slots) (file : List Bits) → IsPlaced k p address (suc (shape_of k).ex) older t
+      → get_or (file_early (Some t) file) reg zero_bit ≡ with_slot (get_or file reg zero_bit) (early_in_answer t.asks ((judged k).course.blocks p) reg (answer k p))
+  leave_early t p address older file here =
+      let g = here.gone (omega arith) in
+      let i = here.tried g.0 g.1 in
+      ap (λ o. get_or (trial_early t.asks o file) reg zero_bit) g.1
+      ∙ early_at t.asks g.0.blocks g.0.answer file reg lt
+      ∙ ap (λ l. with_slot (get_or file reg zero_bit) (early_in_answer t.asks l reg g.0.answer)) i.blocks
+      ∙ ap (λ s. with_slot (get_or file reg zero_bit) s) (early_same t.asks ((judged k).course.blocks p) reg g.0.answer (answer k p) i.early)
 
-        by_case : (b : Bool) → late_at reg t.asks ≡ b → (c : Commit) → answer k r ≡ Done c
-            → (if counts true b then with_slot (get_or file reg zero_bit) (get_or c.custom reg Absent) else get_or file reg zero_bit) ≡ value k reg (r + 1 + settled_in reg ys)
-        by_case false e c done = h ∙ ap (λ n. value k reg (r + n)) (settled_early reg ys t.asks e) ∙ ap (λ n. value k reg n) (shift r (settled_in reg ys))
-        by_case true e c done =
-            let x = all_clear k reg r ys t.asks e clear in
-            ap (λ v. with_slot v (get_or c.custom reg Absent)) (h ∙ ap (λ n. value k reg (r + n)) (settled_late reg ys t.asks e) ∙ ap (λ n. value k reg n) (add-zero r))
-            ∙ sym (run_done_custom k r c reg done lt)
-            ∙ ap (λ n. value k reg n) (sym (up r))
-            ∙ sym x.1
-            ∙ ap (λ n. value k reg (r + n)) (last_length ys t.asks)
-            ∙ ap (λ n. value k reg n) (shift r (length ys))
-            ∙ ap (λ n. value k reg (r + 1 + n)) (sym (none_late reg ys x.0))
+  abbrev from : List Bits → Bits
+  from file = get_or file reg zero_bit
 
-  -- what leaves EX has written the others
+  abbrev by_then : Token → ℕ → StepAnswer → Slot Bits
+  by_then t p y = early_in_answer t.asks ((judged k).course.blocks p) reg y
+
+  abbrev owed : Token → ℕ → StepAnswer → Slot Bits
+  owed t p y = late_in_answer t.asks ((judged k).course.own p) reg y
+
+  -- what leaves EX, with what is owed, is behind its step
   execute : (t : Token) (p address : ℕ) (older : Slots) (file : List Bits) (q : ℕ) (ys : List Asks) → IsPlaced k p address (suc (shape_of k).ex) older t → word_at k.image (run k p).pc ≡ Some t.cell.word → p ≡ q + length ys
-      → (use_at reg t.asks ≡ true → late_in reg ys ≡ false) → get_or file reg zero_bit ≡ value k reg (q + settled_in reg ys)
-      → get_or (file_after false (Some t) file) reg zero_bit ≡ value k reg (q + settled_in reg (t.asks ∷ ys))
+      → (use_at reg t.asks ≡ true → late_in reg ys ≡ false) → paid_in k q reg ys (get_or file reg zero_bit) ≡ value k reg (q + length ys)
+      → paid_in k q reg (t.asks ∷ ys) (get_or (file_early (Some t) file) reg zero_bit) ≡ value k reg (q + suc (length ys))
   execute t p address older file q ys here w place clear h =
       let g = here.gone (omega arith) in
       let early = (here.tried g.0 g.1).early in
-      let c = done_of g.0.answer g.2 in
       let d = done_of (answer k p) (sym (early_stop t.asks g.0.answer (answer k p) early) ∙ g.2) in
-      ap (λ o. get_or (with_writes false t.asks o file) reg zero_bit) (commit_is t g.0 c.0 g.1 c.1)
-      ∙ mark_at false t.asks c.0 file reg lt
-      ∙ by_case (late_at reg t.asks) (late_in reg ys) refl refl c.0 d.0 d.1 (λ n. early_custom t.asks g.0.answer c.0 d.0 reg (answer k p) c.1 d.1 early n (ap (λ (a : Asks). get_or a.spawned_customs reg false) here.asks ∙ (ready.quiet.asks t.cell.word).customs reg)) where
-        up : (a n : ℕ) → suc (a + n) ≡ a + suc n
-        up a n = omega arith
+      let up : suc (q + length ys) ≡ q + suc (length ys) = omega arith in
+      ap (λ v. paid_in k q reg (t.asks ∷ ys) v) (leave_early t p address older file here)
+      ∙ ap (λ n. with_slot (paid_in k q reg ys (with_slot (get_or file reg zero_bit) (early_in_answer t.asks ((judged k).course.blocks p) reg (answer k p)))) (owed_write k t.asks n reg)) (sym place)
+      ∙ by_use (use_at reg t.asks) refl d.0 d.1
+      ∙ ap (λ n. value k reg (suc n)) place
+      ∙ ap (λ n. value k reg n) up where
+        asks_is : (f : Asks → Bool) → f t.asks ≡ f (asked k.design t.cell.word)
+        asks_is f = ap f here.asks
 
-        not_used : (b : Bool) → use_at reg t.asks ≡ b → late_in reg ys ≡ true → b ≡ false
-        not_used true e l = absurd (cc (clear e, l))
-        not_used false e l = refl
+        unspawned : get_or t.asks.spawned_customs reg false ≡ false
+        unspawned = asks_is (λ a. get_or a.spawned_customs reg false) ∙ (ready.quiet.asks t.cell.word).customs reg
 
-        by_case : (b l : Bool) → late_at reg t.asks ≡ b → late_in reg ys ≡ l → (c d : Commit) → answer k p ≡ Done d → (late_at reg t.asks ≡ false → get_or c.custom reg Absent ≡ get_or d.custom reg Absent)
-            → (if counts false b then with_slot (get_or file reg zero_bit) (get_or c.custom reg Absent) else get_or file reg zero_bit) ≡ value k reg (q + (if late_at reg t.asks || late_in reg ys then settled_in reg ys else suc (length ys)))
-        by_case true l eb el c d done same = h ∙ ap (λ (b : Bool). value k reg (q + (if b || late_in reg ys then settled_in reg ys else suc (length ys)))) (sym eb)
-        by_case false true eb el c d done same =
-            let absent = (kept_word k ready p t.cell.word d w done).customs reg (sym (ap (λ (a : Asks). get_or a.customs reg false) here.asks) ∙ not_used (use_at reg t.asks) refl el) in
-            ap (λ s. with_slot (get_or file reg zero_bit) s) (same eb ∙ absent)
-            ∙ h
-            ∙ ap (λ (b : Bool). value k reg (q + (if b || true then settled_in reg ys else suc (length ys)))) (sym eb)
-            ∙ ap (λ (b : Bool). value k reg (q + (if late_at reg t.asks || b then settled_in reg ys else suc (length ys)))) (sym el)
-        by_case false false eb el c d done same =
-            ap (λ s. with_slot (get_or file reg zero_bit) s) (same eb)
-            ∙ ap (λ v. with_slot v (get_or d.custom reg Absent)) (h ∙ ap (λ n. value k reg (q + n)) (none_late reg ys el) ∙ ap (λ n. value k reg n) (sym place))
-            ∙ sym (run_done_custom k p d reg done lt)
-            ∙ ap (λ n. value k reg (suc n)) place
-            ∙ ap (λ n. value k reg n) (up q (length ys))
-            ∙ ap (λ (b : Bool). value k reg (q + (if b || false then settled_in reg ys else suc (length ys)))) (sym eb)
-            ∙ ap (λ (b : Bool). value k reg (q + (if late_at reg t.asks || b then settled_in reg ys else suc (length ys)))) (sym el)
+        -- the register is the run's before the step
+        run_is : paid_in k q reg ys (from file) ≡ value k reg p
+        run_is = h ∙ ap (λ n. value k reg n) (sym place)
+
+        unused_late : use_at reg t.asks ≡ false → late_at reg t.asks ≡ false
+        unused_late e = by_late (late_at reg t.asks) refl where
+          by_late : (b : Bool) → late_at reg t.asks ≡ b → b ≡ false
+          by_late false f = refl
+          by_late true f = cc (sym e ∙ asks_is (use_at reg) ∙ used_late k.design t.cell.word reg (sym (asks_is (late_at reg)) ∙ f))
+
+        pending_is : (b : Bool) → late_at reg t.asks ≡ b → is_pending t.asks reg ≡ b
+        pending_is b e = ap (λ z. z || get_or t.asks.spawned_customs reg false) e ∙ ap (λ z. b || z) unspawned ∙ or_false b where
+          or_false : (b : Bool) → (b || false) ≡ b
+          or_false true = refl
+          or_false false = refl
+
+        -- a register that the instruction does not use stays
+        unused : use_at reg t.asks ≡ false → (d : Commit) → answer k p ≡ Done d → with_slot (paid_in k q reg ys (with_slot (from file) (by_then t p (answer k p)))) (owed t p (answer k p)) ≡ value k reg (suc p)
+        unused e d done =
+            let absent = (kept_word k ready p t.cell.word d w done).customs reg (sym (asks_is (use_at reg)) ∙ e) in
+            let early_none : by_then t p (answer k p) ≡ Absent =
+            ap (λ y. by_then t p y) done
+            ∙ ap (λ (b : Bool). if b then slot_of (get_or ((judged k).course.blocks p) reg None) else get_or d.custom reg Absent) (pending_is false (unused_late e))
+            ∙ absent in
+            ap (λ s. with_slot (paid_in k q reg ys (with_slot (from file) (by_then t p (answer k p)))) s) (not_late t.asks ((judged k).course.own p) reg (answer k p) (unused_late e))
+            ∙ ap (λ s. paid_in k q reg ys (with_slot (from file) s)) early_none
+            ∙ run_is
+            ∙ sym (run_custom k ready p t.cell.word reg w (sym (asks_is (use_at reg)) ∙ e))
+
+        -- one that it uses has no older late writer
+        used : use_at reg t.asks ≡ true → (d : Commit) → answer k p ≡ Done d → with_slot (paid_in k q reg ys (with_slot (from file) (by_then t p (answer k p)))) (owed t p (answer k p)) ≡ value k reg (suc p)
+        used e d done =
+            let none = clear e in
+            let old : (from file) ≡ value k reg p = sym (none_owed k q reg ys (from file) none) ∙ run_is in
+            ap (λ v. with_slot v (owed t p (answer k p))) (none_owed k q reg ys (with_slot (from file) (by_then t p (answer k p))) none)
+            ∙ ap (λ y. with_slot (with_slot (from file) (by_then t p y)) (owed t p y)) done
+            ∙ ap (λ v. with_slot (with_slot v (by_then t p (Done d))) (owed t p (Done d))) old
+            ∙ by_late (late_at reg t.asks) refl
+            ∙ sym (run_done_custom k p d reg done lt) where
+              by_late : (b : Bool) → late_at reg t.asks ≡ b → with_slot (with_slot (value k reg p) (by_then t p (Done d))) (owed t p (Done d)) ≡ with_slot (value k reg p) (get_or d.custom reg Absent)
+              by_late false l =
+                  ap (λ s. with_slot (with_slot (value k reg p) (by_then t p (Done d))) s) (not_late t.asks ((judged k).course.own p) reg (Done d) l)
+                  ∙ ap (λ (b : Bool). with_slot (value k reg p) (if b then slot_of (get_or ((judged k).course.blocks p) reg None) else get_or d.custom reg Absent)) (pending_is false l)
+              by_late true l =
+                  ap (λ (b : Bool). with_slot (with_slot (value k reg p) (by_then t p (Done d))) (if b && get_or ((judged k).course.own p) reg false then get_or d.custom reg Absent else Absent)) l
+                  ∙ ap (λ (b : Bool). with_slot (with_slot (value k reg p) (if b then slot_of (get_or ((judged k).course.blocks p) reg None) else get_or d.custom reg Absent)) (if get_or ((judged k).course.own p) reg false then get_or d.custom reg Absent else Absent)) (pending_is true l)
+                  ∙ whole_of ((judged k).course.own p) ((judged k).course.blocks p) d reg (value k reg p) (whole_word k ready p t.cell.word d reg w done lt)
+
+        by_use : (b : Bool) → use_at reg t.asks ≡ b → (d : Commit) → answer k p ≡ Done d → with_slot (paid_in k q reg ys (with_slot (from file) (by_then t p (answer k p)))) (owed t p (answer k p)) ≡ value k reg (suc p)
+        by_use true e d done = used e d done
+        by_use false e d done = unused e d done
+
+-- ---- widths of what steps write
+
+abbrev width_of : Setting → ℕ → ℕ
+width_of k reg = (type_of_custom (tree_of k) reg).width
+
+module _ (k : Setting) (ready : IsReady k) (p reg : ℕ) (lt : reg < 16) where
+  step_wide : (c : Commit) → answer k p ≡ Done c → IsNowWide (width_of k reg) (get_or c.custom reg Absent)
+  step_wide c done =
+      now_wide (value k reg p) (value k reg (suc p)) (get_or c.custom reg Absent) (width_of k reg) (run_done_custom k p c reg done lt)
+      (wide_at (tree_of k) (run k (suc p)).custom reg (ready.wide (suc p)) lt)
+
+  late_wide : (a : Asks) → IsNowWide (width_of k reg) (owed_write k a p reg)
+  late_wide a = by_answer (answer k p) refl where
+    by_answer : (y : StepAnswer) → answer k p ≡ y → IsNowWide (width_of k reg) (late_in_answer a ((judged k).course.own p) reg y)
+    by_answer (Done c) e = by_case (get_or a.late_customs reg false && get_or ((judged k).course.own p) reg false) where
+      by_case : (b : Bool) → IsNowWide (width_of k reg) (if b then get_or c.custom reg Absent else Absent)
+      by_case true = step_wide c e
+      by_case false = tt
+    by_answer (Stopped stop) e = tt
+
+  early_wide : (a : Asks) (blocks : List (Option Bits)) → IsNowWide (width_of k reg) (slot_of (get_or blocks reg None)) → IsNowWide (width_of k reg) (early_in_answer a blocks reg (answer k p))
+  early_wide a blocks w = by_answer (answer k p) refl where
+    by_answer : (y : StepAnswer) → answer k p ≡ y → IsNowWide (width_of k reg) (early_in_answer a blocks reg y)
+    by_answer (Done c) e = by_case (is_pending a reg) where
+      by_case : (b : Bool) → IsNowWide (width_of k reg) (if b then slot_of (get_or blocks reg None) else get_or c.custom reg Absent)
+      by_case true = w
+      by_case false = step_wide c e
+    by_answer (Stopped stop) e = tt
 
 -- ---- the row
+
+-- a future file and its widths
+abbrev pub IsFile : Setting → ℕ → List Bits → Slots → Type 0
+IsFile k r file gone = IsFuture k r file gone × AreWide (tree_of k) file
 
 module _ (k : Setting) (ready : IsReady k) (r : ℕ) (come : Option Token) (gone : Slots) (future : List Bits) (wide : AreWide (tree_of k) future) (some : 0 < length gone)
     (decided : Decided k (suc (shape_of k).ex) gone) (stops : NoStops k (suc (shape_of k).ex) gone) (free : Free come (first_slot gone)) (placed : Placed k r (suc (shape_of k).ex) gone)
@@ -323,23 +378,9 @@ module _ (k : Setting) (ready : IsReady k) (r : ℕ) (come : Option Token) (gone
       ap (λ s. all_asks (advanced None gone) ++ of_slot s) (leaving_any come gone some)
       ∙ moved_asks k (suc (shape_of k).ex) None gone decided stops (λ h. refl)
 
-  path : OnPath k gone
-  path = on_path k r (suc (shape_of k).ex) gone (omega arith) placed
-
-  -- after what goes out has written
-  retired : (reg : ℕ) → reg < 16 → (s : Option Token) → IsPlacedSlot k r (run k r).pc (shape_of k).stages [] s → all_asks (advanced None gone) ++ of_slot s ≡ all_asks gone
-      → get_or (file_after true s future) reg zero_bit ≡ value k reg (r + one_more s 0 + settled_in reg (all_asks (advanced None gone)))
-  retired reg lt None h e =
-      file reg
-      ∙ ap (λ n. value k reg (r + n)) (settled_asks reg gone ∙ ap (λ l. settled_in reg l) (sym e ∙ joined_none (all_asks (advanced None gone))))
-      ∙ ap (λ n. value k reg (n + settled_in reg (all_asks (advanced None gone)))) (sym (add-zero r)) where
-        joined_none : (l : List Asks) → l ++ [] ≡ l
-        joined_none [] = refl
-        joined_none (a ∷ l) = ap (λ m. a ∷ m) (joined_none l)
-  retired reg lt (Some t) h e =
-      retire_late k ready r reg lt t (run k r).pc future (all_asks (advanced None gone)) h
-      (subst (λ l. AreClear k reg r l) (sym e) (are_clear k ready reg r (suc (shape_of k).ex) gone (omega arith) placed path))
-      (file reg ∙ ap (λ n. value k reg (r + n)) (settled_asks reg gone ∙ ap (λ l. settled_in reg l) (sym e)))
+  joined_none : (l : List Asks) → l ++ [] ≡ l
+  joined_none [] = refl
+  joined_none (a ∷ l) = ap (λ m. a ∷ m) (joined_none l)
 
   -- the place of what leaves EX
   place_of : (s : Option Token) → all_asks (advanced None gone) ++ of_slot s ≡ all_asks gone → r + count gone ≡ r + one_more s 0 + length (all_asks (advanced None gone))
@@ -353,23 +394,72 @@ module _ (k : Setting) (ready : IsReady k) (r : ℕ) (come : Option Token) (gone
           lengths (a ∷ l) = let x = lengths l in omega (arith, x)
         by_slot (Some t) = let u = last_length (all_asks (advanced None gone)) t.asks in omega (arith, u)
 
+  -- after what goes out has paid
+  retired : (reg : ℕ) → reg < 16 → (s : Option Token) → IsPlacedSlot k r (run k r).pc (shape_of k).stages [] s → all_asks (advanced None gone) ++ of_slot s ≡ all_asks gone
+      → paid_in k (r + one_more s 0) reg (all_asks (advanced None gone)) (get_or (file_late s future) reg zero_bit) ≡ value k reg (r + one_more s 0 + length (all_asks (advanced None gone)))
+  retired reg lt s h e = by_slot s h e ∙ ap (λ n. value k reg n) (place_of s e) where
+    by_slot : (s : Option Token) → IsPlacedSlot k r (run k r).pc (shape_of k).stages [] s → all_asks (advanced None gone) ++ of_slot s ≡ all_asks gone
+        → paid_in k (r + one_more s 0) reg (all_asks (advanced None gone)) (get_or (file_late s future) reg zero_bit) ≡ value k reg (r + count gone)
+    by_slot None h e =
+        ap (λ n. paid_in k n reg (all_asks (advanced None gone)) (get_or future reg zero_bit)) (add-zero r)
+        ∙ ap (λ l. paid_in k r reg l (get_or future reg zero_bit)) (sym (joined_none (all_asks (advanced None gone))) ∙ e)
+        ∙ sym (paid_asks k r reg gone (get_or future reg zero_bit))
+        ∙ file reg lt
+    by_slot (Some t) h e =
+        ap (λ v. paid_in k (r + 1) reg (all_asks (advanced None gone)) v) (retire_late k ready r reg lt t (run k r).pc future h)
+        ∙ sym (paid_last k r reg (all_asks (advanced None gone)) t.asks (get_or future reg zero_bit))
+        ∙ ap (λ l. paid_in k r reg l (get_or future reg zero_bit)) e
+        ∙ sym (paid_asks k r reg gone (get_or future reg zero_bit))
+        ∙ file reg lt
+
+  -- the word at the place of what leaves EX
+  word_there : (t : Token) → IsPlaced k (r + count gone) (expected k r (suc (shape_of k).ex) gone) (suc (shape_of k).ex) gone t → word_at k.image (run k (r + count gone)).pc ≡ Some t.cell.word
+  word_there t h =
+      let g = h.gone (omega arith) in
+      let pc = h.at ∙ expected_run k r (suc (shape_of k).ex) gone (omega arith) (h.settled g.0 g.1) in
+      ap (λ a. word_at k.image a) (sym pc) ∙ h.word
+
   executed : (reg : ℕ) → reg < 16 → (s c : Option Token) → (file : List Bits) → IsPlacedSlot k (r + count gone) (expected k r (suc (shape_of k).ex) gone) (suc (shape_of k).ex) gone c → all_asks (advanced None gone) ++ of_slot s ≡ all_asks gone
-      → get_or file reg zero_bit ≡ value k reg (r + one_more s 0 + settled_in reg (all_asks (advanced None gone)))
-      → get_or (file_after false c file) reg zero_bit ≡ value k reg (r + one_more s 0 + settled_in reg (of_slot c ++ all_asks (advanced None gone)))
+      → paid_in k (r + one_more s 0) reg (all_asks (advanced None gone)) (get_or file reg zero_bit) ≡ value k reg (r + one_more s 0 + length (all_asks (advanced None gone)))
+      → paid_in k (r + one_more s 0) reg (of_slot c ++ all_asks (advanced None gone)) (get_or (file_early c file) reg zero_bit) ≡ value k reg (r + one_more s 0 + length (of_slot c ++ all_asks (advanced None gone)))
   executed reg lt s None file h e q = q
   executed reg lt s (Some t) file h e q =
       let g = h.gone (omega arith) in
-      let pc = h.at ∙ expected_run k r (suc (shape_of k).ex) gone (omega arith) (h.settled g.0 g.1) in
-      let w = ap (λ a. word_at k.image a) (sym pc) ∙ h.word in
-      execute k ready r reg lt t (r + count gone) (expected k r (suc (shape_of k).ex) gone) gone file (r + one_more s 0) (all_asks (advanced None gone)) h w (place_of s e)
+      execute k ready r reg lt t (r + count gone) (expected k r (suc (shape_of k).ex) gone) gone file (r + one_more s 0) (all_asks (advanced None gone)) h (word_there t h) (place_of s e)
       (λ u. late_more reg (all_asks (advanced None gone)) (of_slot s) (ap (λ l. late_in reg l) e ∙ sym (asks_late reg gone) ∙ none_is (oldest (writes_late reg) gone) (h.clear g.0 g.1 reg u))) q
 
-  pub future_advanced : IsFuture k (r + one_more (leaving come gone) 0) (file_after false come (file_after true (leaving come gone) future)) (advanced come gone)
-  future_advanced reg = elim (cases_lt reg 16) [
-    | inl lt ↦
-        executed reg lt (leaving come gone) come (file_after true (leaving come gone) future) comes parted (retired reg lt (leaving come gone) leaves parted)
-        ∙ ap (λ n. value k reg (r + one_more (leaving come gone) 0 + n)) (ap (λ l. settled_in reg l) (sym (front_asks come gone some free)) ∙ sym (settled_asks reg (advanced come gone)))
-    | inr le ↦
-        file_past false come (file_after true (leaving come gone) future) reg le (file_past true (leaving come gone) future reg le (custom_past (tree_of k) future reg wide le))
-        ∙ sym (custom_past (tree_of k) (run k (r + one_more (leaving come gone) 0 + settled_before reg (advanced come gone))).custom reg (ready.wide (r + one_more (leaving come gone) 0 + settled_before reg (advanced come gone))) le)
-  ]
+  future_advanced : IsFuture k (r + one_more (leaving come gone) 0) (file_early come (file_late (leaving come gone) future)) (advanced come gone)
+  future_advanced reg lt =
+      let n = r + one_more (leaving come gone) 0 in
+      let v = get_or (file_early come (file_late (leaving come gone) future)) reg zero_bit in
+      let front = front_asks come gone some free in
+      paid_asks k n reg (advanced come gone) v
+      ∙ ap (λ l. paid_in k n reg l v) front
+      ∙ executed reg lt (leaving come gone) come (file_late (leaving come gone) future) comes parted (retired reg lt (leaving come gone) leaves parted)
+      ∙ ap (λ l. value k reg (n + length l)) (sym front)
+      ∙ ap (λ m. value k reg (n + m)) (sym (asks_count (advanced come gone)))
+
+  -- widths are kept
+  retired_wide : (reg : ℕ) → reg < 16 → (s : Option Token) → IsPlacedSlot k r (run k r).pc (shape_of k).stages [] s → (get_or (file_late s future) reg zero_bit).width ≡ width_of k reg
+  retired_wide reg lt None h = wide_at (tree_of k) future reg wide lt
+  retired_wide reg lt (Some t) h =
+      ap (λ (b : Bits). b.width) (retire_late k ready r reg lt t (run k r).pc future h)
+      ∙ slot_wide (get_or future reg zero_bit) (owed_write k t.asks r reg) (width_of k reg) (wide_at (tree_of k) future reg wide lt) (late_wide k ready r reg lt t.asks)
+
+  executed_wide : (reg : ℕ) → reg < 16 → (c : Option Token) (file : List Bits) → IsPlacedSlot k (r + count gone) (expected k r (suc (shape_of k).ex) gone) (suc (shape_of k).ex) gone c
+      → (get_or file reg zero_bit).width ≡ width_of k reg → (get_or (file_early c file) reg zero_bit).width ≡ width_of k reg
+  executed_wide reg lt None file h q = q
+  executed_wide reg lt (Some t) file h q =
+      let p = r + count gone in
+      let blocks = blocks_word k ready p t.cell.word (word_there t h) in
+      ap (λ (b : Bits). b.width) (leave_early k ready r reg lt t p (expected k r (suc (shape_of k).ex) gone) gone file h)
+      ∙ slot_wide (get_or file reg zero_bit) (early_in_answer t.asks ((judged k).course.blocks p) reg (answer k p)) (width_of k reg) q
+      (early_wide k ready p reg lt t.asks ((judged k).course.blocks p) (blocks reg))
+
+  wide_advanced : AreWide (tree_of k) (file_early come (file_late (leaving come gone) future))
+  wide_advanced =
+      wide_of (tree_of k) (file_early come (file_late (leaving come gone) future)) (early_length come (file_late (leaving come gone) future) (late_length (leaving come gone) future wide.count))
+      (λ reg lt. executed_wide reg lt come (file_late (leaving come gone) future) comes (retired_wide reg lt (leaving come gone) leaves))
+
+  pub file_advanced : IsFile k (r + one_more (leaving come gone) 0) (file_early come (file_late (leaving come gone) future)) (advanced come gone)
+  file_advanced = (future_advanced, wide_advanced)

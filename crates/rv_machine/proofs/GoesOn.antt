@@ -8,12 +8,12 @@ use Rattle.rv_machine.specs.Placed.{judged, IsReady, Inv}
 use Rattle.rv_machine.proofs.GoesNext.{goes_next}
 use Rattle.rv_machine.proofs.TailsAfter.{tails_after}
 use Rattle.rv_machine.proofs.EachRow as R
-use Rattle.rv_machine.proofs.WideFuture.{wide_future}
+use Rattle.rv_machine.proofs.NextRow.{wide_next}
 use Rattle.rv_machine.proofs.Untailed.{untailed}
 use Rattle.rv_machine.proofs.ModuleWaits.{ended}
 
 pub goes_on : (k : Setting) (ready : IsReady k) (earlier : List Row) (m : Machine) (row : Row) → Inv k earlier m → IsRowOf k m row → Lawful (judged k) earlier → row.stop ≡ None → Inv k (row ∷ earlier) (machine_after k m)
 goes_on k ready earlier m row inv is law stop =
-    goes_next k ready earlier m row inv is stop (wide_future k ready earlier m row inv is stop)
+    goes_next k ready earlier m row inv is stop (wide_next k ready earlier m row inv is stop)
     (tails_after k ready earlier m row inv is (untailed k earlier m inv) (ended k ready earlier m row inv is law))
     (R.progress k ready earlier m row inv is stop)

@@ -2,14 +2,15 @@
 use Rattle.std.proofs.Common.{◌≡◌, ℕ, suc, ◌+◌, ◌<◌, ◌≤◌, List, [], ◌∷◌, length, Option, Some, None, Bool, true, false, refl, sym, ap, ◌∙◌, subst, arith, inl, inr}
 use Rattle.std.specs.Prelude.{if◌then◌else◌, is_some}
 use Rattle.rv_trace.specs.declared.row.Cell.{Cell}
+use Rattle.rv_effect.specs.WordEffects.{AreWide}
 use Rattle.rv_trace.specs.declared.row.Row.{Row}
 use Rattle.rv_trace.specs.Trace.{retirements}
 use Rattle.rv_trace.specs.RowParts.{names_of, serial_after, MovesInto}
 use Rattle.rv_holds.specs.declared.token.Token.{Token}
 use Rattle.rv_holds.specs.Tokens.{Slots, makes_access, cell_of, cells_of}
 use Rattle.rv_holds.specs.Flushing.{struck, slot_stop}
-use Rattle.rv_engine.specs.Settings.{Setting, Machine, shape_of}
-use Rattle.rv_engine.specs.Rows.{advanced, first_slot, fill_first, next_after, new_by, loaded_by, turn_by, seen_by, left_by, fetch_by, executed_by, file_after, accesses_after, stood_after, IsRowOf}
+use Rattle.rv_engine.specs.Settings.{Setting, Machine, shape_of, tree_of}
+use Rattle.rv_engine.specs.Rows.{advanced, first_slot, fill_first, next_after, new_by, loaded_by, turn_by, seen_by, left_by, fetch_by, executed_by, file_early, file_late, accesses_after, stood_after, IsRowOf}
 use Rattle.rv_lawful.specs.Settings as Lawful
 use Rattle.rv_lawful.specs.LawfulTrace.{IsWordOf}
 use Rattle.rv_machine.specs.Placed.{judged, one_more, count, tail, expected, HasWord, Placed, Serials, IsFuture, past_ex, IsReady, Inv}
@@ -67,8 +68,11 @@ module _ (k : Setting) (ready : IsReady k) (earlier : List Row) (m : Machine) (r
   pub fetch_next : row.stop ≡ None → fetch_by k m ≡ expected k (retirements (row ∷ earlier)) 1 (tail (advanced None (seen_by k m)))
   fetch_next e = N.next_fetch k ready earlier m inv (no_stop e) ∙ ap (λ n. expected k n 1 (tail (advanced None (seen_by k m)))) retired_is
 
-  pub future_next : row.stop ≡ None → IsFuture k (retirements (row ∷ earlier)) (file_after false (executed_by k m) (file_after true (left_by k m) m.future)) (past_ex k (advanced None (seen_by k m)))
-  future_next e = subst (λ n. IsFuture k n (file_after false (executed_by k m) (file_after true (left_by k m) m.future)) (past_ex k (advanced None (seen_by k m)))) retired_is (P.future_next k ready earlier m row inv is (no_stop e))
+  pub future_next : row.stop ≡ None → IsFuture k (retirements (row ∷ earlier)) (file_early (executed_by k m) (file_late (left_by k m) m.future)) (past_ex k (advanced None (seen_by k m)))
+  future_next e = subst (λ n. IsFuture k n (file_early (executed_by k m) (file_late (left_by k m) m.future)) (past_ex k (advanced None (seen_by k m)))) retired_is (P.file_next k ready earlier m row inv is (no_stop e)).0
+
+  pub wide_next : row.stop ≡ None → AreWide (tree_of k) (file_early (executed_by k m) (file_late (left_by k m) m.future))
+  wide_next e = (P.file_next k ready earlier m row inv is (no_stop e)).1
 
   pub serials_next : row.stop ≡ None → Serials (row ∷ earlier) (retirements (row ∷ earlier)) (advanced None (seen_by k m))
   serials_next e =

@@ -1,7 +1,6 @@
 -- Past EX the slots of a row are those from before it: what is flushed stands there nowhere. So the future file goes on.
-use Rattle.std.proofs.Common.{◌≡◌, ℕ, zero, suc, ◌+◌, ◌-◌, ◌<◌, ◌≤◌, List, [], ◌∷◌, drop, length, get_or, Option, Some, None, Bool, true, false, refl, sym, ap, ◌∙◌, subst, arith}
+use Rattle.std.proofs.Common.{◌≡◌, ℕ, zero, suc, ◌+◌, ◌-◌, ◌<◌, ◌≤◌, List, [], ◌∷◌, drop, length, Option, Some, None, Bool, true, false, refl, sym, ap, ◌∙◌, subst, arith}
 use Rattle.std.specs.Prelude.{if◌then◌else◌}
-use Rattle.rv_seq.specs.States.{zero_bit}
 use Rattle.rv_trace.specs.declared.row.Row.{Row}
 use Rattle.rv_trace.specs.Trace.{retirements}
 use Rattle.rv_holds.specs.declared.token.Token.{Token}
@@ -10,17 +9,17 @@ use Rattle.rv_holds.specs.Tokens.{Slots}
 use Rattle.rv_holds.specs.Holds.{is_late}
 use Rattle.rv_holds.specs.Flushing.{struck, cleared}
 use Rattle.rv_engine.specs.Settings.{Setting, Machine, shape_of}
-use Rattle.rv_engine.specs.Rows.{going, advanced, leaving, first_slot, loaded_by, turn_by, seen_by, left_by, executed_by, file_after, IsRowOf}
+use Rattle.rv_engine.specs.Rows.{going, advanced, leaving, first_slot, loaded_by, turn_by, seen_by, left_by, executed_by, file_early, file_late, IsRowOf}
 use Rattle.rv_machine.specs.Placed.{run, one_more, count, expected, past_ex, IsFuture, IsPlacedSlot, Placed, IsReady, Inv}
 use Rattle.rv_machine.specs.Told.{NoStops}
 use Rattle.rv_machine.proofs.Deciding.{settled_past}
 use Rattle.rv_machine.proofs.Reading.{Alike, alike_self}
 use Rattle.rv_machine.proofs.Going.{AreSeen, seen_tail, going_placed, free_ahead}
-use Rattle.rv_machine.proofs.Before.{Turning, turning, alike_trans, alike_drop, alike_settled}
+use Rattle.rv_machine.proofs.Before.{Turning, turning, alike_trans, alike_drop, alike_future}
 use Rattle.rv_machine.proofs.Clearing.{cleared_drop}
 use Rattle.rv_machine.proofs.Before as B
 use Rattle.rv_machine.proofs.Settling.{settles_parts, silent_at, seen_rest}
-use Rattle.rv_machine.proofs.Future.{future_advanced}
+use Rattle.rv_machine.proofs.Future.{IsFile, file_advanced}
 use Rattle.rv_machine.proofs.Telling.{placed_rest}
 use Rattle.rv_machine.proofs.Retiring as R
 
@@ -116,13 +115,11 @@ module _ (k : Setting) (ready : IsReady k) (earlier : List Row) (m : Machine) (r
       (alike_drop (n - (shape_of k).ex) (drop (suc (shape_of k).ex) m.slots) (drop (suc (shape_of k).ex) (seen_by k m)) past_alike))
 
   future_there : IsFuture k r m.future (drop (suc (shape_of k).ex) (seen_by k m))
-  future_there reg =
-      inv.future reg
-      ∙ ap (λ n. get_or (run k (r + n)).custom reg zero_bit) (sym (alike_settled reg (drop (suc (shape_of k).ex) m.slots) (drop (suc (shape_of k).ex) (seen_by k m)) past_alike))
+  future_there = alike_future k r m.future (drop (suc (shape_of k).ex) m.slots) (drop (suc (shape_of k).ex) (seen_by k m)) past_alike inv.future
 
-  -- the future file after the row
-  pub future_next : NoStops k 0 (seen_by k m) → IsFuture k (r + one_more (left_by k m) 0) (file_after false (executed_by k m) (file_after true (left_by k m) m.future)) (past_ex k (advanced None (seen_by k m)))
-  future_next none =
+  -- the future file after the row, with its widths
+  pub file_next : NoStops k 0 (seen_by k m) → IsFile k (r + one_more (left_by k m) 0) (file_early (executed_by k m) (file_late (left_by k m) m.future)) (past_ex k (advanced None (seen_by k m)))
+  file_next none =
       let l = seen_by k m in
       let n = (shape_of k).ex in
       let a = ready.ex_last in
@@ -138,11 +135,11 @@ module _ (k : Setting) (ready : IsReady k) (earlier : List Row) (m : Machine) (r
       let size = drop_length n l (omega (arith, long, a)) in
       let size' : n + length (at.0 ∷ at.1) ≡ length l = ap (λ (o : Slots). n + length o) (sym at.2) ∙ size in
       let leaves = subst (λ o. IsPlacedSlot k r (run k r).pc (shape_of k).stages [] o) out (R.left_placed k ready earlier m row inv is) in
-      let file = future_advanced k ready r (going at.0) at.1 m.future inv.future_wide (omega (arith, size', long, a)) rest.decided rest.stops (free_ahead k r n at.0 at.1 seen.decided seen.stops) rest.placed
+      let file = file_advanced k ready r (going at.0) at.1 m.future inv.future_wide (omega (arith, size', long, a)) rest.decided rest.stops (free_ahead k r n at.0 at.1 seen.decided seen.stops) rest.placed
       (going_placed k ready r n at.0 at.1 seen) leaves (subst (λ o. IsFuture k r m.future o) gone_is future_there) in
-      subst (λ o. IsFuture k (r + one_more (left_by k m) 0) (file_after false (executed_by k m) (file_after true (left_by k m) m.future)) o) (sym moved)
-      (subst (λ e. IsFuture k (r + one_more (left_by k m) 0) (file_after false e (file_after true (left_by k m) m.future)) (advanced (going at.0) at.1)) (sym runs)
-      (subst (λ e. IsFuture k (r + one_more e 0) (file_after false (going at.0) (file_after true e m.future)) (advanced (going at.0) at.1)) (sym out) file)) where
+      subst (λ o. IsFile k (r + one_more (left_by k m) 0) (file_early (executed_by k m) (file_late (left_by k m) m.future)) o) (sym moved)
+      (subst (λ e. IsFile k (r + one_more (left_by k m) 0) (file_early e (file_late (left_by k m) m.future)) (advanced (going at.0) at.1)) (sym runs)
+      (subst (λ e. IsFile k (r + one_more e 0) (file_early (going at.0) (file_late e m.future)) (advanced (going at.0) at.1)) (sym out) file)) where
         drop_rest : (n : ℕ) (l rest : Slots) (s : Option Token) → drop n l ≡ s ∷ rest → drop (suc n) l ≡ rest
         drop_rest zero [] rest s e = cc
         drop_rest zero (x ∷ l) rest s e = ap (λ (o : Slots). drop 1 o) e

@@ -20,7 +20,8 @@ use Rattle.rv_lawful.specs.Headline.{Headline}
 use Rattle.rv_lawful.specs.Sight.{EarlyLaw, ExactLaw, KeepsLaw, TailLaw, QuietLaw}
 use Rattle.rv_machine.specs.Running.{AreRows, machine_at}
 use Rattle.rv_machine.specs.Promises.{IsInOrder, RowsLaw, TextLaw}
-use Rattle.rv_machine.specs.Placed.{judged, Inv, IsReady}
+use Rattle.rv_tried.specs.Whole.{WholeLaw, WideLaw}
+use Rattle.rv_machine.specs.Placed.{judged, Inv, IsReady, AnswerLaw}
 use Rattle.rv_machine.proofs.Retiring as R
 use Rattle.rv_machine.proofs.First.{first}
 use Rattle.rv_machine.proofs.GoesOn.{goes_on}
@@ -35,6 +36,9 @@ pub record Sights : Type 0 where
   pub keeps : (d : Design) → Stands d → KeepsLaw d
   pub tails : (d : Design) → Stands d → TailLaw d
   pub quiet : (d : Design) → Stands d → first_spawning (view_extension d.extension) ≡ None → QuietLaw d
+  pub whole : WholeLaw
+  pub blocks_wide : WideLaw
+  pub answers : AnswerLaw
 
 -- so a design that stands is ready
 ready_of : Sights → (d : Design) (image waits : List ℕ) → IsInOrder d image → IsReady (setting d image waits)
@@ -56,6 +60,9 @@ ready_of sights d image waits h =
       keeps = sights.keeps d h.stands;
       tails = sights.tails d h.stands;
       quiet = sights.quiet d h.stands h.quiet;
+      whole = sights.whole;
+      blocks_wide = sights.blocks_wide;
+      answers = sights.answers;
       wide = λ p. run_wide formed.0 (view_extension d.extension) image p formed.1;
       words = λ p. (run_words (view_extension d.extension) image p).registers;
       pcs = λ p. (run_words (view_extension d.extension) image p).pc;

@@ -20,7 +20,9 @@ use Rattle.rv_seq.specs.States.{first as first_state}
 use Rattle.rv_seq.specs.Steps.{word_at, of_word, of_decoded, after, step}
 use Rattle.rv_seq.specs.Runs.{run as seq_run}
 use Rattle.rv_engine.specs.Settings.{Setting, tree_of}
+use Rattle.rv_tried.specs.declared.trial.Trial.{Trial}
 use Rattle.rv_tried.specs.Tried.{tried}
+use Rattle.rv_tried.specs.Whole.{IsWhole, AreBlocksWide}
 use Rattle.rv_lawful.specs.Settings.{does_access, word_accesses, state_trial, run_trial}
 use Rattle.rv_lawful.specs.Outstanding.{is_register}
 use Rattle.rv_lawful.specs.Sight.{asked, IsKept}
@@ -49,6 +51,22 @@ access_word k p word w = ap (λ o. word_accesses (tree_of k) (run k p) o) w
 -- and it comes to what the word is tried to with what the state shows of it
 pub trial_word : (k : Setting) (p word : ℕ) → word_at k.image (run k p).pc ≡ Some word → run_trial (tree_of k) k.image p ≡ tried (tree_of k) (state_at word (run k p)) (run k p).mem (decoded_in (tree_of k) word)
 trial_word k p word w = ap (λ o. state_trial (tree_of k) (run k p) o) w
+
+-- so it answers as the step does
+same_answer : (k : Setting) (ready : IsReady k) (p word : ℕ) → word_at k.image (run k p).pc ≡ Some word → (tried (tree_of k) (state_at word (run k p)) (run k p).mem (decoded_in (tree_of k) word)).answer ≡ answer k p
+same_answer k ready p word w = ready.answers (tree_of k) k.image (run k p) word w
+
+-- the parts of its record are the whole of it
+pub whole_word : (k : Setting) (ready : IsReady k) (p word : ℕ) (c : Commit) (reg : ℕ) → word_at k.image (run k p).pc ≡ Some word → answer k p ≡ Done c → reg < 16 → IsWhole ((judged k).course.own p) ((judged k).course.blocks p) c reg
+whole_word k ready p word c reg w h lt =
+    subst (λ (u : Trial). IsWhole u.own u.blocks c reg) (sym (trial_word k p word w))
+    (ready.whole (tree_of k) (state_at word (run k p)) (run k p).mem (decoded_in (tree_of k) word) c (same_answer k ready p word w ∙ h) reg lt)
+
+-- and what the blocks write has its widths
+pub blocks_word : (k : Setting) (ready : IsReady k) (p word : ℕ) → word_at k.image (run k p).pc ≡ Some word → AreBlocksWide (tree_of k) ((judged k).course.blocks p)
+blocks_word k ready p word w =
+    subst (λ (u : Trial). AreBlocksWide (tree_of k) u.blocks) (sym (trial_word k p word w))
+    (ready.blocks_wide (tree_of k) (state_at word (run k p)) (run k p).mem (decoded_in (tree_of k) word))
 
 -- what its record leaves as it is
 pub kept_word : (k : Setting) (ready : IsReady k) (p word : ℕ) (c : Commit) → word_at k.image (run k p).pc ≡ Some word → answer k p ≡ Done c → IsKept (asked k.design word) (run k p) word c

@@ -1,6 +1,6 @@
 -- The token of EX is tried when it waits for no register and no pc: it comes to what the run comes to at its place.
 use Rattle.std.proofs.Common.{◌≡◌, ℕ, zero, suc, ◌+◌, ◌<◌, ◌≤◌, List, [], ◌∷◌, drop, get_or, Option, Some, None, Bool, true, false, refl, sym, ap, ◌∙◌, subst, arith, add-zero}
-use Rattle.std.specs.Prelude.{if◌then◌else◌, ◌==◌, ◌&&◌, is_some, is_none, slice_index}
+use Rattle.std.specs.Prelude.{if◌then◌else◌, ◌==◌, ◌&&◌, is_none, slice_index}
 use Rattle.std.proofs.lemmas.Bool.Decides.{nat_tests}
 use Rattle.ix_bits.specs.declared.number.Bits.{Bits}
 use Rattle.ix_mean.specs.declared.evaluate.State.{State}
@@ -11,16 +11,20 @@ use Rattle.rv_effect.specs.WordEffects.{AreWide}
 use Rattle.rv_trace.specs.declared.row.Hold.{Hold}
 use Rattle.rv_seq.specs.Steps.{word_at}
 use Rattle.rv_seq.specs.States.{zero_bit}
+use Rattle.rv_seq.specs.declared.answer.StepAnswer.{StepAnswer}
+use Rattle.rv_seq.specs.declared.answer.StepAnswer.TheVariants.{Done, Stopped}
+use Rattle.rv_seq.specs.declared.commit.Slot.TheVariants.{Absent}
+use Rattle.rv_seq.specs.Commits.{with_slot}
 use Rattle.rv_asks.specs.declared.asks.Asks.{Asks}
 use Rattle.rv_tried.specs.declared.trial.Trial.{Trial}
 use Rattle.rv_tried.specs.Tried.{tried}
 use Rattle.rv_holds.specs.declared.token.Token.{Token}
-use Rattle.rv_holds.specs.Tokens.{Slots}
+use Rattle.rv_holds.specs.Tokens.{Slots, or_else}
 use Rattle.rv_holds.specs.Holds.{oldest, is_late, writes_late, custom, waits_for_custom, first_from, custom_hold, late, late_hold, waiting_hold}
 use Rattle.rv_engine.specs.Settings.{Setting, shape_of, tree_of}
 use Rattle.rv_engine.specs.Rows.{tried_with, seeing, is_ripe, trying}
 use Rattle.rv_lawful.specs.Sight.{asked, IsSeen, IsEarly, AreWords}
-use Rattle.rv_machine.specs.Placed.{run, count, expected, settled_before, IsFuture, IsTried, IsExact, IsPlaced, IsPlacedSlot, Placed, IsReady}
+use Rattle.rv_machine.specs.Placed.{judged, run, count, expected, late_in_answer, paid_late, IsFuture, IsTried, IsExact, IsPlaced, IsPlacedSlot, Placed, IsReady}
 use Rattle.rv_machine.proofs.Deciding.{or_else_none, or_else_none_b, test_eq, waits_operand, waits_custom, waits_late, address_of_run}
 use Rattle.rv_machine.proofs.Asking.{used_few}
 use Rattle.rv_machine.proofs.Runs.{answer, step_word, access_word, trial_word}
@@ -86,10 +90,24 @@ custom_clear older a r lt h u = by_case (get_or a.customs r false) u (sym (ap (w
 pub late_clear : (older : Slots) → late_hold older ≡ None → oldest is_late older ≡ None
 late_clear older h = late_none (oldest is_late older) h
 
--- where none writes it late, the future file has the writes of all
-pub all_settled : (reg : ℕ) (gone : Slots) → oldest (writes_late reg) gone ≡ None → settled_before reg gone ≡ count gone
-all_settled reg [] h = refl
-all_settled reg (s ∷ older) h = ap (λ (o : Option ℕ). if is_some o then settled_before reg older else count (s ∷ older)) h
+-- who does not write a register late owes it nothing
+pub not_late : (a : Asks) (own : List Bool) (reg : ℕ) (y : StepAnswer) → get_or a.late_customs reg false ≡ false → late_in_answer a own reg y ≡ Absent
+not_late a own reg (Done c) h = ap (λ (b : Bool). if b && get_or own reg false then get_or c.custom reg Absent else Absent) h
+not_late a own reg (Stopped stop) h = refl
+
+last_none : (o : Option ℕ) (b : Bool) (n : ℕ) → or_else o (if b then Some n else None) ≡ None → (o ≡ None) × (b ≡ false)
+last_none None true n h = cc
+last_none None false n h = (refl, refl)
+last_none (Some m) b n h = cc
+
+-- where none writes it late, nothing is owed to it
+pub none_owes : (k : Setting) (r reg : ℕ) (gone : Slots) (v : Bits) → oldest (writes_late reg) gone ≡ None → paid_late k r reg gone v ≡ v
+none_owes k r reg [] v h = refl
+none_owes k r reg (None ∷ older) v h = none_owes k r reg older v h
+none_owes k r reg (Some t ∷ older) v h =
+    let e = last_none (oldest (writes_late reg) older) (writes_late reg t) t.cell.serial h in
+    ap (λ s. with_slot (paid_late k r reg older v) s) (not_late t.asks ((judged k).course.own (r + count older)) reg ((judged k).course.answer (r + count older)) e.1)
+    ∙ none_owes k r reg older v e.0
 
 past_rd : (stage rd ex : ℕ) → (stage == rd) ≡ false → rd ≤ ex → stage ≡ ex → rd < stage
 past_rd stage rd ex h le e = grind (arith, nat_tests)
@@ -140,7 +158,9 @@ module _ (k : Setting) (ready : IsReady k) (r stage : ℕ) (older : Slots) (t : 
         ∙ ap (λ n. slice_index (run k (r + count older)).x n) (sym e)
 
   customs_are : (reg : ℕ) → get_or t.asks.customs reg false ≡ true → get_or future reg zero_bit ≡ get_or (run k (r + count older)).custom reg zero_bit
-  customs_are reg u = file reg ∙ ap (λ n. get_or (run k (r + n)).custom reg zero_bit) (all_settled reg older (no_custom reg u))
+  customs_are reg u =
+      let lt = used_few k.design t.cell.word reg (sym (ap (λ (a : Asks). get_or a.customs reg false) here.asks) ∙ u) in
+      sym (none_owes k r reg older (get_or future reg zero_bit) (no_custom reg u)) ∙ file reg lt
 
   words_are : AreWords (seeing future t.inputs)
   words_are = let w = here.words in record { word = w.word; rs1 = w.rs1; rs2 = w.rs2; pc = w.pc }

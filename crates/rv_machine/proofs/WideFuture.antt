@@ -1,24 +1,16 @@
--- The future file after a row has the widths of the custom registers: each of its registers is one of the run's.
-use Rattle.std.proofs.Common.{◌≡◌, ℕ, zero, suc, ◌+◌, ◌<◌, ◌≤◌, List, [], ◌∷◌, length, get_or, Option, Some, None, Bool, true, false, refl, sym, ap, ◌∙◌, subst, arith, inl, inr}
-use Rattle.std.specs.Prelude.{slice_get, IfSome, if◌then◌else◌}
+-- Files of sixteen custom registers that have their widths, register by register.
+use Rattle.std.proofs.Common.{◌≡◌, ℕ, zero, suc, ◌<◌, ◌≤◌, List, [], ◌∷◌, length, get_or, Some, None, refl, sym, ap, ◌∙◌, subst, arith, inl, inr}
+use Rattle.std.specs.Prelude.{slice_get, IfSome}
 use Rattle.std.proofs.lemmas.Bool.{cases_lt}
 use Rattle.ix_bits.specs.declared.number.Bits.{Bits}
 use Rattle.ix_eval.specs.Evaluated.{type_of_custom}
-use Rattle.ix_eval.proofs.Tables.{table_length}
-use Rattle.rv_asks.specs.declared.asks.Asks.{Asks}
+use Rattle.ix_extension.specs.Extensions.{ExtensionTree}
 use Rattle.rv_effect.specs.WordEffects.{AreWide}
-use Rattle.rv_seq.specs.declared.commit.Commit.{Commit}
-use Rattle.rv_seq.specs.declared.commit.Slot.TheVariants.{Absent}
-use Rattle.rv_seq.specs.States.{zero_bit}
+use Rattle.rv_seq.specs.declared.commit.Slot.{Slot}
+use Rattle.rv_seq.specs.declared.commit.Slot.TheVariants.{Absent, Now, Later}
 use Rattle.rv_seq.specs.Commits.{with_slot}
-use Rattle.rv_trace.specs.declared.row.Row.{Row}
-use Rattle.rv_trace.specs.Trace.{retirements}
-use Rattle.rv_holds.specs.declared.token.Token.{Token}
-use Rattle.rv_holds.specs.Tokens.{commit_of}
-use Rattle.rv_engine.specs.Settings.{Setting, Machine, tree_of}
-use Rattle.rv_engine.specs.Rows.{counts, with_writes, file_after, executed_by, left_by, seen_by, advanced, IsRowOf, machine_after}
-use Rattle.rv_machine.specs.Placed.{run, past_ex, settled_before, IsReady, Inv}
-use Rattle.rv_machine.proofs.NextRow.{future_next}
+use Rattle.rv_seq.specs.Sound.{IsNowWide}
+use Rattle.rv_seq.specs.States.{zero_bit}
 
 -- an element within the list is what there is
 get_here : (xs : List Bits) (r : ℕ) → r < length xs → slice_get xs r ≡ Some (get_or xs r zero_bit)
@@ -31,30 +23,29 @@ get_past [] r le = refl
 get_past (x ∷ xs) zero le = absurd (omega (arith, le))
 get_past (x ∷ xs) (suc r) le = get_past xs r (omega (arith, le))
 
-writes_length : (b : Bool) (a : Asks) (o : Option Commit) (file : List Bits) → length file ≡ 16 → length (with_writes b a o file) ≡ 16
-writes_length b a None file e = e
-writes_length b a (Some c) file e = table_length (λ r. if counts b (get_or a.late_customs r false) then with_slot (get_or file r zero_bit) (get_or c.custom r Absent) else get_or file r zero_bit) 16
+-- each of the sixteen has its width
+pub wide_at : (x : ExtensionTree) (file : List Bits) (r : ℕ) → AreWide x file → r < 16 → (get_or file r zero_bit).width ≡ (type_of_custom x r).width
+wide_at x file r h lt =
+    let n = h.count in
+    subst (λ o. IfSome o (λ b. b.width ≡ (type_of_custom x r).width)) (get_here file r (omega (arith, n, lt))) (h.widths r)
 
-file_length : (b : Bool) (s : Option Token) (file : List Bits) → length file ≡ 16 → length (file_after b s file) ≡ 16
-file_length b None file e = e
-file_length b (Some t) file e = writes_length b t.asks (commit_of t) file e
-
--- a file of sixteen registers of the run is wide
-wide_of : (k : Setting) (ready : IsReady k) (file : List Bits) → length file ≡ 16 → ((reg : ℕ) → (p : ℕ) × (get_or file reg zero_bit ≡ get_or (run k p).custom reg zero_bit)) → AreWide (tree_of k) file
-wide_of k ready file long each = record { count = long; widths = widths } where
-  widths : (r : ℕ) → IfSome (slice_get file r) (λ b. b.width ≡ (type_of_custom (tree_of k) r).width)
+-- a file in which it has is wide
+pub wide_of : (x : ExtensionTree) (file : List Bits) → length file ≡ 16 → ((r : ℕ) → r < 16 → (get_or file r zero_bit).width ≡ (type_of_custom x r).width) → AreWide x file
+wide_of x file long each = record { count = long; widths = widths } where
+  widths : (r : ℕ) → IfSome (slice_get file r) (λ b. b.width ≡ (type_of_custom x r).width)
   widths r = elim (cases_lt r 16) [
-    | inl lt ↦
-        let x = each r in
-        let w = ready.wide x.0 in
-        let here = subst (λ o. IfSome o (λ b. b.width ≡ (type_of_custom (tree_of k) r).width)) (get_here (run k x.0).custom r (let c = w.count in omega (arith, c, lt))) (w.widths r) in
-        subst (λ o. IfSome o (λ b. b.width ≡ (type_of_custom (tree_of k) r).width)) (sym (get_here file r (omega (arith, long, lt))))
-        (ap (λ (b : Bits). b.width) x.1 ∙ here)
-    | inr le ↦ subst (λ o. IfSome o (λ b. b.width ≡ (type_of_custom (tree_of k) r).width)) (sym (get_past file r (omega (arith, long, le)))) tt
+    | inl lt ↦ subst (λ o. IfSome o (λ b. b.width ≡ (type_of_custom x r).width)) (sym (get_here file r (omega (arith, long, lt)))) (each r lt)
+    | inr le ↦ subst (λ o. IfSome o (λ b. b.width ≡ (type_of_custom x r).width)) (sym (get_past file r (omega (arith, long, le)))) tt
   ]
 
-pub wide_future : (k : Setting) (ready : IsReady k) (earlier : List Row) (m : Machine) (row : Row) → Inv k earlier m → IsRowOf k m row → row.stop ≡ None → AreWide (tree_of k) (machine_after k m).future
-wide_future k ready earlier m row inv is e =
-    let long = inv.future_wide.count in
-    wide_of k ready (machine_after k m).future (file_length false (executed_by k m) (file_after true (left_by k m) m.future) (file_length true (left_by k m) m.future long))
-    (λ reg. (retirements (row ∷ earlier) + settled_before reg (past_ex k (advanced None (seen_by k m))), future_next k ready earlier m row inv is e reg))
+-- a write of a width
+pub slot_wide : (v : Bits) (s : Slot Bits) (n : ℕ) → v.width ≡ n → IsNowWide n s → (with_slot v s).width ≡ n
+slot_wide v Absent n h w = h
+slot_wide v (Now b) n h w = w
+slot_wide v Later n h w = h
+
+-- what makes a value of a width is of that width
+pub now_wide : (v u : Bits) (s : Slot Bits) (n : ℕ) → u ≡ with_slot v s → u.width ≡ n → IsNowWide n s
+now_wide v u Absent n e w = tt
+now_wide v u (Now b) n e w = ap (λ (x : Bits). x.width) (sym e) ∙ w
+now_wide v u Later n e w = tt

@@ -1,23 +1,32 @@
 -- Where the tokens of a pipeline with an extension stand in the sequential run, and what ties its machine to the rows before (this project's choice).
-use Rattle.std.specs.Prelude.{◌≡◌, ℕ, zero, suc, ◌+◌, ◌-◌, ◌%◌, ◌^◌, ◌<◌, ◌≤◌, List, [], ◌∷◌, drop, length, get_or, Option, Some, None, Bool, true, false, if◌then◌else◌, ◌==◌, is_some, nat_lt, slice_get, slice_index}
+use Rattle.std.specs.Prelude.{◌≡◌, ℕ, zero, suc, ◌+◌, ◌-◌, ◌%◌, ◌^◌, ◌<◌, ◌≤◌, List, [], ◌∷◌, drop, length, get_or, Option, Some, None, Bool, true, false, if◌then◌else◌, ◌==◌, nat_lt, slice_get, slice_index}
 use Rattle.ix_bits.specs.declared.number.Bits.{Bits}
+use Rattle.ix_extension.specs.Extensions.{ExtensionTree}
 use Rattle.rv_core.specs.declared.Shape.{Shape}
 use Rattle.rv_isa.specs.Fields.{rs1_of, rs2_of}
 use Rattle.rv_effect.specs.Decoding.{decoded_in}
 use Rattle.rv_seq.specs.declared.arch.Arch.{Arch}
-use Rattle.rv_seq.specs.States.{zero_bit}
-use Rattle.rv_seq.specs.Steps.{word_at}
+use Rattle.rv_seq.specs.declared.answer.StepAnswer.{StepAnswer}
+use Rattle.rv_seq.specs.declared.answer.StepAnswer.TheVariants.{Done, Stopped}
+use Rattle.rv_seq.specs.declared.commit.Slot.{Slot}
+use Rattle.rv_seq.specs.declared.commit.Slot.TheVariants.{Absent}
+use Rattle.rv_seq.specs.Commits.{with_slot}
+use Rattle.rv_seq.specs.States.{zero_bit, state_at}
+use Rattle.rv_asks.specs.declared.asks.Asks.{Asks}
+use Rattle.rv_seq.specs.Steps.{word_at, step}
 use Rattle.rv_seq.specs.Runs as Runs
 use Rattle.rv_trace.specs.declared.row.Row.{Row}
 use Rattle.rv_trace.specs.Trace.{newest, place, is_flushed, is_retired, retirements, rows_without}
 use Rattle.rv_trace.specs.RowParts.{MovesInto, names_of, serial_after}
 use Rattle.rv_tried.specs.declared.trial.Trial.{Trial}
+use Rattle.rv_tried.specs.Tried.{tried}
+use Rattle.rv_tried.specs.Whole.{WholeLaw, WideLaw}
 use Rattle.rv_waits.specs.Waits.{greatest}
 use Rattle.rv_holds.specs.declared.token.Token.{Token}
 use Rattle.rv_holds.specs.Tokens.{Slots, cell_of, cells_of, stop_in}
 use Rattle.rv_holds.specs.Holds.{oldest, is_late, writes_late}
 use Rattle.rv_engine.specs.Settings.{Setting, Machine, shape_of, tree_of}
-use Rattle.rv_engine.specs.Rows.{first_slot, owed_by}
+use Rattle.rv_engine.specs.Rows.{late_write, first_slot, owed_by}
 use Rattle.rv_lawful.specs.Settings as Lawful
 use Rattle.rv_lawful.specs.Outstanding.{architecture}
 use Rattle.rv_lawful.specs.LawfulTrace.{fetch_address, next_serial, IsWordOf}
@@ -31,6 +40,10 @@ judged k = Lawful.setting k.design k.image k.waits
 -- the state after so many steps of the run
 abbrev pub run : Setting → ℕ → Arch
 run k p = Runs.run (tree_of k) k.image p
+
+-- a word that is tried with what its instruction sees of a state answers as the step of that state
+abbrev pub AnswerLaw : Type 0
+AnswerLaw = (x : ExtensionTree) (image : List ℕ) (s : Arch) (word : ℕ) → word_at image s.pc ≡ Some word → (tried x (state_at word s) s.mem (decoded_in x word)).answer ≡ step x image s
 
 -- what a core and its extension have to keep: the numbers of the stages, and that words come to what the run's steps come to
 pub record IsReady (k : Setting) : Type 0 where
@@ -46,6 +59,9 @@ pub record IsReady (k : Setting) : Type 0 where
   pub keeps : KeepsLaw k.design
   pub tails : TailLaw k.design
   pub quiet : QuietLaw k.design
+  pub whole : WholeLaw
+  pub blocks_wide : WideLaw
+  pub answers : AnswerLaw
   pub wide : (p : ℕ) → AreWide (tree_of k) (run k p).custom
   pub words : (p : ℕ) → HasWords (run k p)
   pub pcs : (p : ℕ) → (run k p).pc < 2 ^ 32
@@ -142,14 +158,24 @@ tail (s ∷ older) = older
 abbrev pub past_ex : Setting → Slots → Slots
 past_ex k slots = drop (suc (shape_of k).ex) slots
 
--- the tokens past EX whose writes of a custom register the future file has: all, or those older than the one that writes it late
-abbrev pub settled_before : ℕ → Slots → ℕ
-settled_before reg [] = 0
-settled_before reg (s ∷ older) = if is_some (oldest (writes_late reg) (s ∷ older)) then settled_before reg older else count (s ∷ older)
+-- what a step with this answer, which itself writes these custom registers, writes late to one of them; a stop writes nothing
+abbrev pub late_in_answer : Asks → List Bool → ℕ → StepAnswer → Slot Bits
+late_in_answer a own reg (Done c) = late_write a own c reg
+late_in_answer a own reg (Stopped stop) = Absent
 
--- the future file has each custom register as the run has it behind these
+-- what the step of a place owes a custom register: its late write
+abbrev pub owed_write : Setting → Asks → ℕ → ℕ → Slot Bits
+owed_write k a p reg = late_in_answer a ((judged k).course.own p) reg ((judged k).course.answer p)
+
+-- a custom register with what the tokens past EX still owe it, the oldest first
+abbrev pub paid_late : Setting → ℕ → ℕ → Slots → Bits → Bits
+paid_late k r reg [] v = v
+paid_late k r reg (None ∷ older) v = paid_late k r reg older v
+paid_late k r reg (Some t ∷ older) v = with_slot (paid_late k r reg older v) (owed_write k t.asks (r + count older) reg)
+
+-- with what is owed the future file has each custom register as the run has it behind these
 abbrev pub IsFuture : Setting → ℕ → List Bits → Slots → Type 0
-IsFuture k r future gone = (reg : ℕ) → get_or future reg zero_bit ≡ get_or (run k (r + settled_before reg gone)).custom reg zero_bit
+IsFuture k r future gone = (reg : ℕ) → reg < 16 → paid_late k r reg gone (get_or future reg zero_bit) ≡ get_or (run k (r + count gone)).custom reg zero_bit
 
 -- the rows for which a token of this stage may still wait for the memory: the most before MEM, so many at MEM, none behind it
 abbrev pub may_wait : Shape → ℕ → ℕ → ℕ → ℕ

@@ -9,7 +9,9 @@ ghost use Rattle.rv_seq.specs.Runs.{access_in};
 ghost use Rattle.rv_seq.specs.Sound.{IsSound};
 ghost use Rattle.rv_seq.specs.declared.answer.StepAnswer.TheVariants.{Stopped};
 ghost use Rattle.rv_tried.specs.Tried.{tried, tried_instruction, marked as specified_marked, no_customs};
+ghost use Rattle.rv_tried.specs.Whole.{AreBlocksWide};
 
+use crate::laws::trial_laws;
 use ix_bits::Bits;
 use ix_eval::{Effect, Inputs, Scratch};
 use ix_tree::Extension;
@@ -113,7 +115,9 @@ pub fn try_word(
     ensures scratch { IsScratchOf (view_extension ext.now) scratch.new }
     ensures trial { result ≡ tried (view_extension ext.now) inputs.now memory.now decoded }
     ensures sound { IsSound (view_extension ext.now) result.answer }
+    ensures wide { AreBlocksWide (view_extension ext.now) result.blocks }
 {
+    trial_laws();
     match decoded {
         Some(decoded) => try_instruction(ext, decoded, inputs, memory, scratch),
         None => stopped(Stop::Illegal),

@@ -1,5 +1,5 @@
 use Rattle.std.proofs.Common.{◌<◌, sym, subst, length, get_or, List, Option, ℕ, arith}
-use Rattle.std.specs.Prelude.{false, true, None}
+use Rattle.std.specs.Prelude.{None}
 use Rattle.ix_bits.specs.declared.number.Bits.{Bits}
 use Rattle.ix_extension.specs.Extensions.{view_extension}
 use Rattle.rv_effect.specs.WordEffects.{AreWide}
@@ -10,7 +10,7 @@ use Rattle.rv_holds.specs.Flushing.{turn_of, struck}
 use Rattle.rv_engine.specs.Rows.{going}
 use Rattle.rv_engine.specs.Kept.{AreFitting, IsFittingSlot, AreStoredInside}
 use Rattle.rv_engine.proofs.Fitting.{cleared_fitting, advanced_fitting, left_fitting, element_fitting, going_fitting, stored_inside}
-use Rattle.rv_engine.proofs.Widths.{file_wide}
+use Rattle.rv_engine.proofs.Widths.{early_file_wide, late_file_wide}
 use Rattle.rv_engine.proofs.engine.row_of.Goals as goal
 
 pub retire-requires : goal.retire-requires
@@ -35,10 +35,10 @@ returns-clause-future c =
     let there = get_or c.flush-shown.new.slots c.from.result c.index-slots-from.result in
     let executing : IsFittingSlot x there =
     subst (λ (s : Option Token). IsFittingSlot x s) c.index-slots-from.is (element_fitting x c.flush-shown.new.slots c.from.result c.index-slots-from.result seen inside c.index-slots-from.is) in
-    let late : AreWide x c.put_writes.new.file =
-    subst (λ (file : List Bits). AreWide x file) (sym c.put_writes.ensures) (file_wide x true (going c.last-2.result.now) c.args.future.now left c.requires.future) in
-    subst (λ (file : List Bits). AreWide x file) (sym c.put_writes-2.ensures)
-    (file_wide x false (going there) c.put_writes.new.file (going_fitting x there executing) late)
+    let late : AreWide x c.put_late.new.file =
+    subst (λ (file : List Bits). AreWide x file) (sym c.put_late.ensures) (late_file_wide x (going c.last-2.result.now) c.args.future.now left c.requires.future) in
+    subst (λ (file : List Bits). AreWide x file) (sym c.put_early.ensures)
+    (early_file_wide x (going there) c.put_late.new.file (going_fitting x there executing) late)
 
 pub returns-clause-fitting : goal.returns-clause-fitting
 returns-clause-fitting c =

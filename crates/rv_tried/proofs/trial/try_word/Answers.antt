@@ -1,0 +1,12 @@
+use Rattle.std.proofs.Common.{sym, subst, Some}
+use Rattle.ix_extension.specs.Extensions.{view_extension}
+use Rattle.rv_tried.specs.declared.trial.Trial.{Trial}
+use Rattle.rv_tried.specs.Tried.{tried}
+use Rattle.rv_tried.specs.Whole.{AreBlocksWide}
+use Rattle.rv_tried.proofs.trial.try_word.Goals as goal
+
+pub returns-in-Some-clause-wide : goal.returns-in-Some-clause-wide
+unfolding tried
+returns-in-Some-clause-wide c =
+    let x = view_extension c.args.ext.now in
+    subst (λ (t : Trial). AreBlocksWide x t.blocks) (sym c.try_instruction.ensures.trial) (c.trial_laws.ensures.wide x c.args.inputs.now c.args.memory.now (Some c.in-Some.decoded))
