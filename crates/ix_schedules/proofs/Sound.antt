@@ -75,6 +75,13 @@ one_sound sheet b s = All-cons (IsSound sheet.weighted sheet.period) b [] s (All
 pub alone_in_form : (sheet : Sheet) (b : ReportBlock) → IsValidSheet sheet → IsSound sheet.weighted sheet.period b → IsInForm (alone sheet b)
 alone_in_form sheet b good s = report_form sheet (alone sheet b) good refl refl (one_sound sheet b s)
 
+pub alone_faultless : (sheet : Sheet) (b : ReportBlock) (text : List ℕ) → IsSound sheet.weighted sheet.period b → IsReportText text (alone sheet b) → IsFaultless text
+alone_faultless sheet b text s t = record {
+  report = alone sheet b;
+  text = t;
+  faultless = no_fault_from sheet.weighted sheet.period (b ∷ []) (first_line (lines_of text) + 2) (one_sound sheet b s);
+}
+
 -- ---- behind a line of a refusal
 no_feed_byte : (b : ℕ) → nat_lt 10 b ≡ true → (b == 10) ≡ false
 no_feed_byte b e = grind (arith, nat_tests)

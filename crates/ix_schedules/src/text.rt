@@ -47,9 +47,9 @@ fn put(out: &mut Vec<u8>, text: &[u8]) -> Result<(), Memory>
     }
 }
 
-// The line of a behaviour that has too many operations.
+/// The line of a behaviour that has too many operations.
 #[tactic(auto, unfolding(crate::specs::ScheduleText::too_many_line))]
-fn too_many(alloc: Global, name: &str) -> Result<List<u8>, Memory>
+pub fn too_many_text(alloc: Global, name: &str) -> Result<List<u8>, Memory>
     ensures { IfOk result (λ text. text ≡ too_many_line name.now ++ 10 ∷ []) }
 {
     let mut out = Vec::new(alloc);
@@ -72,8 +72,8 @@ fn no_schedule(alloc: Global, name: &str, report: &[u8]) -> Result<List<u8>, Mem
     Ok(List::from_vec(out))
 }
 
-// The report of one behaviour alone.
-fn report_alone(alloc: Global, sheet: &Sheet, block: ReportBlock) -> Result<Report, Memory>
+/// The report of one behaviour alone.
+pub fn report_alone(alloc: Global, sheet: &Sheet, block: ReportBlock) -> Result<Report, Memory>
     ensures { IfOk result (λ report. report ≡ alone sheet.now block) }
 {
     let mut blocks = List::new(alloc);
@@ -106,7 +106,7 @@ pub fn refusal_text(alloc: Global, ext: &Extension, sheet: &Sheet, error: Schedu
     ensures { IsRefusedText (view_extension ext.now) sheet.now result }
 {
     match error {
-        ScheduleErr::TooManyOps(name) => match too_many(alloc, name.as_str()) {
+        ScheduleErr::TooManyOps(name) => match too_many_text(alloc, name.as_str()) {
             Ok(line) => TextErr::TooManyOps(line),
             Err(_) => TextErr::Memory,
         },

@@ -8,7 +8,7 @@ use Rattle.ix_sheet.specs.declared.sheet.Sheet.{Sheet}
 use Rattle.ix_sheet.specs.Behaviours.{problem_of, IsWidestModeOf}
 use Rattle.ix_sheet.specs.Bounds.{IsContradiction}
 use Rattle.ix_sheet.specs.Schedules.{HasSchedule}
-use Rattle.ix_modes.specs.Modes.{IsScheduled, IsUnschedulable, IsWithout}
+use Rattle.ix_modes.specs.Modes.{IsScheduled, FitsWidest, IsUnschedulable, IsWithout}
 use Rattle.ix_sweep.specs.declared.answer.Entry.{Entry}
 
 -- the sheet with this period in place of its own
@@ -46,10 +46,11 @@ abbrev pub periods_of : Option ℕ → List ℕ
 periods_of None = []
 periods_of (Some p) = allowed (p ∷ 2 * p ∷ 4 * p ∷ [])
 
--- a period of a sheet, with which the behaviour has this mode and schedule
+-- a period of a sheet, with which the behaviour fits and has this mode and schedule
 pub record IsEntry (g : Graph) (sheet : Sheet) (block : Bool) (entry : Entry) : Type 0 where
   pub some : 1 ≤ entry.period
   pub most : entry.period ≤ 1000000
+  pub fits : FitsWidest g (at_period sheet entry.period) block
   pub scheduled : IsScheduled g (at_period sheet entry.period) block entry.scheduled
 
 -- one entry for each of these periods, in order

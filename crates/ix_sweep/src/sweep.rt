@@ -147,7 +147,8 @@ fn found(
 
 /// The least period with which a behaviour, which may be a block, has a legal schedule in the widest windows that it may have; its schedules
 /// with this period, twice and four times as much; and a contradiction with one less. The datasheet's own period changes nothing. Only
-/// longest walks decide which periods fit: 22 periods at most are tried.
+/// longest walks decide which periods fit: 21 at most are tested, the greatest first and then 20 by halves. One less than the least is gone
+/// through once more, for its contradiction.
 pub fn least(alloc: Global, graph: &Graph, sheet: &Sheet, block: bool) -> Result<Least, Memory>
     requires graph { IsValidGraph graph.now }
     requires sheet { IsValidSheet sheet.now }
