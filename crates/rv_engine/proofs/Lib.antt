@@ -3,3 +3,5 @@ pub mod Placing
 pub mod Widths
 pub mod Starting
 pub mod Going
+pub mod Owings
+pub mod Opening

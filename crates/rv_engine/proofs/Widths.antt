@@ -1,11 +1,18 @@
 -- Widths of the registers of the future file.
-use Rattle.std.proofs.Common.{◌≡◌, ℕ, zero, suc, ◌<◌, List, [], ◌∷◌, get_or, length, Option, Some, None, Bool, true, false, arith}
+use Rattle.std.proofs.Common.{◌≡◌, ℕ, zero, suc, ◌<◌, ◌≤◌, List, [], ◌∷◌, ◌++◌, get_or, length, Option, Some, None, Bool, true, false, refl, sym, subst, arith, inl, inr}
 use Rattle.std.specs.Prelude.{slice_get, IfSome, if◌then◌else◌, ◌&&◌}
+use Rattle.std.proofs.lemmas.Bool.{cases_lt}
+use Rattle.ix_plan.specs.declared.design.Design.{Design}
+use Rattle.rv_unit.specs.declared.entry.Entry.{Entry}
+use Rattle.rv_unit.specs.Entries.{does_write}
+use Rattle.rv_tried.specs.Parts.{spawned}
+use Rattle.rv_engine.specs.declared.owing.Owed.{Owed}
+use Rattle.rv_engine.specs.Owing.{Outstanding, paying_among, unpaid_among, unpaid, owed_by_entering, owed_after}
 use Rattle.ix_bits.specs.declared.number.Bits.{Bits}
-use Rattle.ix_extension.specs.Extensions.{ExtensionTree}
+use Rattle.ix_extension.specs.Extensions.{ExtensionTree, view_extension}
 use Rattle.ix_eval.specs.Tables.{table}
 use Rattle.ix_eval.specs.Evaluated.{type_of_custom}
-use Rattle.ix_eval.proofs.Tables.{table_length}
+use Rattle.ix_eval.proofs.Tables.{table_length, table_at}
 use Rattle.rv_effect.specs.WordEffects.{AreWide}
 use Rattle.rv_seq.specs.declared.commit.Slot.{Slot}
 use Rattle.rv_seq.specs.declared.commit.Slot.TheVariants.{Absent, Now, Later}
@@ -18,8 +25,8 @@ use Rattle.rv_asks.specs.declared.asks.Asks.{Asks}
 use Rattle.rv_holds.specs.declared.token.Token.{Token}
 use Rattle.rv_tried.specs.declared.trial.Trial.{Trial}
 use Rattle.rv_tried.specs.Whole.{AreBlocksWide}
-use Rattle.rv_engine.specs.Rows.{is_pending, early_write, late_write, with_writes, early_after, late_after, trial_early, trial_late, file_early, file_late}
-use Rattle.rv_engine.specs.Kept.{IsSoundTrial, IsFittingSlot}
+use Rattle.rv_engine.specs.Rows.{is_pending, early_write, late_write, with_writes, early_after, late_after, trial_early, trial_late, file_early, file_late, file_paid, owed_in, owed_tried, into_unit, entering_of}
+use Rattle.rv_engine.specs.Kept.{IsSoundTrial, IsFittingSlot, IsWideOwed, AreWideOwed}
 
 table_get : {A : Type 0} (P : ℕ → A → Type 0) (f : ℕ → A) (n : ℕ) → ((r : ℕ) → r < n → P r (f r)) → (r : ℕ) → IfSome (slice_get (table f n) r) (P r)
 table_get P f zero h r = tt
@@ -71,10 +78,75 @@ trial_late_wide : (x : ExtensionTree) (a : Asks) (o : Option Trial) (file : List
 trial_late_wide x a None file s h = h
 trial_late_wide x a (Some trial) file s h = late_wide x a trial.own trial.answer file s.0 h
 
-pub early_file_wide : (x : ExtensionTree) (s : Option Token) (file : List Bits) → IsFittingSlot x s → AreWide x file → AreWide x (file_early s file)
-early_file_wide x None file f h = h
-early_file_wide x (Some t) file f h = trial_early_wide x t.asks t.trial file f.sound h
+pub early_file_wide : (d : Design) (s : Option Token) (file : List Bits) → IsFittingSlot d s → AreWide (view_extension d.extension) file → AreWide (view_extension d.extension) (file_early s file)
+early_file_wide d None file f h = h
+early_file_wide d (Some t) file f h = trial_early_wide (view_extension d.extension) t.asks t.trial file f.sound h
 
-pub late_file_wide : (x : ExtensionTree) (s : Option Token) (file : List Bits) → IsFittingSlot x s → AreWide x file → AreWide x (file_late s file)
-late_file_wide x None file f h = h
-late_file_wide x (Some t) file f h = trial_late_wide x t.asks t.trial file f.sound h
+pub late_file_wide : (d : Design) (s : Option Token) (file : List Bits) → IsFittingSlot d s → AreWide (view_extension d.extension) file → AreWide (view_extension d.extension) (file_late s file)
+late_file_wide d None file f h = h
+late_file_wide d (Some t) file f h = trial_late_wide (view_extension d.extension) t.asks t.trial file f.sound h
+
+-- ---- what is owed
+
+pub paid_file_wide : (x : ExtensionTree) (o : Option Owed) (file : List Bits) → IfSome o (IsWideOwed x) → AreWide x file → AreWide x (file_paid o file)
+paid_file_wide x None file f h = h
+paid_file_wide x (Some o) file f h = writes_wide x (λ r. get_or o.writes.custom r Absent) file f h
+
+pub paying_wide : (x : ExtensionTree) (lasts : List ℕ) (all l : List Entry) (owed : List Owed) → AreWideOwed x owed → IfSome (paying_among lasts all l owed) (IsWideOwed x)
+paying_wide x lasts all [] owed h = tt
+paying_wide x lasts all (e ∷ l) [] h = tt
+paying_wide x lasts all (e ∷ l) (o ∷ owed) h = by_case (does_write lasts all e) (paying_wide x lasts all l owed h.1) where
+  by_case : (b : Bool) → IfSome (paying_among lasts all l owed) (IsWideOwed x) → IfSome (if b then Some o else paying_among lasts all l owed) (IsWideOwed x)
+  by_case true rest = h.0
+  by_case false rest = rest
+
+unpaid_wide : (x : ExtensionTree) (lasts : List ℕ) (all l : List Entry) (owed : List Owed) → AreWideOwed x owed → AreWideOwed x (unpaid_among lasts all l owed)
+unpaid_wide x lasts all [] owed h = tt
+unpaid_wide x lasts all (e ∷ l) [] h = tt
+unpaid_wide x lasts all (e ∷ l) (o ∷ owed) h = by_case (does_write lasts all e) (unpaid_wide x lasts all l owed h.1) where
+  by_case : (b : Bool) → AreWideOwed x (unpaid_among lasts all l owed) → AreWideOwed x (if b then unpaid_among lasts all l owed else o ∷ unpaid_among lasts all l owed)
+  by_case true rest = rest
+  by_case false rest = (h.0, rest)
+
+past_list : (l : List (Slot Bits)) (r : ℕ) → length l ≤ r → get_or l r Absent ≡ Absent
+past_list [] r le = refl
+past_list (v ∷ l) zero le = absurd (omega (arith, le))
+past_list (v ∷ l) (suc r) le = past_list l r (omega (arith, le))
+
+-- what a sound record owes
+spawned_wide : (x : ExtensionTree) (s : ℕ) (a : Asks) (own : List Bool) (y : StepAnswer) → IsSound x y → IfSome (owed_in s a own y) (IsWideOwed x)
+unfolding spawned
+spawned_wide x s a own (Done c) h = λ r. at_register r where
+  f : ℕ → Slot Bits
+  f r = if get_or a.spawned_customs r false && get_or own r false then get_or c.custom r Absent else Absent
+
+  at_register : (r : ℕ) → IsNowWide (type_of_custom x r).width (get_or (table f 16) r Absent)
+  at_register r = elim (cases_lt r 16) [
+    | inl lt ↦
+        subst (λ slot. IsNowWide (type_of_custom x r).width slot) (sym (table_at f 16 r Absent lt))
+        (either_wide (type_of_custom x r).width (get_or a.spawned_customs r false && get_or own r false) (get_or c.custom r Absent) Absent (h.wide r) tt)
+    | inr le ↦ subst (λ slot. IsNowWide (type_of_custom x r).width slot) (sym (past_list (table f 16) r (let e = table_length f 16 in omega (arith, le, e)))) tt
+  ]
+spawned_wide x s a own (Stopped stop) h = tt
+
+tried_wide : (x : ExtensionTree) (s : ℕ) (a : Asks) (o : Option Trial) → IsSoundTrial x o → IfSome (owed_tried s a o) (IsWideOwed x)
+tried_wide x s a None h = tt
+tried_wide x s a (Some trial) h = spawned_wide x s a trial.own trial.answer h.0
+
+into_wide : (x : ExtensionTree) (u : Option ℕ) (o : Option Owed) → IfSome o (IsWideOwed x) → AreWideOwed x (owed_by_entering (into_unit u o))
+into_wide x None o h = tt
+into_wide x (Some u) None h = tt
+into_wide x (Some u) (Some o) h = (h, tt)
+
+entering_wide : (d : Design) (s : Option Token) → IsFittingSlot d s → AreWideOwed (view_extension d.extension) (owed_by_entering (entering_of s))
+entering_wide d None h = tt
+entering_wide d (Some t) h = into_wide (view_extension d.extension) t.asks.unit (owed_tried t.cell.serial t.asks t.trial) (tried_wide (view_extension d.extension) t.cell.serial t.asks t.trial h.sound)
+
+both_wide : (x : ExtensionTree) (a b : List Owed) → AreWideOwed x a → AreWideOwed x b → AreWideOwed x (a ++ b)
+both_wide x [] b h g = g
+both_wide x (o ∷ a) b h g = (h.0, both_wide x a b h.1 g)
+
+pub after_wide : (d : Design) (o : Outstanding) (s : Option Token) → IsFittingSlot d s → AreWideOwed (view_extension d.extension) o.owed → AreWideOwed (view_extension d.extension) (owed_after o (entering_of s))
+after_wide d o s f h =
+    both_wide (view_extension d.extension) (owed_by_entering (entering_of s)) (unpaid o) (entering_wide d s f)
+    (unpaid_wide (view_extension d.extension) o.lasts o.entries o.entries o.owed h)

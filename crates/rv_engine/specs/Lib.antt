@@ -1,3 +1,5 @@
 pub mod Settings
+pub mod Owing
+pub mod Places
 pub mod Rows
 pub mod Kept

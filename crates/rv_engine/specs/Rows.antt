@@ -1,5 +1,5 @@
 -- The row that a machine makes, and what it keeps then (this project's choice).
-use Rattle.std.specs.Prelude.{◌≡◌, ℕ, suc, ◌-◌, List, [], ◌∷◌, get_or, take, drop, replicate, slice_index, Option, Some, None, Bool, false, ◌&&◌, ◌||◌, if◌then◌else◌, ◌==◌, is_some, is_none}
+use Rattle.std.specs.Prelude.{◌≡◌, ℕ, suc, ◌-◌, List, [], ◌∷◌, get_or, take, drop, replicate, slice_index, Option, Some, None, Bool, true, false, ◌&&◌, ◌||◌, if◌then◌else◌, ◌==◌, is_some, is_none}
 use Rattle.ix_bits.specs.declared.number.Bits.{Bits}
 use Rattle.ix_eval.specs.Tables.{table}
 use Rattle.ix_extension.specs.Extensions.{ExtensionTree, view_extension}
@@ -27,12 +27,17 @@ use Rattle.rv_asks.specs.declared.asks.Asks.{Asks}
 use Rattle.rv_asks.specs.Asks.{asks_in}
 use Rattle.rv_tried.specs.declared.trial.Trial.{Trial}
 use Rattle.rv_tried.specs.Tried.{tried}
+use Rattle.rv_tried.specs.Parts.{shown, native, spawned, paid}
+use Rattle.rv_lawful.specs.Outstanding.{Written}
+use Rattle.rv_holds.specs.declared.token.Beside.{Beside}
 use Rattle.rv_holds.specs.declared.token.Token.{Token}
 use Rattle.rv_holds.specs.declared.flushing.Turn.{Turn}
 use Rattle.rv_holds.specs.Tokens.{Slots, or_else, commit_of, makes_access, cells_of}
 use Rattle.rv_holds.specs.Holds.{waiting_hold, decided}
 use Rattle.rv_holds.specs.Flushing.{turn_of, struck, redirect_of, unheld, cleared, flushed_of, slot_stop, remains, fetch_after}
-use Rattle.rv_engine.specs.Settings.{Setting, Machine, shape_of, tree_of}
+use Rattle.rv_engine.specs.declared.owing.Owed.{Owed}
+use Rattle.rv_engine.specs.Owing.{Outstanding, beside_of, paying, outstanding_after}
+use Rattle.rv_engine.specs.Settings.{Setting, Machine, shape_of, tree_of, outstanding_in}
 
 -- Fetch
 
@@ -47,6 +52,7 @@ new_token d future serial at word =
       trial = None;
       wait = 0;
       tail = (asks_in d word (decoded_in (view_extension d.extension) word)).tail;
+      beside = record { board = None; port = None; left = None };
     }
 
 -- what is fetched, where there is a word
@@ -67,30 +73,39 @@ next_after next (None ∷ older) new = if is_some new then suc next else next
 
 -- Operands and what is tried
 
--- the token with these inputs, this trial, and so many rows to wait
-abbrev pub with_inputs : State → ℕ → Token → Token
-with_inputs i wait t =
-    record { cell = t.cell; decoded = t.decoded; asks = t.asks; inputs = i; trial = t.trial; wait = wait; tail = t.tail }
+-- the token with these inputs, so many rows to wait, and what it meets beside the stages
+abbrev pub with_inputs : State → ℕ → Beside → Token → Token
+with_inputs i wait beside t =
+    record { cell = t.cell; decoded = t.decoded; asks = t.asks; inputs = i; trial = t.trial; wait = wait; tail = t.tail; beside = beside }
 
 -- the operands that the register file has
 abbrev pub operands : List ℕ → State → State
 operands x i = record { word = i.word; rs1 = slice_index x (rs1_of i.word); rs2 = slice_index x (rs2_of i.word); pc = i.pc; custom = i.custom }
 
--- the token of RD with its operands, and that of MEM with the rows for which its access still waits
-abbrev pub with_operands : Shape → List ℕ → ℕ → ℕ → Option Token → Option Token
-with_operands k x owed stage None = None
-with_operands k x owed stage (Some t) =
-    Some (with_inputs (if stage == k.rd then operands x t.inputs else t.inputs) (if (stage == k.mem) && makes_access t then owed else 0) t)
+-- the token of RD with its operands, that of MEM with the rows for which its access still waits, and each with what it meets beside the stages
+abbrev pub with_operands : Shape → List ℕ → ℕ → Outstanding → ℕ → Option Token → Option Token
+with_operands k x wait o stage None = None
+with_operands k x wait o stage (Some t) =
+    Some (with_inputs (if stage == k.rd then operands x t.inputs else t.inputs) (if (stage == k.mem) && makes_access t then wait else 0) (beside_of k o stage t.asks) t)
 
 -- each slot so
-abbrev pub reading : Shape → List ℕ → ℕ → ℕ → Slots → Slots
-reading k x owed stage [] = []
-reading k x owed stage (s ∷ older) = with_operands k x owed stage s ∷ reading k x owed (suc stage) older
+abbrev pub reading : Shape → List ℕ → ℕ → Outstanding → ℕ → Slots → Slots
+reading k x wait o stage [] = []
+reading k x wait o stage (s ∷ older) = with_operands k x wait o stage s ∷ reading k x wait o (suc stage) older
 
 -- the token tried with these inputs on this memory
 abbrev pub tried_with : ExtensionTree → List ℕ → State → Token → Token
 tried_with x memory i t =
-    record { cell = t.cell; decoded = t.decoded; asks = t.asks; inputs = i; trial = Some (tried x i memory t.decoded); wait = t.wait; tail = t.tail }
+    record {
+      cell = t.cell;
+      decoded = t.decoded;
+      asks = t.asks;
+      inputs = i;
+      trial = Some (tried x i memory t.decoded);
+      wait = t.wait;
+      tail = t.tail;
+      beside = t.beside;
+    }
 
 -- it sees the custom registers of the future file
 abbrev pub seeing : List Bits → State → State
@@ -135,7 +150,16 @@ tail_after h n = n
 -- a token that stays, after the row
 abbrev pub waited : Token → Token
 waited t =
-    record { cell = t.cell; decoded = t.decoded; asks = t.asks; inputs = t.inputs; trial = t.trial; wait = t.wait; tail = tail_after t.cell.hold t.tail }
+    record {
+      cell = t.cell;
+      decoded = t.decoded;
+      asks = t.asks;
+      inputs = t.inputs;
+      trial = t.trial;
+      wait = t.wait;
+      tail = tail_after t.cell.hold t.tail;
+      beside = t.beside;
+    }
 
 -- the token that goes on from a slot
 abbrev pub going : Option Token → Option Token
@@ -157,15 +181,54 @@ abbrev pub leaving : Option Token → Slots → Option Token
 leaving come [] = come
 leaving come (s ∷ older) = leaving (going s) older
 
--- the writes with a serial, where there are any
-abbrev pub with_serial : ℕ → Option Commit → Option (ℕ × Commit)
-with_serial s None = None
-with_serial s (Some c) = Some (s, c)
+-- the record that a retirement shows, with the serial, where there is one
+abbrev pub with_serial : ℕ → Asks → Option Commit → Option (ℕ × Commit)
+with_serial s a None = None
+with_serial s a (Some c) = Some (s, shown a c)
 
 -- what the token that goes out retires
 abbrev pub retired_of : Option Token → Option (ℕ × Commit)
 retired_of None = None
-retired_of (Some t) = with_serial t.cell.serial (commit_of t)
+retired_of (Some t) = with_serial t.cell.serial t.asks (commit_of t)
+
+-- what is written at retirement of what an instruction came to
+abbrev pub native_in : Asks → List (Option Bits) → StepAnswer → Option Commit
+native_in a blocks (Done c) = Some (native a blocks c)
+native_in a blocks (Stopped stop) = None
+
+abbrev pub native_tried : Asks → Option Trial → Option Commit
+native_tried a None = None
+native_tried a (Some trial) = native_in a trial.blocks trial.answer
+
+-- what the token that goes out writes
+abbrev pub native_of : Option Token → Option Commit
+native_of None = None
+native_of (Some t) = native_tried t.asks t.trial
+
+-- what an instruction owes that came to this
+abbrev pub owed_in : ℕ → Asks → List Bool → StepAnswer → Option Owed
+owed_in s a own (Done c) = Some (record { serial = s; asks = a; writes = spawned a own c })
+owed_in s a own (Stopped stop) = None
+
+abbrev pub owed_tried : ℕ → Asks → Option Trial → Option Owed
+owed_tried s a None = None
+owed_tried s a (Some trial) = owed_in s a trial.own trial.answer
+
+-- beside the unit, where there is one
+abbrev pub into_unit : Option ℕ → Option Owed → Option (ℕ × Owed)
+into_unit None owed = None
+into_unit (Some u) None = None
+into_unit (Some u) (Some owed) = Some (u, owed)
+
+-- what the token that goes out enters a unit with, where it has one
+abbrev pub entering_of : Option Token → Option (ℕ × Owed)
+entering_of None = None
+entering_of (Some t) = into_unit t.asks.unit (owed_tried t.cell.serial t.asks t.trial)
+
+-- what a unit writes, as a row shows it
+abbrev pub written_of : Option Owed → Option Written
+written_of None = None
+written_of (Some o) = Some (o.serial, o.writes.rd_index, o.writes.rd, o.writes.custom)
 
 -- The future file
 
@@ -209,6 +272,11 @@ abbrev pub file_early : Option Token → List Bits → List Bits
 file_early None file = file
 file_early (Some t) file = trial_early t.asks t.trial file
 
+-- and after a unit writes
+abbrev pub file_paid : Option Owed → List Bits → List Bits
+file_paid None file = file
+file_paid (Some o) file = with_writes (λ r. get_or o.writes.custom r Absent) file
+
 -- and after one goes out of the last stage
 abbrev pub file_late : Option Token → List Bits → List Bits
 file_late None file = file
@@ -231,7 +299,7 @@ new_by k m = fetched k.design m.future m.next m.fetch (word_at k.image m.fetch)
 
 -- the slots after the fetch, with their operands
 abbrev pub read_by : Setting → Machine → Slots
-read_by k m = reading (shape_of k) m.arch.x (owed_by k m) 0 (fill_first (new_by k m) m.slots)
+read_by k m = reading (shape_of k) m.arch.x (owed_by k m) (outstanding_in k m) 0 (fill_first (new_by k m) m.slots)
 
 -- with their holds, once the token of EX is tried
 abbrev pub held_by : Setting → Machine → Slots
@@ -258,20 +326,37 @@ unless (Some m) n = m
 abbrev pub fetch_by : Setting → Machine → ℕ
 fetch_by k m = unless (redirect_of (turn_by k m)) (fetch_after m.fetch (seen_by k m))
 
--- the stop of the row, which is that of a token, or that of a fetch with no word where no token is left
-abbrev pub stop_after : Setting → Machine → Option Stop
-stop_after k m =
-    or_else (slot_stop (shape_of k) 0 (seen_by k m))
-    (if remains (seen_by k m) || is_some (word_at k.image (fetch_by k m)) then None else Some Fetch)
-
--- the state after what is retired
-abbrev pub arch_after : Arch → Option (ℕ × Commit) → Arch
-arch_after s None = s
-arch_after s (Some (serial, c)) = applied c s
-
 -- the token that goes out of the last stage in the row
 abbrev pub left_by : Setting → Machine → Option Token
 left_by k m = leaving None (seen_by k m)
+
+-- what is outstanding after the row
+abbrev pub outstanding_by : Setting → Machine → Outstanding
+outstanding_by k m = outstanding_after (outstanding_in k m) (entering_of (left_by k m))
+
+abbrev pub is_owing : List Owed → Bool
+is_owing [] = false
+is_owing (o ∷ owed) = true
+
+-- the stop of the row, which is that of a token, or that of a fetch with no word where no token is left and nothing is outstanding
+abbrev pub stop_after : Setting → Machine → Option Stop
+stop_after k m =
+    or_else (slot_stop (shape_of k) 0 (seen_by k m))
+    (if remains (seen_by k m) || (is_owing (outstanding_by k m).owed || is_some (word_at k.image (fetch_by k m))) then None else Some Fetch)
+
+-- the state after what is written at retirement
+abbrev pub arch_retired : Option Commit → Arch → Arch
+arch_retired None s = s
+arch_retired (Some c) s = applied c s
+
+-- and after what a unit writes
+abbrev pub arch_paid : Option Owed → Arch → Arch
+arch_paid None s = s
+arch_paid (Some o) s = paid o.writes s
+
+-- what a unit writes in the row
+abbrev pub paid_by : Setting → Machine → Option Owed
+paid_by k m = paying (outstanding_in k m)
 
 -- the token that leaves EX in the row
 abbrev pub executed_by : Setting → Machine → Option Token
@@ -296,13 +381,14 @@ pub record IsRowOf (k : Setting) (m : Machine) (row : Row) : Type 0 where
   pub cells : take (shape_of k).stages row.cells ≡ cells_of (unheld (struck (turn_by k m)) (loaded_by k m))
   pub behind : drop (shape_of k).stages row.cells ≡ drop (shape_of k).stages (replicate 5 None)
   pub retired : row.retired ≡ retired_of (left_by k m)
-  pub written : row.written ≡ None
+  pub written : row.written ≡ written_of (paid_by k m)
   pub flushed : row.flushed ≡ flushed_of (take (struck (turn_by k m)) (loaded_by k m))
   pub redirect : row.redirect ≡ redirect_of (turn_by k m)
   pub taken : row.taken ≡ None
   pub stop : row.stop ≡ stop_after k m
 
--- what it keeps then: a token that leaves EX has put the writes of the blocks and its own of EX into the future file, one that retires its late ones
+-- what it keeps then: a token that leaves EX has put the writes of the blocks and its own of EX into the future file, one that retires its late ones, and a unit those of a
+-- `spawn` body
 abbrev pub machine_after : Setting → Machine → Machine
 machine_after k m =
     record {
@@ -311,6 +397,8 @@ machine_after k m =
       next = next_after m.next m.slots (new_by k m);
       accesses = accesses_after m.accesses (memory_by k m);
       stood = stood_after m.stood (memory_by k m);
-      future = file_early (executed_by k m) (file_late (left_by k m) m.future);
-      arch = arch_after m.arch (retired_of (left_by k m));
+      future = file_early (executed_by k m) (file_late (left_by k m) (file_paid (paid_by k m) m.future));
+      arch = arch_paid (paid_by k m) (arch_retired (native_of (left_by k m)) m.arch);
+      entries = (outstanding_by k m).entries;
+      owed = (outstanding_by k m).owed;
     }

@@ -1,4 +1,4 @@
-ghost use Rattle.std.specs.Prelude.{◌≡◌, ◌+◌, ◌<◌, ◌^◌, ◌||◌, length, take, is_some, Some, None, false, true, if◌then◌else◌};
+ghost use Rattle.std.specs.Prelude.{◌≡◌, ◌+◌, ◌<◌, ◌^◌, ◌||◌, length, take, drop, is_some, Some, None, false, true, if◌then◌else◌};
 ghost use Rattle.ix_extension.specs.Extensions.{view_extension};
 ghost use Rattle.ix_extension.specs.WellFormed.{IsWellFormed};
 ghost use Rattle.ix_eval.specs.Scratches.{IsScratchOf};
@@ -9,12 +9,15 @@ ghost use Rattle.rv_seq.specs.Steps.{word_at as specified_word_at};
 ghost use Rattle.rv_holds.specs.Tokens.{or_else};
 ghost use Rattle.rv_holds.specs.Flushing.{remains as specified_remains, fetch_after};
 ghost use Rattle.rv_engine.specs.Settings.{setting};
-ghost use Rattle.rv_engine.specs.Rows.{unless, next_after, new_by, loaded_by, arch_after, IsRowOf, machine_after};
-ghost use Rattle.rv_engine.specs.Kept.{machine_with, machine_of, AreFitting, IsFit, AreStoredInside};
+ghost use Rattle.rv_engine.specs.Rows.{unless, next_after, new_by, loaded_by, going, leaving, first_slot, native_of, file_early, file_late, file_paid, is_owing, arch_retired, arch_paid, IsRowOf, machine_after};
+ghost use Rattle.rv_engine.specs.Kept.{machine_with, machine_of, AreFitting, AreWideOwed, IsLastOpen, IsFit, AreStoredInside};
+ghost use Rattle.rv_engine.specs.Owing.{IsOwingOf};
 
 use crate::filling::fetch;
 use crate::front::{Front, Kept};
 use crate::moving::{accesses_then, advance, last, put_early, put_late, retired_in, stood_then};
+use crate::owing::{Owed, Owing};
+use crate::paying::{entering_in, pay_all, retire, written_of};
 use crate::reading::{owed_in, read};
 use crate::trying::{load, try_executing};
 use ix_bits::Bits;
@@ -23,7 +26,7 @@ use ix_plan::Design;
 use rv_asks::Asking;
 use rv_core::Shape;
 use rv_holds::{Token, decide, fetch_following, flush, remains, stop_in};
-use rv_seq::{Arch, Commit, Stop, apply, word_at};
+use rv_seq::{Arch, Stop, word_at};
 use rv_trace::Row;
 use rv_waits::Waits;
 
@@ -37,18 +40,19 @@ fn next_fetch(redirect: Option<u32>, fetch: u32, slots: &[Option<Token>]) -> u32
     }
 }
 
-/// The stop of a row, of which a token makes this one.
+/// The stop of a row, of which a token makes this one; what is left and what is outstanding after the row go on.
 fn stop_of_row(
     image: &[u32],
     stopped: Option<Stop>,
     slots: &[Option<Token>],
+    owing: &Owing,
     fetch: u32,
 ) -> Option<Stop>
-    ensures { result ≡ or_else stopped (if specified_remains slots.now || is_some (specified_word_at image.now fetch) then None else Some Fetch) }
+    ensures { result ≡ or_else stopped (if specified_remains slots.now || (is_owing owing.now.owed || is_some (specified_word_at image.now fetch)) then None else Some Fetch) }
 {
     match stopped {
         None => {
-            if remains(slots) || word_at(image, fetch).is_some() {
+            if remains(slots) || owes(owing) || word_at(image, fetch).is_some() {
                 None
             } else {
                 Some(Stop::Fetch)
@@ -58,14 +62,31 @@ fn stop_of_row(
     }
 }
 
-/// Makes the writes of what is retired.
-fn retire(arch: &mut Arch, retired: &Option<(u32, Commit)>)
-    requires { AreStoredInside retired.now }
-    ensures { arch.new ≡ arch_after arch.old retired.now }
+/// Whether something is outstanding.
+fn owes(owing: &Owing) -> bool
+    ensures { result ≡ is_owing owing.now.owed }
 {
-    if let Some((_, commit)) = retired {
-        apply(arch, commit);
-    }
+    !owing.owed().is_empty()
+}
+
+/// Makes the writes of a row: of the token that goes out of the last stage, of what a unit writes, if one does, and, in the future
+/// file, of the token that leaves EX.
+fn write(
+    shape: Shape,
+    paying: &Option<Owed>,
+    slots: &[Option<Token>],
+    future: &mut [Bits; 16],
+    arch: &mut Arch,
+)
+    requires inside { shape.ex < length slots.now }
+    requires stored { AreStoredInside (native_of (leaving None slots.now)) }
+    ensures future { future.new ≡ file_early (going (first_slot (drop shape.ex slots.now))) (file_late (leaving None slots.now) (file_paid paying.now future.old)) }
+    ensures arch { arch.new ≡ arch_paid paying.now (arch_retired (native_of (leaving None slots.now)) arch.old) }
+{
+    retire(last(slots), arch);
+    pay_all(paying, future, arch);
+    put_late(last(slots), future);
+    put_early(&slots[usize::from(shape.ex)], future);
 }
 
 /// The slots up to their loads: what is fetched comes in, operands are read, the token of EX is tried, holds are decided, and the load
@@ -78,6 +99,7 @@ fn prepare(
     front: Front,
     future: &[Bits; 16],
     arch: &Arch,
+    owing: &Owing,
     slots: &mut [Option<Token>],
     scratch: &mut Scratch,
 ) -> u32
@@ -86,18 +108,20 @@ fn prepare(
     requires scratch { IsScratchOf (view_extension design.now.extension) scratch.old }
     requires stages { length slots.old ≡ design.now.sheet.shape.stages }
     requires future { AreWide (view_extension design.now.extension) future.now }
-    requires fitting { AreFitting (view_extension design.now.extension) slots.old }
+    requires fitting { AreFitting design.now slots.old }
+    requires owing { IsOwingOf design.now owing.now }
     requires serial { front.next + 1 < 2 ^ 32 }
     ensures scratch { IsScratchOf (view_extension design.now.extension) scratch.new }
-    ensures next { result ≡ next_after front.next slots.old (new_by (setting design.now image.now waits.now) (machine_with front future.now arch.now slots.old)) }
-    ensures slots { slots.new ≡ loaded_by (setting design.now image.now waits.now) (machine_with front future.now arch.now slots.old) }
+    ensures next { result ≡ next_after front.next slots.old (new_by (setting design.now image.now waits.now) (machine_with front future.now arch.now owing.now slots.old)) }
+    ensures slots { slots.new ≡ loaded_by (setting design.now image.now waits.now) (machine_with front future.now arch.now owing.now slots.old) }
+    ensures open { IsLastOpen owing.now slots.new }
     ensures stages { length slots.new ≡ design.now.sheet.shape.stages }
-    ensures fitting { AreFitting (view_extension design.now.extension) slots.new }
+    ensures fitting { AreFitting design.now slots.new }
 {
     let shape = design.sheet.shape;
     let word = word_at(image, front.fetch);
     let next = fetch(design, asking, front, future, word, slots);
-    read(shape, &arch.x, owed_in(waits, front), slots);
+    read(design, &arch.x, owed_in(waits, front), owing, slots);
     try_executing(design, future, &arch.mem, slots, scratch);
     decide(shape, slots);
     load(design, &arch.mem, slots, scratch);
@@ -113,6 +137,7 @@ fn row_of(
     front: &mut Front,
     future: &mut [Bits; 16],
     arch: &mut Arch,
+    owing: &mut Owing,
     slots: &mut [Option<Token>],
     scratch: &mut Scratch,
 ) -> Row
@@ -121,33 +146,37 @@ fn row_of(
     requires scratch { IsScratchOf (view_extension design.now.extension) scratch.old }
     requires stages { length slots.old ≡ design.now.sheet.shape.stages }
     requires future { AreWide (view_extension design.now.extension) future.old }
-    requires fitting { AreFitting (view_extension design.now.extension) slots.old }
+    requires fitting { AreFitting design.now slots.old }
+    requires owing { IsOwingOf design.now owing.old }
+    requires owed { AreWideOwed (view_extension design.now.extension) owing.old.owed }
     requires serial { front.old.next + 1 < 2 ^ 32 }
     requires accesses { front.old.accesses + 1 < 2 ^ 32 }
     requires stood { front.old.stood + 1 < 2 ^ 32 }
     ensures scratch { IsScratchOf (view_extension design.now.extension) scratch.new }
-    ensures row { IsRowOf (setting design.now image.now waits.now) (machine_with front.old future.old arch.old slots.old) result }
-    ensures after { machine_with front.new future.new arch.new slots.new ≡ machine_after (setting design.now image.now waits.now) (machine_with front.old future.old arch.old slots.old) }
+    ensures row { IsRowOf (setting design.now image.now waits.now) (machine_with front.old future.old arch.old owing.old slots.old) result }
+    ensures after { machine_with front.new future.new arch.new owing.new slots.new ≡ machine_after (setting design.now image.now waits.now) (machine_with front.old future.old arch.old owing.old slots.old) }
     ensures future { AreWide (view_extension design.now.extension) future.new }
-    ensures fitting { AreFitting (view_extension design.now.extension) slots.new }
+    ensures fitting { AreFitting design.now slots.new }
+    ensures owing { IsOwingOf design.now owing.new }
+    ensures owed { AreWideOwed (view_extension design.now.extension) owing.new.owed }
 {
     let shape = design.sheet.shape;
     let next = prepare(
-        design, asking, image, waits, *front, future, arch, slots, scratch,
+        design, asking, image, waits, *front, future, arch, owing, slots, scratch,
     );
     let shown = flush(shape, front.fetch, slots);
     let cells = shown.cells;
     let flushed = shown.flushed;
     let stopped = stop_in(shape, slots);
     let fetch = next_fetch(shown.redirect, front.fetch, slots);
-    let stop = stop_of_row(image, stopped, slots, fetch);
     let memory = usize::from(shape.mem);
     let accesses = accesses_then(front.accesses, &slots[memory]);
     let stood = stood_then(front.stood, &slots[memory]);
     let retired = retired_in(last(slots));
-    put_late(last(slots), future);
-    put_early(&slots[usize::from(shape.ex)], future);
-    retire(arch, &retired);
+    let paying = owing.paying();
+    write(shape, &paying, slots, future, arch);
+    owing.cycle(entering_in(last(slots)));
+    let stop = stop_of_row(image, stopped, slots, owing, fetch);
     advance(slots);
     *front = Front {
         fetch,
@@ -158,7 +187,7 @@ fn row_of(
     Row {
         cells,
         retired,
-        written: None,
+        written: written_of(&paying),
         flushed,
         redirect: shown.redirect,
         taken: None,
@@ -175,6 +204,7 @@ fn row_in(
     front: &mut Front,
     future: &mut [Bits; 16],
     arch: &mut Arch,
+    owing: &mut Owing,
     slots: &mut [Option<Token>; 5],
     scratch: &mut Scratch,
 ) -> Row
@@ -182,15 +212,19 @@ fn row_in(
     requires asking { IsAskingOf design.now asking.now }
     requires scratch { IsScratchOf (view_extension design.now.extension) scratch.old }
     requires future { AreWide (view_extension design.now.extension) future.old }
-    requires fitting { AreFitting (view_extension design.now.extension) (take design.now.sheet.shape.stages slots.old) }
+    requires fitting { AreFitting design.now (take design.now.sheet.shape.stages slots.old) }
+    requires owing { IsOwingOf design.now owing.old }
+    requires owed { AreWideOwed (view_extension design.now.extension) owing.old.owed }
     requires serial { front.old.next + 1 < 2 ^ 32 }
     requires accesses { front.old.accesses + 1 < 2 ^ 32 }
     requires stood { front.old.stood + 1 < 2 ^ 32 }
     ensures scratch { IsScratchOf (view_extension design.now.extension) scratch.new }
-    ensures row { IsRowOf (setting design.now image.now waits.now) (machine_with front.old future.old arch.old (take design.now.sheet.shape.stages slots.old)) result }
-    ensures after { machine_with front.new future.new arch.new (take design.now.sheet.shape.stages slots.new) ≡ machine_after (setting design.now image.now waits.now) (machine_with front.old future.old arch.old (take design.now.sheet.shape.stages slots.old)) }
+    ensures row { IsRowOf (setting design.now image.now waits.now) (machine_with front.old future.old arch.old owing.old (take design.now.sheet.shape.stages slots.old)) result }
+    ensures after { machine_with front.new future.new arch.new owing.new (take design.now.sheet.shape.stages slots.new) ≡ machine_after (setting design.now image.now waits.now) (machine_with front.old future.old arch.old owing.old (take design.now.sheet.shape.stages slots.old)) }
     ensures future { AreWide (view_extension design.now.extension) future.new }
-    ensures fitting { AreFitting (view_extension design.now.extension) (take design.now.sheet.shape.stages slots.new) }
+    ensures fitting { AreFitting design.now (take design.now.sheet.shape.stages slots.new) }
+    ensures owing { IsOwingOf design.now owing.new }
+    ensures owed { AreWideOwed (view_extension design.now.extension) owing.new.owed }
 {
     let stages = usize::from(design.sheet.shape.stages);
     row_of(
@@ -201,6 +235,7 @@ fn row_in(
         front,
         future,
         arch,
+        owing,
         &mut slots[..stages],
         scratch,
     )
@@ -220,12 +255,14 @@ pub fn make_row(
     requires asking { IsAskingOf design.now asking.now }
     requires scratch { IsScratchOf (view_extension design.now.extension) scratch.old }
     requires fit { IsFit (setting design.now image.now waits.now) (machine_of design.now.sheet.shape kept.old) }
+    requires owing { IsOwingOf design.now kept.old.owing }
     requires serial { kept.old.front.next + 1 < 2 ^ 32 }
     requires accesses { kept.old.front.accesses + 1 < 2 ^ 32 }
     requires stood { kept.old.front.stood + 1 < 2 ^ 32 }
     ensures row { IsRowOf (setting design.now image.now waits.now) (machine_of design.now.sheet.shape kept.old) result }
     ensures after { machine_of design.now.sheet.shape kept.new ≡ machine_after (setting design.now image.now waits.now) (machine_of design.now.sheet.shape kept.old) }
     ensures fit { IsFit (setting design.now image.now waits.now) (machine_of design.now.sheet.shape kept.new) }
+    ensures owing { IsOwingOf design.now kept.new.owing }
     ensures scratch { IsScratchOf (view_extension design.now.extension) scratch.new }
 {
     row_in(
@@ -236,6 +273,7 @@ pub fn make_row(
         &mut kept.front,
         &mut kept.future,
         &mut kept.arch,
+        &mut kept.owing,
         &mut kept.slots,
         scratch,
     )

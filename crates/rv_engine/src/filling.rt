@@ -12,7 +12,7 @@ use ix_eval::Inputs;
 use ix_plan::Design;
 use rv_asks::{Asking, asks_of};
 use rv_effect::decode_in;
-use rv_holds::Token;
+use rv_holds::{Beside, Token};
 use rv_trace::Cell;
 
 /// The token of a fetched word, which sees no operands yet.
@@ -27,7 +27,7 @@ fn new_token(
     requires asking { IsAskingOf design.now asking.now }
     requires future { AreWide (view_extension design.now.extension) future.now }
     ensures token { result ≡ specified_new_token design.now future.now front.next front.fetch word }
-    ensures fitting { IsFitting (view_extension design.now.extension) result }
+    ensures fitting { IsFitting design.now result }
 {
     let decoded = decode_in(&design.extension, word);
     let asks = asks_of(asking, word, decoded);
@@ -52,6 +52,11 @@ fn new_token(
         trial: None,
         wait: 0,
         tail: asks.tail,
+        beside: Beside {
+            board: None,
+            port: None,
+            left: None,
+        },
     }
 }
 
@@ -68,11 +73,11 @@ pub fn fetch(
     requires asking { IsAskingOf design.now asking.now }
     requires future { AreWide (view_extension design.now.extension) future.now }
     requires stages { 0 < length slots.old }
-    requires fitting { AreFitting (view_extension design.now.extension) slots.old }
+    requires fitting { AreFitting design.now slots.old }
     requires serial { front.next + 1 < 2 ^ 32 }
     ensures next { result ≡ next_after front.next slots.old (fetched design.now future.now front.next front.fetch word) }
     ensures slots { slots.new ≡ fill_first (fetched design.now future.now front.next front.fetch word) slots.old }
-    ensures fitting { AreFitting (view_extension design.now.extension) slots.new }
+    ensures fitting { AreFitting design.now slots.new }
 {
     match word {
         None => front.next,

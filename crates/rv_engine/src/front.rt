@@ -1,3 +1,4 @@
+use crate::owing::Owing;
 use ix_bits::Bits;
 use rv_holds::Token;
 use rv_seq::Arch;
@@ -21,4 +22,6 @@ pub struct Kept {
     /// The future file: the custom registers as a token that comes to EX reads them.
     pub future: [Bits; 16],
     pub arch: Arch,
+    /// What is outstanding beside the stages.
+    pub owing: Owing,
 }

@@ -6,9 +6,12 @@ mod filling;
 mod front;
 mod kept;
 mod moving;
+mod owing;
+mod paying;
 mod reading;
 mod trying;
 
 pub use engine::make_row;
 pub use front::{Front, Kept};
 pub use kept::first_kept;
+pub use owing::{Owed, Owing};

@@ -10,6 +10,7 @@ use rv_asks::Asks;
 use rv_holds::{Token, access_of};
 use rv_seq::{Commit, Slot, StepAnswer};
 use rv_trace::Hold;
+use rv_tried::shown;
 
 /// For how many rows a module goes on after a row with this hold, where it went on for so many.
 fn tail_after(hold: Option<Hold>, tail: u8) -> u8
@@ -104,15 +105,15 @@ pub fn last(slots: &[Option<Token>]) -> &Option<Token>
     &slots[slots.len() - 1]
 }
 
-/// What a token writes, with its serial, where it was tried and makes no stop.
-fn written_by(token: &Token) -> Option<(u32, Commit)>
-    ensures { result ≡ with_serial token.now.cell.serial (specified_commit_of token.now) }
+/// What a token retires, with its serial, where it was tried and makes no stop.
+fn retired_by(token: &Token) -> Option<(u32, Commit)>
+    ensures { result ≡ with_serial token.now.cell.serial token.now.asks (specified_commit_of token.now) }
 {
     match &token.trial {
         None => None,
         Some(trial) => match &trial.answer {
             StepAnswer::Stopped(_) => None,
-            StepAnswer::Done(commit) => Some((token.cell.serial, *commit)),
+            StepAnswer::Done(commit) => Some((token.cell.serial, shown(&token.asks, commit))),
         },
     }
 }
@@ -122,7 +123,7 @@ pub fn retired_in(slot: &Option<Token>) -> Option<(u32, Commit)>
     ensures { result ≡ retired_of (going slot.now) }
 {
     match slot {
-        Some(token) if token.cell.hold.is_none() => written_by(token),
+        Some(token) if token.cell.hold.is_none() => retired_by(token),
         _ => None,
     }
 }

@@ -17,11 +17,11 @@ use rv_tried::try_word;
 /// Tries a token with its inputs on this memory.
 fn try_token(design: &Design, memory: &RandomAccess, token: &mut Token, scratch: &mut Scratch)
     requires well_formed { IsWellFormed design.now.extension }
-    requires fitting { IsFitting (view_extension design.now.extension) token.old }
+    requires fitting { IsFitting design.now token.old }
     requires scratch { IsScratchOf (view_extension design.now.extension) scratch.old }
     ensures scratch { IsScratchOf (view_extension design.now.extension) scratch.new }
     ensures token { token.new ≡ tried_with (view_extension design.now.extension) memory.now token.old.inputs token.old }
-    ensures fitting { IsFitting (view_extension design.now.extension) token.new }
+    ensures fitting { IsFitting design.now token.new }
 {
     let trial = try_word(
         &design.extension,
@@ -43,11 +43,11 @@ fn execute(
 )
     requires well_formed { IsWellFormed design.now.extension }
     requires future { AreWide (view_extension design.now.extension) future.now }
-    requires fitting { IsFitting (view_extension design.now.extension) token.old }
+    requires fitting { IsFitting design.now token.old }
     requires scratch { IsScratchOf (view_extension design.now.extension) scratch.old }
     ensures scratch { IsScratchOf (view_extension design.now.extension) scratch.new }
     ensures token { token.new ≡ tried_with (view_extension design.now.extension) memory.now (seeing future.now token.old.inputs) token.old }
-    ensures fitting { IsFitting (view_extension design.now.extension) token.new }
+    ensures fitting { IsFitting design.now token.new }
 {
     token.inputs.custom = *future;
     try_token(design, memory, token, scratch);
@@ -87,11 +87,11 @@ fn execute_if(
 )
     requires well_formed { IsWellFormed design.now.extension }
     requires future { AreWide (view_extension design.now.extension) future.now }
-    requires fitting { IsFittingSlot (view_extension design.now.extension) slot.old }
+    requires fitting { IsFittingSlot design.now slot.old }
     requires scratch { IsScratchOf (view_extension design.now.extension) scratch.old }
     ensures scratch { IsScratchOf (view_extension design.now.extension) scratch.new }
     ensures slot { slot.new ≡ option_map (λ t. if ripe then tried_with (view_extension design.now.extension) memory.now (seeing future.now t.inputs) t else t) slot.old }
-    ensures fitting { IsFittingSlot (view_extension design.now.extension) slot.new }
+    ensures fitting { IsFittingSlot design.now slot.new }
 {
     if let Some(token) = slot {
         if ripe {
@@ -111,11 +111,11 @@ pub fn try_executing(
     requires well_formed { IsWellFormed design.now.extension }
     requires future { AreWide (view_extension design.now.extension) future.now }
     requires inside { design.now.sheet.shape.ex < length slots.old }
-    requires fitting { AreFitting (view_extension design.now.extension) slots.old }
+    requires fitting { AreFitting design.now slots.old }
     requires scratch { IsScratchOf (view_extension design.now.extension) scratch.old }
     ensures scratch { IsScratchOf (view_extension design.now.extension) scratch.new }
     ensures slots { slots.new ≡ trying (view_extension design.now.extension) design.now.sheet.shape future.now memory.now 0 slots.old }
-    ensures fitting { AreFitting (view_extension design.now.extension) slots.new }
+    ensures fitting { AreFitting design.now slots.new }
 {
     let stage = usize::from(design.sheet.shape.ex);
     let ripe = is_ripe_in(design.sheet.shape, &slots[stage], &slots[stage + 1..]);
@@ -137,11 +137,11 @@ fn load_slot(
     scratch: &mut Scratch,
 )
     requires well_formed { IsWellFormed design.now.extension }
-    requires fitting { IsFittingSlot (view_extension design.now.extension) slot.old }
+    requires fitting { IsFittingSlot design.now slot.old }
     requires scratch { IsScratchOf (view_extension design.now.extension) scratch.old }
     ensures scratch { IsScratchOf (view_extension design.now.extension) scratch.new }
     ensures slot { slot.new ≡ with_load (view_extension design.now.extension) design.now.sheet.shape memory.now design.now.sheet.shape.mem slot.old }
-    ensures fitting { IsFittingSlot (view_extension design.now.extension) slot.new }
+    ensures fitting { IsFittingSlot design.now slot.new }
 {
     let shape = design.sheet.shape;
     if let Some(token) = slot {
@@ -160,11 +160,11 @@ pub fn load(
 )
     requires well_formed { IsWellFormed design.now.extension }
     requires inside { design.now.sheet.shape.mem < length slots.old }
-    requires fitting { AreFitting (view_extension design.now.extension) slots.old }
+    requires fitting { AreFitting design.now slots.old }
     requires scratch { IsScratchOf (view_extension design.now.extension) scratch.old }
     ensures scratch { IsScratchOf (view_extension design.now.extension) scratch.new }
     ensures slots { slots.new ≡ loading (view_extension design.now.extension) design.now.sheet.shape memory.now 0 slots.old }
-    ensures fitting { AreFitting (view_extension design.now.extension) slots.new }
+    ensures fitting { AreFitting design.now slots.new }
 {
     let stage = usize::from(design.sheet.shape.mem);
     load_slot(design, memory, &mut slots[stage], scratch);

@@ -1,14 +1,15 @@
 -- Slots from a place on, and what loops over the stages make of them step by step.
-use Rattle.std.proofs.Common.{◌≡◌, ℕ, zero, suc, ◌+◌, ◌-◌, ◌<◌, ◌≤◌, [], ◌∷◌, drop, take, length, get_or, Option, Some, None, true, false, refl, sym, ap, ◌∙◌, arith}
+use Rattle.std.proofs.Common.{◌≡◌, ℕ, zero, suc, ◌+◌, ◌-◌, ◌<◌, ◌≤◌, [], ◌∷◌, drop, take, length, get_or, Option, Some, None, Bool, true, false, refl, sym, ap, ◌∙◌, arith}
 use Rattle.std.specs.Prelude.{if◌then◌else◌, is_some, option_map, IfSome}
 use Rattle.std.proofs.Math.ListN.{set}
 use Rattle.std.proofs.lemmas.List.{at_drop_more, take_all, length-drop, drop-set, take-set, get_or-take}
 use Rattle.rv_core.specs.declared.Shape.{Shape}
 use Rattle.rv_trace.specs.declared.row.Hold.{Hold}
+use Rattle.rv_trace.specs.declared.row.Hold.TheVariants.{Behind}
 use Rattle.rv_seq.specs.declared.commit.Stop.{Stop}
 use Rattle.rv_holds.specs.declared.token.Token.{Token}
 use Rattle.rv_holds.specs.Tokens.{Slots, or_else, stop_of}
-use Rattle.rv_holds.specs.Holds.{first_from, stops_now, shown, held, with_hold, decided}
+use Rattle.rv_holds.specs.Holds.{first_from, own_hold, is_blocked, stops_now, shown, held, with_hold, decided}
 use Rattle.rv_holds.specs.Flushing.{next_of, settles, settled, slot_stop}
 
 up : (n : ℕ) → suc n ≡ n + 1
@@ -110,3 +111,11 @@ decided_more k n now old older s r lt long front back e o h =
 
 pub front_kept : (n : ℕ) (now old : Slots) (r : Option Token) → take (n + 1) now ≡ take (n + 1) old → take n (set now n r) ≡ take n old
 front_kept n now old r e = take-set now n r ∙ fewer n now old e
+
+-- what neither stops the run nor has a hold of its own shows that it stands behind a cell that blocks it
+pub shown_behind : (k : Shape) (n : ℕ) (t : Token) (older : Slots) (o : Option Hold) → false ≡ stops_now k n t older → o ≡ own_hold k n t older → o ≡ None → true ≡ is_blocked k (n + 1) older → Some Behind ≡ shown k n t older
+shown_behind k n t older o s e none b =
+    sym (ap (λ (z : Bool). if z then None else or_else (own_hold k n t older) (if is_blocked k (suc n) older then Some Behind else None)) (sym s)
+    ∙ ap (λ h. or_else h (if is_blocked k (suc n) older then Some Behind else None)) (sym e ∙ none)
+    ∙ ap (λ j. if is_blocked k j older then Some Behind else None) (up n)
+    ∙ ap (λ (z : Bool). if z then Some Behind else None) (sym b))

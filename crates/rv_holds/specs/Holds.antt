@@ -1,9 +1,13 @@
 -- Why a token stays in its stage, as a pipeline decides it (this project's choice).
-use Rattle.std.specs.Prelude.{ℕ, zero, suc, [], ◌∷◌, get_or, Option, Some, None, Bool, false, ◌&&◌, ◌||◌, if◌then◌else◌, ◌==◌, is_some, is_none, min, max}
+use Rattle.std.specs.Prelude.{ℕ, zero, suc, ◌-◌, [], ◌∷◌, get_or, Option, Some, None, Bool, false, ◌&&◌, ◌||◌, if◌then◌else◌, ◌==◌, nat_lt, is_some, is_none, min, max}
+use Rattle.ix_plan.specs.declared.design.Target.{Target}
+use Rattle.ix_plan.specs.declared.design.Target.TheVariants.{X}
+use Rattle.ix_plan.specs.declared.design.Target.TheVariants as target
 use Rattle.rv_core.specs.declared.Shape.{Shape}
 use Rattle.rv_trace.specs.declared.row.Hold.{Hold}
-use Rattle.rv_trace.specs.declared.row.Hold.TheVariants.{Operand, Custom, Late, Drain, Wait, StoreAhead, Tail, Behind}
+use Rattle.rv_trace.specs.declared.row.Hold.TheVariants.{Operand, Board, Custom, Late, Drain, Wait, StoreAhead, Tail, Behind}
 use Rattle.rv_asks.specs.declared.asks.Asks.{Asks}
+use Rattle.rv_lawful.specs.Outstanding.{has_target, touches}
 use Rattle.rv_holds.specs.declared.token.Token.{Token}
 use Rattle.rv_holds.specs.Tokens.{Slots, or_else, stop_of}
 
@@ -37,6 +41,46 @@ waits_for r older = if r == 0 then None else operand r (oldest (does_write r) ol
 abbrev pub operand_hold : Slots → Asks → Option Hold
 operand_hold older a = or_else (waits_for (min a.first a.second) older) (waits_for (max a.first a.second) older)
 
+-- how many registers there are: 32 of the base, and 16 custom ones
+unfoldable pub register_count : ℕ
+register_count = 48
+
+-- a register by its number: those of the base, then the custom ones
+abbrev pub register_at : ℕ → Target
+register_at n = if nat_lt n 32 then X n else target.Custom (n - 32)
+
+-- the `spawn` body of the token's instruction writes this register
+abbrev pub spawns_at : ℕ → Token → Bool
+spawns_at n t = has_target t.asks (register_at n)
+
+-- the oldest token whose `spawn` body writes this register, where the instruction touches it
+abbrev pub spawner : Slots → Asks → ℕ → Option ℕ
+spawner older a n = if touches a (register_at n) then oldest (spawns_at n) older else None
+
+abbrev pub numbered : ℕ → Option ℕ → Option (ℕ × ℕ)
+numbered n None = None
+numbered n (Some j) = Some (n, j)
+
+-- of f n, f (n + 1), .., so many, the first that there is, with its number
+abbrev pub least_from : (ℕ → Option ℕ) → ℕ → ℕ → Option (ℕ × ℕ)
+least_from f n zero = None
+least_from f n (suc count) = or_else (numbered n (f n)) (least_from f (suc n) count)
+
+-- the one with the lower number, and the first where the numbers are one
+abbrev pub lower_of : Option (ℕ × ℕ) → Option (ℕ × ℕ) → Option (ℕ × ℕ)
+lower_of None other = other
+lower_of (Some one) None = Some one
+lower_of (Some one) (Some other) = if nat_lt other.0 one.0 then Some other else Some one
+
+-- a register with an outstanding write is waited for
+abbrev pub board : Option (ℕ × ℕ) → Option Hold
+board None = None
+board (Some found) = Some (Board (register_at found.0) found.1)
+
+-- the least one first: of those that are owed beside the stages, and of those that an older token spawns
+abbrev pub board_hold : Token → Slots → Option Hold
+board_hold t older = board (lower_of t.beside.board (least_from (spawner older t.asks) 0 register_count))
+
 -- a custom register is waited for, the least one first
 abbrev pub custom : ℕ → Option ℕ → Option Hold
 custom r None = None
@@ -61,10 +105,14 @@ late (Some j) = Some (Late j)
 abbrev pub late_hold : Slots → Option Hold
 late_hold older = late (oldest is_late older)
 
+-- a token at RD waits for an operand first, and then for an outstanding register
+abbrev pub reading_hold : Token → Slots → Option Hold
+reading_hold t older = or_else (operand_hold older t.asks) (board_hold t older)
+
 -- the holds until which a token can't be tried at EX
 abbrev pub waiting_hold : Shape → ℕ → Token → Slots → Option Hold
 waiting_hold k stage t older =
-    or_else (if stage == k.rd then operand_hold older t.asks else None)
+    or_else (if stage == k.rd then reading_hold t older else None)
     (if stage == k.ex then or_else (custom_hold older t.asks) (late_hold older) else None)
 
 abbrev pub drain : Option ℕ → Option Hold
@@ -78,8 +126,19 @@ staying (None ∷ older) = staying older
 staying (Some t ∷ []) = if is_some t.cell.hold then Some t.cell.serial else None
 staying (Some t ∷ u ∷ older) = or_else (staying (u ∷ older)) (Some t.cell.serial)
 
+-- the token that goes out of the last stage into a unit
+abbrev pub entering : Slots → Option ℕ
+entering [] = None
+entering (None ∷ []) = None
+entering (Some t ∷ []) = if is_some t.asks.unit && is_none t.cell.hold then Some t.cell.serial else None
+entering (s ∷ u ∷ older) = entering (u ∷ older)
+
+-- the oldest serial that is outstanding or not retired by the end of the row
+abbrev pub left_behind : Token → Slots → Option ℕ
+left_behind t older = or_else t.beside.left (or_else (entering older) (staying older))
+
 abbrev pub drain_hold : Token → Slots → Option Hold
-drain_hold t older = if is_some (stop_of t) then drain (staying older) else None
+drain_hold t older = if is_some (stop_of t) then drain (left_behind t older) else None
 
 abbrev pub store_ahead : Option ℕ → Option Hold
 store_ahead None = None
@@ -97,13 +156,17 @@ memory_hold t = if t.wait == 0 then None else Some (Wait t.wait)
 abbrev pub tail_hold : Token → Option Hold
 tail_hold t = if t.tail == 0 then None else Some (Tail t.tail)
 
+-- a token in the last stage waits for its module first, and then for a unit or the port
+abbrev pub ending_hold : Token → Option Hold
+ending_hold t = or_else (tail_hold t) t.beside.port
+
 -- the first true hold of a token but Behind
 abbrev pub own_hold : Shape → ℕ → Token → Slots → Option Hold
 own_hold k stage t older =
     or_else (waiting_hold k stage t older)
     (or_else (if stage == k.ex then drain_hold t older else None)
     (or_else (if stage == k.mem then or_else (memory_hold t) (store_hold older t.asks) else None)
-    (if suc stage == k.stages then tail_hold t else None)))
+    (if suc stage == k.stages then ending_hold t else None)))
 
 -- does it stop the run in this row?
 abbrev pub stops_now : Shape → ℕ → Token → Slots → Bool
@@ -132,6 +195,7 @@ held h t =
       trial = t.trial;
       wait = t.wait;
       tail = t.tail;
+      beside = t.beside;
     }
 
 abbrev pub with_hold : Shape → ℕ → Option Token → Slots → Option Token

@@ -1,7 +1,8 @@
 ghost use Rattle.std.specs.Prelude.{◌≡◌, ◌+◌, ◌<◌, ◌==◌, length, suc, is_some, option_map, IfSome};
 ghost use Rattle.rv_holds.specs.Tokens.{or_else};
-ghost use Rattle.rv_holds.specs.Holds.{oldest, does_write, writes_late, does_store, is_late, waits_for, operand_hold, waits_for_custom, custom_hold, late_hold, waiting_hold as specified_waiting_hold, staying, drain_hold, store_hold, memory_hold, tail_hold, own_hold, stops_now, is_blocked as specified_is_blocked, shown, held as specified_held, decided};
+ghost use Rattle.rv_holds.specs.Holds.{oldest, does_write, writes_late, does_store, is_late, waits_for, operand_hold, waits_for_custom, custom_hold, late_hold, waiting_hold as specified_waiting_hold, staying, entering, left_behind, drain_hold, reading_hold, ending_hold, store_hold, memory_hold, tail_hold, own_hold, stops_now, is_blocked as specified_is_blocked, shown, held as specified_held, decided};
 
+use crate::board::board_of;
 use crate::token::{Token, stop_of};
 use rv_asks::Asks;
 use rv_core::Shape;
@@ -125,6 +126,16 @@ fn late(older: &[Option<Token>]) -> Option<Hold>
     oldest_late(older).map(|serial| Hold::Late(serial))
 }
 
+/// The hold of a token at RD, which waits for an operand first and then for an outstanding register.
+fn reading(token: &Token, older: &[Option<Token>]) -> Option<Hold>
+    ensures { result ≡ reading_hold token.now older.now }
+{
+    match operand(older, &token.asks) {
+        None => board_of(token, older),
+        hold => hold,
+    }
+}
+
 /// The hold until which a token of this stage cannot be tried at EX, where it has one.
 pub fn waiting_hold(
     shape: Shape,
@@ -135,7 +146,7 @@ pub fn waiting_hold(
     ensures { result ≡ specified_waiting_hold shape stage token.now older.now }
 {
     if stage == usize::from(shape.rd) {
-        let hold = operand(older, &token.asks);
+        let hold = reading(token, older);
         if hold.is_some() {
             return hold;
         }
@@ -172,12 +183,50 @@ fn oldest_staying(older: &[Option<Token>]) -> Option<u32>
     }
 }
 
+/// The token that goes out of the last stage into a unit.
+fn entering_serial(older: &[Option<Token>]) -> Option<u32>
+    ensures { result ≡ entering older.now }
+{
+    match older {
+        [] => None,
+        [None] => None,
+        [Some(token)] => {
+            if token.asks.unit.is_some() && token.cell.hold.is_none() {
+                Some(token.cell.serial)
+            } else {
+                None
+            }
+        }
+        [_, rest @ ..] => entering_serial(rest),
+    }
+}
+
+/// The oldest token that is outstanding or not retired by the end of the row.
+fn oldest_behind(older: &[Option<Token>]) -> Option<u32>
+    ensures { result ≡ or_else (entering older.now) (staying older.now) }
+{
+    match entering_serial(older) {
+        None => oldest_staying(older),
+        serial => serial,
+    }
+}
+
+/// The oldest serial that is outstanding or not retired by the end of the row.
+fn oldest_left(token: &Token, older: &[Option<Token>]) -> Option<u32>
+    ensures { result ≡ left_behind token.now older.now }
+{
+    match token.beside.left {
+        None => oldest_behind(older),
+        left => left,
+    }
+}
+
 /// The hold of a token that is due to stop.
 fn drain(token: &Token, older: &[Option<Token>]) -> Option<Hold>
     ensures { result ≡ drain_hold token.now older.now }
 {
     if stop_of(token).is_some() {
-        oldest_staying(older).map(|serial| Hold::Drain(serial))
+        oldest_left(token, older).map(|serial| Hold::Drain(serial))
     } else {
         None
     }
@@ -213,6 +262,16 @@ fn tail(token: &Token) -> Option<Hold>
         None
     } else {
         Some(Hold::Tail(token.tail))
+    }
+}
+
+/// The hold of a token in the last stage: its module is not done, or it cannot retire beside the units.
+fn retiring(token: &Token) -> Option<Hold>
+    ensures { result ≡ ending_hold token.now }
+{
+    match tail(token) {
+        None => token.beside.port,
+        hold => hold,
     }
 }
 
@@ -255,7 +314,7 @@ fn first_hold(shape: Shape, stage: usize, token: &Token, older: &[Option<Token>]
         }
     }
     if is_last(shape, stage) {
-        tail(token)
+        retiring(token)
     } else {
         None
     }

@@ -1,10 +1,12 @@
 //! The tokens of a pipeline's stages: the holds that they show, and which of them a settled successor flushes.
 #![tactic(auto)]
 
+mod board;
 mod deciding;
 mod flushing;
 mod token;
 
-pub use deciding::{decide, waiting_hold};
+pub use board::{does_spawn, does_touch};
+pub use deciding::{decide, is_last, waiting_hold};
 pub use flushing::{Shown, Turn, fetch_following, flush, remains, stop_in};
-pub use token::{Token, access_of, commit_of, stop_of};
+pub use token::{Beside, Token, access_of, commit_of, stop_of};

@@ -5,8 +5,19 @@ use ix_eval::Inputs;
 use rv_asks::Asks;
 use rv_effect::Decoded;
 use rv_seq::{Commit, StepAnswer, Stop};
-use rv_trace::Cell;
+use rv_trace::{Cell, Hold};
 use rv_tried::Trial;
+
+/// What a token meets in a row of what is outstanding beside the stages.
+#[derive(Clone, Copy, Debug, PartialEq, Eq)]
+pub struct Beside {
+    /// At RD, the least outstanding register that its instruction reads or writes, by number, 0 to 47, with the oldest serial that owes it.
+    pub board: Option<(u8, u32)>,
+    /// In the last stage, why its instruction cannot retire beside the units: its own is frozen, or another one takes the port.
+    pub port: Option<Hold>,
+    /// The oldest serial that is outstanding before the row and not written in it.
+    pub left: Option<u32>,
+}
 
 /// A cell with what its word is and what the laws of rows ask of it.
 #[derive(Clone, Copy)]
@@ -22,6 +33,8 @@ pub struct Token {
     pub wait: u8,
     /// For how many rows its module still goes on in the last stage.
     pub tail: u8,
+    /// What it meets beside the stages.
+    pub beside: Beside,
 }
 
 /// The stop that a token makes, where it has been tried and makes one.

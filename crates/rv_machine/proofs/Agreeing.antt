@@ -45,15 +45,24 @@ if_so : (c : Bool) (z : Option Hold) → c ≡ true → (if c then z else None) 
 if_so true z p q = q
 if_so false z p q = cc
 
+-- where nothing is left behind no older token stays
+none_stays : (t : Token) (older : Slots) → left_behind t older ≡ None → staying older ≡ None
+none_stays t older h = by_case t.beside.left (entering older) h where
+  by_case : (a b : Option ℕ) → or_else a (or_else b (staying older)) ≡ None → staying older ≡ None
+  by_case None None q = q
+  by_case None (Some j) q = cc
+  by_case (Some i) b q = cc
+
 -- what stops the run has no older token that stays
 no_drain : (k : Setting) (stage : ℕ) (t : Token) (older : Slots) → stops_now (shape_of k) stage t older ≡ true → staying older ≡ None
 no_drain k stage t older n = by_case (stage == (shape_of k).ex) (is_some (stop_of t)) refl refl (own_hold (shape_of k) stage t older) refl n where
   by_case : (b d : Bool) → (stage == (shape_of k).ex) ≡ b → is_some (stop_of t) ≡ d → (o : Option Hold) → own_hold (shape_of k) stage t older ≡ o → (b && d && is_none o) ≡ true → staying older ≡ None
   by_case true true e w None q y =
-      drain_none (staying older)
-      (if_so (is_some (stop_of t)) (drain (staying older)) w
+      none_stays t older
+      (drain_none (left_behind t older)
+      (if_so (is_some (stop_of t)) (drain (left_behind t older)) w
       (if_so (stage == (shape_of k).ex) (drain_hold t older) e
-      (or_else_none (if stage == (shape_of k).ex then drain_hold t older else None) _ (or_else_none_b (waiting_hold (shape_of k) stage t older) _ q))))
+      (or_else_none (if stage == (shape_of k).ex then drain_hold t older else None) _ (or_else_none_b (waiting_hold (shape_of k) stage t older) _ q)))))
   by_case true true e w (Some h) q y = cc
   by_case true false e w o q y = cc
   by_case false d e w o q y = cc

@@ -194,16 +194,16 @@ module _ (k : Setting) (ready : IsReady k) (earlier : List Row) (m : Machine) (i
   ranged = subst (λ (s : Arch). (reg : ℕ) → slice_index s.x reg < 2 ^ 32) (sym inv.arch) (ready.words r)
 
   read_placed : Placed k r 0 (read_by k m)
-  read_placed = reading_placed k ready m.arch.x (owed_by k m) r 0 filled ranged filled_placed
+  read_placed = reading_placed k ready m.arch.x (owed_by k m) (outstanding_in k m) r 0 filled ranged filled_placed
 
   read_read : Read k (run k r).x 0 (read_by k m)
-  read_read = subst (λ (s : Arch). Read k s.x 0 (read_by k m)) inv.arch (reading_read k m.arch.x (owed_by k m) 0 filled)
+  read_read = subst (λ (s : Arch). Read k s.x 0 (read_by k m)) inv.arch (reading_read k m.arch.x (owed_by k m) (outstanding_in k m) 0 filled)
 
   -- past stage 0 the slots are those from before the row
   read_from : (n : ℕ) → Alike (drop (suc n) m.slots) (drop (suc n) (read_by k m))
   read_from n =
       subst (λ l. Alike l (drop (suc n) (read_by k m))) (drop_filled n (new_by k m) m.slots)
-      (alike_drop (suc n) filled (read_by k m) (reading_alike (shape_of k) m.arch.x (owed_by k m) 0 filled))
+      (alike_drop (suc n) filled (read_by k m) (reading_alike (shape_of k) m.arch.x (owed_by k m) (outstanding_in k m) 0 filled))
 
   future_there : IsFuture k r m.future (drop (suc (shape_of k).ex) (read_by k m))
   future_there = alike_future k r m.future (drop (suc (shape_of k).ex) m.slots) (drop (suc (shape_of k).ex) (read_by k m)) (read_from (shape_of k).ex) inv.future
@@ -242,7 +242,7 @@ module _ (k : Setting) (ready : IsReady k) (earlier : List Row) (m : Machine) (i
   -- the slots are alike from the fetch to the loads
   pub loaded_alike : Alike filled (loaded_by k m)
   loaded_alike =
-      alike_trans filled (read_by k m) (loaded_by k m) (reading_alike (shape_of k) m.arch.x (owed_by k m) 0 filled)
+      alike_trans filled (read_by k m) (loaded_by k m) (reading_alike (shape_of k) m.arch.x (owed_by k m) (outstanding_in k m) 0 filled)
       (alike_trans (read_by k m) tried_slots (loaded_by k m) (trying_alike (tree_of k) (shape_of k) m.future m.arch.mem 0 (read_by k m))
       (alike_trans tried_slots (held_by k m) (loaded_by k m) (decided_alike (shape_of k) 0 tried_slots) (loading_alike (tree_of k) (shape_of k) m.arch.mem 0 (held_by k m))))
 

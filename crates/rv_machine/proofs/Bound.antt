@@ -91,14 +91,14 @@ empty_waiting k stage t older e = rw (empty_operand older t.asks e, empty_custom
 
 -- the holds of a token with no older one: that of the memory, and that of its module
 abbrev last_holds : Shape → ℕ → Token → Option Hold
-last_holds k stage t = or_else (if stage == k.mem then memory_hold t else None) (if suc stage == k.stages then tail_hold t else None)
+last_holds k stage t = or_else (if stage == k.mem then memory_hold t else None) (if suc stage == k.stages then ending_hold t else None)
 
 empty_own : (k : Shape) (stage : ℕ) (t : Token) (older : Slots) → count older ≡ 0 → own_hold k stage t older ≡ last_holds k stage t
 empty_own k stage t older e =
-    ap (λ o. or_else o (or_else (if stage == k.ex then drain_hold t older else None) (or_else (if stage == k.mem then or_else (memory_hold t) (store_hold older t.asks) else None) (if suc stage == k.stages then tail_hold t else None)))) (empty_waiting k stage t older e)
-    ∙ ap (λ o. or_else (if stage == k.ex then o else None) (or_else (if stage == k.mem then or_else (memory_hold t) (store_hold older t.asks) else None) (if suc stage == k.stages then tail_hold t else None))) (empty_drain t older e)
-    ∙ ap (λ o. or_else o (or_else (if stage == k.mem then or_else (memory_hold t) (store_hold older t.asks) else None) (if suc stage == k.stages then tail_hold t else None))) (if_same (stage == k.ex))
-    ∙ ap (λ o. or_else (if stage == k.mem then o else None) (if suc stage == k.stages then tail_hold t else None)) (ap (λ o. or_else (memory_hold t) o) (empty_store older t.asks e) ∙ right (memory_hold t)) where
+    ap (λ o. or_else o (or_else (if stage == k.ex then drain_hold t older else None) (or_else (if stage == k.mem then or_else (memory_hold t) (store_hold older t.asks) else None) (if suc stage == k.stages then ending_hold t else None)))) (empty_waiting k stage t older e)
+    ∙ ap (λ o. or_else (if stage == k.ex then o else None) (or_else (if stage == k.mem then or_else (memory_hold t) (store_hold older t.asks) else None) (if suc stage == k.stages then ending_hold t else None))) (empty_drain t older e)
+    ∙ ap (λ o. or_else o (or_else (if stage == k.mem then or_else (memory_hold t) (store_hold older t.asks) else None) (if suc stage == k.stages then ending_hold t else None))) (if_same (stage == k.ex))
+    ∙ ap (λ o. or_else (if stage == k.mem then o else None) (if suc stage == k.stages then ending_hold t else None)) (ap (λ o. or_else (memory_hold t) o) (empty_store older t.asks e) ∙ right (memory_hold t)) where
       right : (o : Option Hold) → or_else o None ≡ o
       right None = refl
       right (Some h) = refl

@@ -195,13 +195,19 @@ not_due k stage t older h n e = by_case (stage == k.ex) (is_some (stop_of t)) (i
 pub no_waiting : (k : Shape) (stage : ℕ) (t : Token) (older : Slots) → own_hold k stage t older ≡ None → waiting_hold k stage t older ≡ None
 no_waiting k stage t older h = or_else_none (waiting_hold k stage t older) _ h
 
+waits_reading : (k : Shape) (stage : ℕ) (t : Token) (older : Slots) → waiting_hold k stage t older ≡ None → stage ≡ k.rd → reading_hold t older ≡ None
+waits_reading k stage t older h e = if_then (stage == k.rd) (reading_hold t older) (same_test stage k.rd e) (or_else_none (if stage == k.rd then reading_hold t older else None) _ h)
+
 pub waits_operand : (k : Shape) (stage : ℕ) (t : Token) (older : Slots) → waiting_hold k stage t older ≡ None → stage ≡ k.rd → operand_hold older t.asks ≡ None
-waits_operand k stage t older h e = if_then (stage == k.rd) (operand_hold older t.asks) (same_test stage k.rd e) (or_else_none (if stage == k.rd then operand_hold older t.asks else None) _ h)
+waits_operand k stage t older h e = or_else_none (operand_hold older t.asks) (board_hold t older) (waits_reading k stage t older h e)
+
+pub waits_board : (k : Shape) (stage : ℕ) (t : Token) (older : Slots) → waiting_hold k stage t older ≡ None → stage ≡ k.rd → board_hold t older ≡ None
+waits_board k stage t older h e = or_else_none_b (operand_hold older t.asks) (board_hold t older) (waits_reading k stage t older h e)
 
 pub waits_ex : (k : Shape) (stage : ℕ) (t : Token) (older : Slots) → waiting_hold k stage t older ≡ None → stage ≡ k.ex → or_else (custom_hold older t.asks) (late_hold older) ≡ None
 waits_ex k stage t older h e =
     if_then (stage == k.ex) (or_else (custom_hold older t.asks) (late_hold older)) (same_test stage k.ex e)
-    (or_else_none_b (if stage == k.rd then operand_hold older t.asks else None) (if stage == k.ex then or_else (custom_hold older t.asks) (late_hold older) else None) h)
+    (or_else_none_b (if stage == k.rd then reading_hold t older else None) (if stage == k.ex then or_else (custom_hold older t.asks) (late_hold older) else None) h)
 
 pub waits_custom : (k : Shape) (stage : ℕ) (t : Token) (older : Slots) → waiting_hold k stage t older ≡ None → stage ≡ k.ex → custom_hold older t.asks ≡ None
 waits_custom k stage t older h e = or_else_none (custom_hold older t.asks) (late_hold older) (waits_ex k stage t older h e)
@@ -210,7 +216,7 @@ pub waits_late : (k : Shape) (stage : ℕ) (t : Token) (older : Slots) → waiti
 waits_late k stage t older h e = or_else_none_b (custom_hold older t.asks) (late_hold older) (waits_ex k stage t older h e)
 
 -- the rest of a token's own holds
-own_rest : (k : Shape) (stage : ℕ) (t : Token) (older : Slots) → own_hold k stage t older ≡ None → or_else (if stage == k.mem then or_else (memory_hold t) (store_hold older t.asks) else None) (if suc stage == k.stages then tail_hold t else None) ≡ None
+own_rest : (k : Shape) (stage : ℕ) (t : Token) (older : Slots) → own_hold k stage t older ≡ None → or_else (if stage == k.mem then or_else (memory_hold t) (store_hold older t.asks) else None) (if suc stage == k.stages then ending_hold t else None) ≡ None
 own_rest k stage t older h =
     or_else_none_b (if stage == k.ex then drain_hold t older else None) _ (or_else_none_b (waiting_hold k stage t older) _ h)
 
@@ -218,9 +224,15 @@ pub no_store : (k : Shape) (stage : ℕ) (t : Token) (older : Slots) → own_hol
 no_store k stage t older h e =
     or_else_none_b (memory_hold t) (store_hold older t.asks)
     (if_then (stage == k.mem) (or_else (memory_hold t) (store_hold older t.asks)) (same_test stage k.mem e)
-    (or_else_none (if stage == k.mem then or_else (memory_hold t) (store_hold older t.asks) else None) (if suc stage == k.stages then tail_hold t else None) (own_rest k stage t older h)))
+    (or_else_none (if stage == k.mem then or_else (memory_hold t) (store_hold older t.asks) else None) (if suc stage == k.stages then ending_hold t else None) (own_rest k stage t older h)))
+
+ends : (k : Shape) (stage : ℕ) (t : Token) (older : Slots) → own_hold k stage t older ≡ None → suc stage ≡ k.stages → ending_hold t ≡ None
+ends k stage t older h e =
+    if_then (suc stage == k.stages) (ending_hold t) (same_test (suc stage) k.stages e)
+    (or_else_none_b (if stage == k.mem then or_else (memory_hold t) (store_hold older t.asks) else None) (if suc stage == k.stages then ending_hold t else None) (own_rest k stage t older h))
 
 pub no_tail : (k : Shape) (stage : ℕ) (t : Token) (older : Slots) → own_hold k stage t older ≡ None → suc stage ≡ k.stages → tail_hold t ≡ None
-no_tail k stage t older h e =
-    if_then (suc stage == k.stages) (tail_hold t) (same_test (suc stage) k.stages e)
-    (or_else_none_b (if stage == k.mem then or_else (memory_hold t) (store_hold older t.asks) else None) (if suc stage == k.stages then tail_hold t else None) (own_rest k stage t older h))
+no_tail k stage t older h e = or_else_none (tail_hold t) t.beside.port (ends k stage t older h e)
+
+pub no_port : (k : Shape) (stage : ℕ) (t : Token) (older : Slots) → own_hold k stage t older ≡ None → suc stage ≡ k.stages → t.beside.port ≡ None
+no_port k stage t older h e = or_else_none_b (tail_hold t) t.beside.port (ends k stage t older h e)

@@ -49,11 +49,24 @@ custom_over x a b h =
 late_over : (a b : Slots) → Alike a b → late_hold b ≡ late_hold a
 late_over a b h = ap late (alike_oldest (λ x. x.late) a b h)
 
+least_over : (f g : ℕ → Option ℕ) (n count : ℕ) → ((m : ℕ) → f m ≡ g m) → least_from f n count ≡ least_from g n count
+least_over f g n zero h = refl
+least_over f g n (suc count) h = ap (λ o. or_else (numbered n o) (least_from f (suc n) count)) (h n) ∙ ap (λ o. or_else (numbered n (g n)) o) (least_over f g (suc n) count h)
+
+board_over : (t : Token) (a b : Slots) → Alike a b → board_hold t b ≡ board_hold t a
+board_over t a b h =
+    ap (λ o. board (lower_of t.beside.board o))
+    (least_over (spawner b t.asks) (spawner a t.asks) 0 register_count
+    (λ n. ap (λ (o : Option ℕ). if touches t.asks (register_at n) then o else None) (alike_oldest (λ x. has_target x (register_at n)) a b h)))
+
+reading_over : (t : Token) (a b : Slots) → Alike a b → reading_hold t b ≡ reading_hold t a
+reading_over t a b h = ap (λ o. or_else o (board_hold t b)) (operand_over t.asks a b h) ∙ ap (λ o. or_else (operand_hold a t.asks) o) (board_over t a b h)
+
 pub waiting_over : (k : Shape) (stage : ℕ) (t : Token) (a b : Slots) → Alike a b → waiting_hold k stage t b ≡ waiting_hold k stage t a
 waiting_over k stage t a b h =
-    ap (λ o. or_else (if stage == k.rd then o else None) (if stage == k.ex then or_else (custom_hold b t.asks) (late_hold b) else None)) (operand_over t.asks a b h)
-    ∙ ap (λ o. or_else (if stage == k.rd then operand_hold a t.asks else None) (if stage == k.ex then or_else o (late_hold b) else None)) (custom_over t.asks a b h)
-    ∙ ap (λ o. or_else (if stage == k.rd then operand_hold a t.asks else None) (if stage == k.ex then or_else (custom_hold a t.asks) o else None)) (late_over a b h)
+    ap (λ o. or_else (if stage == k.rd then o else None) (if stage == k.ex then or_else (custom_hold b t.asks) (late_hold b) else None)) (reading_over t a b h)
+    ∙ ap (λ o. or_else (if stage == k.rd then reading_hold t a else None) (if stage == k.ex then or_else o (late_hold b) else None)) (custom_over t.asks a b h)
+    ∙ ap (λ o. or_else (if stage == k.rd then reading_hold t a else None) (if stage == k.ex then or_else (custom_hold a t.asks) o else None)) (late_over a b h)
 
 -- a token's own hold, by what it asks of the older ones
 abbrev own_by : Shape → ℕ → Token → Option Hold → Option ℕ → Option ℕ → Option Hold
@@ -61,13 +74,13 @@ own_by k stage t waiting stays stores =
     or_else waiting
     (or_else (if stage == k.ex then (if is_some (stop_of t) then drain stays else None) else None)
     (or_else (if stage == k.mem then or_else (memory_hold t) (if t.asks.loads then store_ahead stores else None) else None)
-    (if suc stage == k.stages then tail_hold t else None)))
+    (if suc stage == k.stages then ending_hold t else None)))
 
-own_over : (k : Shape) (stage : ℕ) (t : Token) (a b : Slots) → Alike a b → staying b ≡ staying a → own_hold k stage t b ≡ own_hold k stage t a
+own_over : (k : Shape) (stage : ℕ) (t : Token) (a b : Slots) → Alike a b → left_behind t b ≡ left_behind t a → own_hold k stage t b ≡ own_hold k stage t a
 own_over k stage t a b h s =
-    ap (λ o. own_by k stage t o (staying b) (oldest does_store b)) (waiting_over k stage t a b h)
+    ap (λ o. own_by k stage t o (left_behind t b) (oldest does_store b)) (waiting_over k stage t a b h)
     ∙ ap (λ o. own_by k stage t (waiting_hold k stage t a) o (oldest does_store b)) s
-    ∙ ap (λ o. own_by k stage t (waiting_hold k stage t a) (staying a) o) (alike_oldest (λ x. x.stores) a b h)
+    ∙ ap (λ o. own_by k stage t (waiting_hold k stage t a) (left_behind t a) o) (alike_oldest (λ x. x.stores) a b h)
 
 -- but at EX it asks for no trial
 own_tried : (k : Shape) (stage : ℕ) (x : ExtensionTree) (memory : List ℕ) (i : State) (t : Token) (older : Slots) → (stage == k.ex) ≡ false → own_hold k stage (tried_with x memory i t) older ≡ own_hold k stage t older
@@ -77,7 +90,7 @@ own_tried k stage x memory i t older e =
       by_test u b =
           or_else (waiting_hold k stage u older)
           (or_else (if b then drain_hold u older else None)
-          (or_else (if stage == k.mem then or_else (memory_hold u) (store_hold older u.asks) else None) (if suc stage == k.stages then tail_hold u else None)))
+          (or_else (if stage == k.mem then or_else (memory_hold u) (store_hold older u.asks) else None) (if suc stage == k.stages then ending_hold u else None)))
 
 -- ---- holds after the loads
 
@@ -92,6 +105,22 @@ loading_staying x k memory stage (Some t ∷ u ∷ older) = by_case (is_loading 
   by_case : (b : Bool) → staying ((if b then Some (tried_with x memory t.inputs t) else Some t) ∷ loading x k memory (suc stage) (u ∷ older)) ≡ or_else (staying (loading x k memory (suc stage) (u ∷ older))) (Some t.cell.serial)
   by_case true = refl
   by_case false = refl
+
+loading_entering : (x : ExtensionTree) (k : Shape) (memory : List ℕ) (stage : ℕ) (slots : Slots) → entering (loading x k memory stage slots) ≡ entering slots
+loading_entering x k memory stage [] = refl
+loading_entering x k memory stage (None ∷ []) = refl
+loading_entering x k memory stage (Some t ∷ []) = by_case (is_loading k stage t) where
+  by_case : (b : Bool) → entering ((if b then Some (tried_with x memory t.inputs t) else Some t) ∷ []) ≡ (if is_some t.asks.unit && is_none t.cell.hold then Some t.cell.serial else None)
+  by_case true = refl
+  by_case false = refl
+loading_entering x k memory stage (None ∷ u ∷ older) = loading_entering x k memory (suc stage) (u ∷ older)
+loading_entering x k memory stage (Some t ∷ u ∷ older) = loading_entering x k memory (suc stage) (u ∷ older)
+
+-- what is left of these
+loading_left : (x : ExtensionTree) (k : Shape) (memory : List ℕ) (stage : ℕ) (t : Token) (slots : Slots) → left_behind t (loading x k memory stage slots) ≡ left_behind t slots
+loading_left x k memory stage t slots =
+    ap (λ o. or_else t.beside.left (or_else o (staying (loading x k memory stage slots)))) (loading_entering x k memory stage slots)
+    ∙ ap (λ o. or_else t.beside.left (or_else (entering slots) o)) (loading_staying x k memory stage slots)
 
 loading_mem : (k : Shape) (stage : ℕ) (t : Token) → is_loading k stage t ≡ true → (stage ≡ k.mem) × (is_some t.cell.hold ≡ false) × (t.asks.loads ≡ true)
 loading_mem k stage t h = by_case (stage == k.mem) t.cell.hold t.asks.loads refl refl refl h where
@@ -112,7 +141,7 @@ never_stops true b c h = cc
 module _ (k : Shape) (x : ExtensionTree) (memory : List ℕ) (lt : k.ex < k.mem) where
   stops_loaded : (stage : ℕ) (t : Token) (older : Slots) (b : Bool) → is_loading k stage t ≡ b → stops_now k stage (if b then tried_with x memory t.inputs t else t) (loading x k memory (suc stage) older) ≡ stops_now k stage t older
   stops_loaded stage t older false e =
-      ap (λ o. (stage == k.ex) && is_some (stop_of t) && is_none o) (own_over k stage t older (loading x k memory (suc stage) older) (loading_alike x k memory (suc stage) older) (loading_staying x k memory (suc stage) older))
+      ap (λ o. (stage == k.ex) && is_some (stop_of t) && is_none o) (own_over k stage t older (loading x k memory (suc stage) older) (loading_alike x k memory (suc stage) older) (loading_left x k memory (suc stage) t older))
   stops_loaded stage t older true e =
       let n = not_ex stage k.ex k.mem (loading_mem k stage t e).0 lt in
       never_stops (stage == k.ex) (is_some (stop_of (tried_with x memory t.inputs t))) (is_none (own_hold k stage (tried_with x memory t.inputs t) (loading x k memory (suc stage) older))) n
@@ -121,7 +150,7 @@ module _ (k : Shape) (x : ExtensionTree) (memory : List ℕ) (lt : k.ex < k.mem)
   own_loaded : (stage : ℕ) (t : Token) (older : Slots) (b : Bool) → is_loading k stage t ≡ b → own_hold k stage (if b then tried_with x memory t.inputs t else t) (loading x k memory (suc stage) older) ≡ own_hold k stage t older
   own_loaded stage t older b e =
       trial_none b e
-      ∙ own_over k stage t older (loading x k memory (suc stage) older) (loading_alike x k memory (suc stage) older) (loading_staying x k memory (suc stage) older) where
+      ∙ own_over k stage t older (loading x k memory (suc stage) older) (loading_alike x k memory (suc stage) older) (loading_left x k memory (suc stage) t older) where
         trial_none : (b : Bool) → is_loading k stage t ≡ b → own_hold k stage (if b then tried_with x memory t.inputs t else t) (loading x k memory (suc stage) older) ≡ own_hold k stage t (loading x k memory (suc stage) older)
         trial_none false q = refl
         trial_none true q = own_tried k stage x memory t.inputs t (loading x k memory (suc stage) older) (not_ex stage k.ex k.mem (loading_mem k stage t q).0 lt)

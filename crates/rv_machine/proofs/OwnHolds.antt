@@ -17,7 +17,7 @@ use Rattle.rv_asks.specs.declared.asks.Asks.{Asks}
 use Rattle.rv_waits.specs.Waits.{wait_at}
 use Rattle.rv_holds.specs.declared.token.Token.{Token}
 use Rattle.rv_holds.specs.Tokens.{Slots, or_else, stop_in, tried_stop, stop_of, tried_access, makes_access, cells_of}
-use Rattle.rv_holds.specs.Holds.{oldest, does_write, writes_late, does_store, is_late, operand, waits_for, operand_hold, custom, waits_for_custom, first_from, custom_hold, late, late_hold, waiting_hold, drain, staying, drain_hold, store_ahead, store_hold, memory_hold, tail_hold, own_hold, stops_now}
+use Rattle.rv_holds.specs.Holds.{oldest, does_write, writes_late, does_store, is_late, operand, waits_for, operand_hold, custom, waits_for_custom, first_from, custom_hold, late, late_hold, waiting_hold, board_hold, drain, staying, entering, left_behind, drain_hold, store_ahead, store_hold, memory_hold, tail_hold, ending_hold, own_hold, stops_now}
 use Rattle.rv_engine.specs.Settings.{Setting, shape_of}
 use Rattle.rv_lawful.specs.Settings as Lawful
 use Rattle.rv_lawful.specs.Sight.{asked, IsEarly}
@@ -28,6 +28,7 @@ use Rattle.rv_machine.proofs.Places.{Stood, stood, older_lower, token_of, serial
 use Rattle.rv_machine.proofs.Deciding.{same_test, test_eq, test_ne, no_waiting}
 use Rattle.rv_machine.proofs.Standing.{slice_get-drop, drop_more, stands_older, asks_at, here_of, cell_here, Has, OldestIs, oldest_is, all_three, out_drop, StayingIs, staying_is}
 use Rattle.rv_machine.proofs.Quiet.{none_unwritten}
+use Rattle.rv_machine.proofs.Idle.{alone, alone_is, quiet_unit, quiet_entering, quiet_board}
 use Rattle.rv_machine.proofs.Ordering.{operand_kind, custom_kind, late_kind, drain_kind, wait_kind, store_kind, module_kind, FirstOf, FirstFrom, joined, no_board, no_trap, no_unit, or_assoc, if_or, or_none, or_right}
 use Rattle.rv_machine.proofs.Sixteen.{customs_few}
 
@@ -424,12 +425,25 @@ module _ (k : Setting) (ready : IsReady k) (earlier : List Row) (row : Row) (see
         let same = out_older some in
         omega (arith, s, lower, p, le, same))
 
-  drain_where : IsRipe → Of 5 (if stage == (shape_of k).ex then drain_hold t older else None)
-  drain_where ripe = by_case (stage == (shape_of k).ex) (stop_of t) refl refl where
+  -- nothing is met beside the stages
+  alone_here : t.beside ≡ alone
+  alone_here = alone_is k told.outstanding stage t told.idle (quiet_unit k ready t.cell.word t.asks placed.0.asks) (told.meets stage t older rest)
+
+  left_is : left_behind t older ≡ staying older
+  left_is =
+      ap (λ b. or_else b.left (or_else (entering older) (staying older))) alone_here
+      ∙ ap (λ o. or_else o (staying older)) (quiet_entering k ready (retirements earlier) (suc stage) older placed.1)
+
+  drain_staying : IsRipe → Of 5 (if stage == (shape_of k).ex then (if is_some (stop_of t) then drain (staying older) else None) else None)
+  drain_staying ripe = by_case (stage == (shape_of k).ex) (stop_of t) refl refl where
     by_case : (b : Bool) (o : Option Stop) → (stage == (shape_of k).ex) ≡ b → stop_of t ≡ o → Of 5 (if b then (if is_some o then drain (staying older) else None) else None)
     by_case true (Some stop) e w = drain_older (test_eq stage (shape_of k).ex e) ripe stop w
     by_case true None e w = no_drain (λ j d. cc (due_word d.due.0 d.executing ripe d.due.1, w))
     by_case false o e w = no_drain (λ j d. test_ne stage (shape_of k).ex e d.executing)
+
+  drain_where : IsRipe → Of 5 (if stage == (shape_of k).ex then drain_hold t older else None)
+  drain_where ripe =
+      subst (λ o. Of 5 (if stage == (shape_of k).ex then (if is_some (stop_of t) then drain o else None) else None)) (sym left_is) (drain_staying ripe)
 
   -- Waits of the memory
 
@@ -567,6 +581,9 @@ module _ (k : Setting) (ready : IsReady k) (earlier : List Row) (row : Row) (see
   abbrev operands : Option Hold
   operands = if stage == (shape_of k).rd then operand_hold older t.asks else None
 
+  abbrev boards : Option Hold
+  boards = if stage == (shape_of k).rd then board_hold t older else None
+
   abbrev customs : Option Hold
   customs = if stage == (shape_of k).ex then custom_hold older t.asks else None
 
@@ -585,41 +602,75 @@ module _ (k : Setting) (ready : IsReady k) (earlier : List Row) (row : Row) (see
   abbrev modules : Option Hold
   modules = if suc stage == (shape_of k).stages then tail_hold t else None
 
-  waiting_is : waiting_hold (shape_of k) stage t older ≡ or_else operands (or_else customs jumps)
-  waiting_is = ap (λ o. or_else operands o) (if_or (stage == (shape_of k).ex) (custom_hold older t.asks) (late_hold older))
+  abbrev ports : Option Hold
+  ports = if suc stage == (shape_of k).stages then t.beside.port else None
 
-  waiting_none : operands ≡ None → customs ≡ None → jumps ≡ None → IsRipe
-  waiting_none a b c = waiting_is ∙ or_none operands (or_else customs jumps) a ∙ or_none customs jumps b ∙ c
+  abbrev ends : Option Hold
+  ends = if suc stage == (shape_of k).stages then ending_hold t else None
 
-  own_order : own_hold (shape_of k) stage t older ≡ or_else operands (or_else customs (or_else jumps (or_else drains (or_else waits (or_else stores modules)))))
+  abbrev later : Option Hold
+  later = or_else drains (or_else waits (or_else stores (or_else modules ports)))
+
+  waiting_is : waiting_hold (shape_of k) stage t older ≡ or_else operands (or_else boards (or_else customs jumps))
+  waiting_is =
+      ap (λ o. or_else o (if stage == (shape_of k).ex then or_else (custom_hold older t.asks) (late_hold older) else None)) (if_or (stage == (shape_of k).rd) (operand_hold older t.asks) (board_hold t older))
+      ∙ ap (λ o. or_else (or_else operands boards) o) (if_or (stage == (shape_of k).ex) (custom_hold older t.asks) (late_hold older))
+      ∙ or_assoc operands boards (or_else customs jumps)
+
+  waiting_none : operands ≡ None → boards ≡ None → customs ≡ None → jumps ≡ None → IsRipe
+  waiting_none a w b c = waiting_is ∙ or_none operands (or_else boards (or_else customs jumps)) a ∙ or_none boards (or_else customs jumps) w ∙ or_none customs jumps b ∙ c
+
+  ends_are : ends ≡ or_else modules ports
+  ends_are = if_or (suc stage == (shape_of k).stages) (tail_hold t) t.beside.port
+
+  own_order : own_hold (shape_of k) stage t older ≡ or_else operands (or_else boards (or_else customs (or_else jumps later)))
   own_order =
-      ap (λ o. or_else (waiting_hold (shape_of k) stage t older) (or_else drains (or_else o modules))) (if_or (stage == (shape_of k).mem) (memory_hold t) (store_hold older t.asks))
-      ∙ ap (λ o. or_else (waiting_hold (shape_of k) stage t older) (or_else drains o)) (or_assoc waits stores modules)
-      ∙ ap (λ o. or_else o (or_else drains (or_else waits (or_else stores modules)))) waiting_is
-      ∙ or_assoc operands (or_else customs jumps) (or_else drains (or_else waits (or_else stores modules)))
-      ∙ ap (λ o. or_else operands o) (or_assoc customs jumps (or_else drains (or_else waits (or_else stores modules))))
+      ap (λ o. or_else (waiting_hold (shape_of k) stage t older) (or_else drains (or_else o ends))) (if_or (stage == (shape_of k).mem) (memory_hold t) (store_hold older t.asks))
+      ∙ ap (λ o. or_else (waiting_hold (shape_of k) stage t older) (or_else drains o)) (or_assoc waits stores ends)
+      ∙ ap (λ o. or_else (waiting_hold (shape_of k) stage t older) (or_else drains (or_else waits (or_else stores o)))) ends_are
+      ∙ ap (λ o. or_else o later) waiting_is
+      ∙ or_assoc operands (or_else boards (or_else customs jumps)) later
+      ∙ ap (λ o. or_else operands o) (or_assoc boards (or_else customs jumps) later)
+      ∙ ap (λ o. or_else operands (or_else boards o)) (or_assoc customs jumps later)
 
   abbrev From : ℕ → Option Hold → Type 0
   From n o = FirstFrom (judged k) earlier row stage t.cell n o
 
-  from_modules : From 8 modules
-  from_modules = subst (λ o. From 8 o) (or_right modules) (joined (judged k) earlier row stage t.cell 8 modules None module_where (λ e h le own. no_unit (judged k) ready.quiet.asks earlier row stage t.cell h le own))
+  -- where nothing is spawned neither the scoreboard nor a unit holds a cell
+  boards_none : boards ≡ None
+  boards_none = by_case (stage == (shape_of k).rd) where
+    by_case : (b : Bool) → (if b then board_hold t older else None) ≡ None
+    by_case true = quiet_board k ready (retirements earlier) (suc stage) t older alone_here placed.1
+    by_case false = refl
 
-  from_drains : IsRipe → From 5 (or_else drains (or_else waits (or_else stores modules)))
+  ports_none : ports ≡ None
+  ports_none = ap (λ b. if suc stage == (shape_of k).stages then b.port else None) alone_here ∙ by_case (suc stage == (shape_of k).stages) where
+    by_case : (b : Bool) → ◌≡◌ {A = Option Hold} (if b then None else None) None
+    by_case true = refl
+    by_case false = refl
+
+  board_where : Of 1 boards
+  board_where = subst (λ o. Of 1 o) (sym boards_none) (no_board (judged k) ready.quiet.asks earlier row stage t.cell)
+
+  from_ports : From 9 ports
+  from_ports = subst (λ o. From 9 o) (sym ports_none) (λ h le own. no_unit (judged k) ready.quiet.asks earlier row stage t.cell h le own)
+
+  from_drains : IsRipe → From 5 later
   from_drains ripe =
-      joined (judged k) earlier row stage t.cell 5 drains (or_else waits (or_else stores modules)) (drain_where ripe)
-      (λ d. joined (judged k) earlier row stage t.cell 6 waits (or_else stores modules) wait_where
-      (λ w. joined (judged k) earlier row stage t.cell 7 stores modules store_where (λ s. from_modules)))
+      joined (judged k) earlier row stage t.cell 5 drains (or_else waits (or_else stores (or_else modules ports))) (drain_where ripe)
+      (λ d. joined (judged k) earlier row stage t.cell 6 waits (or_else stores (or_else modules ports)) wait_where
+      (λ w. joined (judged k) earlier row stage t.cell 7 stores (or_else modules ports) store_where
+      (λ s. joined (judged k) earlier row stage t.cell 8 modules ports module_where (λ e. from_ports))))
 
   own_is : From 0 (own_hold (shape_of k) stage t older)
   own_is =
       subst (λ o. From 0 o) (sym own_order)
-      (joined (judged k) earlier row stage t.cell 0 operands (or_else customs (or_else jumps (or_else drains (or_else waits (or_else stores modules))))) operand_where
-      (λ a. joined (judged k) earlier row stage t.cell 1 None (or_else customs (or_else jumps (or_else drains (or_else waits (or_else stores modules))))) (no_board (judged k) ready.quiet.asks earlier row stage t.cell)
-      (λ n. joined (judged k) earlier row stage t.cell 2 customs (or_else jumps (or_else drains (or_else waits (or_else stores modules)))) custom_where
-      (λ b. joined (judged k) earlier row stage t.cell 3 jumps (or_else drains (or_else waits (or_else stores modules))) late_where
-      (λ c. joined (judged k) earlier row stage t.cell 4 None (or_else drains (or_else waits (or_else stores modules))) (no_trap (judged k) earlier row stage t.cell)
-      (λ m. from_drains (waiting_none a b c)))))))
+      (joined (judged k) earlier row stage t.cell 0 operands (or_else boards (or_else customs (or_else jumps later))) operand_where
+      (λ a. joined (judged k) earlier row stage t.cell 1 boards (or_else customs (or_else jumps later)) board_where
+      (λ n. joined (judged k) earlier row stage t.cell 2 customs (or_else jumps later) custom_where
+      (λ b. joined (judged k) earlier row stage t.cell 3 jumps later late_where
+      (λ c. joined (judged k) earlier row stage t.cell 4 None later (no_trap (judged k) earlier row stage t.cell)
+      (λ m. from_drains (waiting_none a n b c)))))))
 
   pub own_free : (h : Hold) → own_hold (shape_of k) stage t older ≡ Some h → OwnHold (judged k) earlier row stage t.cell h × ((g : Hold) → OwnHold (judged k) earlier row stage t.cell g → ComesFirst h g)
   own_free h e = let x : From 0 (Some h) = subst (λ o. From 0 o) e own_is in (x.0, λ g o. x.1 g (omega arith) o)

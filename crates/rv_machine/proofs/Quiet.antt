@@ -21,7 +21,6 @@ use Rattle.rv_seq.specs.Steps.{word_at, own_effect, whole_effect, unless_stopped
 use Rattle.rv_seq.specs.Stops.{stop_of}
 use Rattle.rv_tried.specs.Parts.{shown_index, shown_x, shown_customs, shown, native_index, native_x, native_customs, native}
 use Rattle.rv_trace.specs.declared.row.Row.{Row}
-use Rattle.rv_engine.specs.Rows.{arch_after}
 use Rattle.rv_lawful.specs.Settings.{Setting}
 use Rattle.rv_lawful.specs.Sight.{SpawnsNothing}
 use Rattle.rv_lawful.specs.LawfulTrace.{serial_in, IsUnwritten}
@@ -82,6 +81,11 @@ no_target a quiet (Custom c) h = false≢true (sym (quiet.customs c) ∙ h)
 
 pub no_entry : (a : Asks) → SpawnsNothing a → is_some a.unit ≡ true → ⊥
 no_entry a quiet h = false≢true (sym (ap (λ o. is_some o) quiet.unit) ∙ h)
+
+-- the state after what is retired
+abbrev pub arch_after : Arch → Option (ℕ × Commit) → Arch
+arch_after s None = s
+arch_after s (Some r) = applied r.1 s
 
 module _ (k : Setting) (quiet : (word : ℕ) → SpawnsNothing (k.asks word)) where
   none_enters : (o : Option (ℕ × Commit)) → entering k o ≡ None

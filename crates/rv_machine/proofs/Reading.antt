@@ -15,6 +15,8 @@ use Rattle.rv_holds.specs.declared.token.Token.{Token}
 use Rattle.rv_holds.specs.Tokens.{Slots, or_else, makes_access, cells_of}
 use Rattle.rv_holds.specs.Holds.{oldest, shown, held, decided}
 use Rattle.rv_holds.specs.Flushing.{cleared}
+use Rattle.rv_holds.specs.declared.token.Beside.{Beside}
+use Rattle.rv_engine.specs.Owing.{Outstanding, beside_of}
 use Rattle.rv_engine.specs.Settings.{Setting, shape_of}
 use Rattle.rv_engine.specs.Rows.{with_inputs, operands, with_operands, reading, tried_with, seeing, is_ripe, trying, is_loading, loading}
 use Rattle.rv_machine.specs.Placed.{judged, run, count, expected, IsTried, IsPlaced, Placed, IsReady, Serials}
@@ -100,10 +102,10 @@ alike_serials rows r (Some t ∷ a) (Some u ∷ b) h s = (
 pub alike_self : (t : Token) → IsAlike t t
 alike_self t = record { serial = refl; at = refl; word = refl; asks = refl; tail = refl }
 
-pub reading_alike : (k : Shape) (x : List ℕ) (owed stage : ℕ) (slots : Slots) → Alike slots (reading k x owed stage slots)
-reading_alike k x owed stage [] = tt
-reading_alike k x owed stage (None ∷ older) = (tt, reading_alike k x owed (suc stage) older)
-reading_alike k x owed stage (Some t ∷ older) = (record { serial = refl; at = refl; word = refl; asks = refl; tail = refl }, reading_alike k x owed (suc stage) older)
+pub reading_alike : (k : Shape) (x : List ℕ) (owed : ℕ) (o : Outstanding) (stage : ℕ) (slots : Slots) → Alike slots (reading k x owed o stage slots)
+reading_alike k x owed o stage [] = tt
+reading_alike k x owed o stage (None ∷ older) = (tt, reading_alike k x owed o (suc stage) older)
+reading_alike k x owed o stage (Some t ∷ older) = (record { serial = refl; at = refl; word = refl; asks = refl; tail = refl }, reading_alike k x owed o (suc stage) older)
 
 trial_alike : (x : ExtensionTree) (memory : List ℕ) (i : State) (t : Token) (b : Bool) → AlikeSlot (Some t) (if b then Some (tried_with x memory i t) else Some t)
 trial_alike x memory i t true = record { serial = refl; at = refl; word = refl; asks = refl; tail = refl }
@@ -176,9 +178,9 @@ placed_alike k r stage older later t h i =
 -- ---- reading
 
 -- past RD nothing is read
-read_one : (k : Setting) (ready : IsReady k) (x : List ℕ) (ranged : (reg : ℕ) → slice_index x reg < 2 ^ 32) (wait p address stage : ℕ) (older : Slots) (t : Token) (b : Bool) → (stage == (shape_of k).rd) ≡ b → IsPlaced k p address stage older t
-    → IsPlaced k p address stage older (with_inputs (if b then operands x t.inputs else t.inputs) wait t)
-read_one k ready x ranged wait p address stage older t false e i =
+read_one : (k : Setting) (ready : IsReady k) (x : List ℕ) (ranged : (reg : ℕ) → slice_index x reg < 2 ^ 32) (wait : ℕ) (beside : Beside) (p address stage : ℕ) (older : Slots) (t : Token) (b : Bool) → (stage == (shape_of k).rd) ≡ b → IsPlaced k p address stage older t
+    → IsPlaced k p address stage older (with_inputs (if b then operands x t.inputs else t.inputs) wait beside t)
+read_one k ready x ranged wait beside p address stage older t false e i =
     record {
       at = i.at;
       word = i.word;
@@ -191,14 +193,14 @@ read_one k ready x ranged wait p address stage older t false e i =
       first = i.first;
       second = i.second;
       untried = i.untried;
-      tried = λ trial q. same_trial k p t (with_inputs t.inputs wait t) trial refl refl (i.tried trial q);
+      tried = λ trial q. same_trial k p t (with_inputs t.inputs wait beside t) trial refl refl (i.tried trial q);
       settled = i.settled;
       clear = i.clear;
       seen = i.seen;
       gone = i.gone;
       exact = i.exact;
     }
-read_one k ready x ranged wait p address stage older t true e i =
+read_one k ready x ranged wait beside p address stage older t true e i =
     let same : stage ≡ (shape_of k).rd = test_eq stage (shape_of k).rd e in
     let w = i.words in
     record {
@@ -213,7 +215,7 @@ read_one k ready x ranged wait p address stage older t true e i =
       first = λ lt. absurd (omega (arith, same, lt));
       second = λ lt. absurd (omega (arith, same, lt));
       untried = i.untried;
-      tried = λ trial q. same_trial k p t (with_inputs (operands x t.inputs) wait t) trial refl refl (i.tried trial q);
+      tried = λ trial q. same_trial k p t (with_inputs (operands x t.inputs) wait beside t) trial refl refl (i.tried trial q);
       settled = i.settled;
       clear = i.clear;
       seen = i.seen;
@@ -221,15 +223,16 @@ read_one k ready x ranged wait p address stage older t true e i =
       exact = i.exact;
     }
 
-pub reading_placed : (k : Setting) (ready : IsReady k) (x : List ℕ) (owed r stage : ℕ) (slots : Slots) → ((reg : ℕ) → slice_index x reg < 2 ^ 32) → Placed k r stage slots → Placed k r stage (reading (shape_of k) x owed stage slots)
-reading_placed k ready x owed r stage [] ranged h = tt
-reading_placed k ready x owed r stage (None ∷ older) ranged h = (tt, reading_placed k ready x owed r (suc stage) older ranged h.1)
-reading_placed k ready x owed r stage (Some t ∷ older) ranged h =
-    let later = reading (shape_of k) x owed (suc stage) older in
-    let wait = if (stage == (shape_of k).mem) && makes_access t then owed else 0 in (
-      placed_alike k r stage older later (with_inputs (if stage == (shape_of k).rd then operands x t.inputs else t.inputs) wait t) (reading_alike (shape_of k) x owed (suc stage) older)
-          (read_one k ready x ranged wait (r + count older) (expected k r (suc stage) older) stage older t (stage == (shape_of k).rd) refl h.0),
-      reading_placed k ready x owed r (suc stage) older ranged h.1,
+pub reading_placed : (k : Setting) (ready : IsReady k) (x : List ℕ) (owed : ℕ) (o : Outstanding) (r stage : ℕ) (slots : Slots) → ((reg : ℕ) → slice_index x reg < 2 ^ 32) → Placed k r stage slots → Placed k r stage (reading (shape_of k) x owed o stage slots)
+reading_placed k ready x owed o r stage [] ranged h = tt
+reading_placed k ready x owed o r stage (None ∷ older) ranged h = (tt, reading_placed k ready x owed o r (suc stage) older ranged h.1)
+reading_placed k ready x owed o r stage (Some t ∷ older) ranged h =
+    let later = reading (shape_of k) x owed o (suc stage) older in
+    let wait = if (stage == (shape_of k).mem) && makes_access t then owed else 0 in
+    let beside = beside_of (shape_of k) o stage t.asks in (
+      placed_alike k r stage older later (with_inputs (if stage == (shape_of k).rd then operands x t.inputs else t.inputs) wait beside t) (reading_alike (shape_of k) x owed o (suc stage) older)
+          (read_one k ready x ranged wait beside (r + count older) (expected k r (suc stage) older) stage older t (stage == (shape_of k).rd) refl h.0),
+      reading_placed k ready x owed o r (suc stage) older ranged h.1,
     )
 
 -- the token of RD has the operands that this file has
@@ -241,16 +244,16 @@ abbrev pub Read : Setting → List ℕ → ℕ → Slots → Type 0
 Read k x stage [] = Unit {0}
 Read k x stage (s ∷ older) = ReadSlot k x stage s × Read k x (suc stage) older
 
-read_slot : (k : Setting) (x : List ℕ) (owed stage : ℕ) (s : Option Token) → ReadSlot k x stage (with_operands (shape_of k) x owed stage s)
-read_slot k x owed stage None = tt
-read_slot k x owed stage (Some t) = λ e. by_case (stage == (shape_of k).rd) (same_test stage (shape_of k).rd e) where
+read_slot : (k : Setting) (x : List ℕ) (owed : ℕ) (o : Outstanding) (stage : ℕ) (s : Option Token) → ReadSlot k x stage (with_operands (shape_of k) x owed o stage s)
+read_slot k x owed o stage None = tt
+read_slot k x owed o stage (Some t) = λ e. by_case (stage == (shape_of k).rd) (same_test stage (shape_of k).rd e) where
   by_case : (b : Bool) → b ≡ true → ((if b then operands x t.inputs else t.inputs).rs1 ≡ slice_index x (rs1_of (if b then operands x t.inputs else t.inputs).word)) × ((if b then operands x t.inputs else t.inputs).rs2 ≡ slice_index x (rs2_of (if b then operands x t.inputs else t.inputs).word))
   by_case true h = (refl, refl)
   by_case false h = cc
 
-pub reading_read : (k : Setting) (x : List ℕ) (owed stage : ℕ) (slots : Slots) → Read k x stage (reading (shape_of k) x owed stage slots)
-reading_read k x owed stage [] = tt
-reading_read k x owed stage (s ∷ older) = (read_slot k x owed stage s, reading_read k x owed (suc stage) older)
+pub reading_read : (k : Setting) (x : List ℕ) (owed : ℕ) (o : Outstanding) (stage : ℕ) (slots : Slots) → Read k x stage (reading (shape_of k) x owed o stage slots)
+reading_read k x owed o stage [] = tt
+reading_read k x owed o stage (s ∷ older) = (read_slot k x owed o stage s, reading_read k x owed o (suc stage) older)
 
 trial_read : (k : Setting) (tree : ExtensionTree) (x memory : List ℕ) (future : List Bits) (stage : ℕ) (t : Token) (b : Bool) → ReadSlot k x stage (Some t) → ReadSlot k x stage (if b then Some (tried_with tree memory (seeing future t.inputs) t) else Some t)
 trial_read k tree x memory future stage t true h = h

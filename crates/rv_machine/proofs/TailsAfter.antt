@@ -60,6 +60,10 @@ plain_store : (o : Option ℕ) → IsPlain (store_ahead o)
 plain_store None = refl
 plain_store (Some j) = refl
 
+plain_board : (o : Option (ℕ × ℕ)) → IsPlain (board o)
+plain_board None = refl
+plain_board (Some found) = refl
+
 plain_first : (f : ℕ → Option Hold) (r n : ℕ) → ((i : ℕ) → IsPlain (f i)) → IsPlain (first_from f r n)
 plain_first f r zero p = refl
 plain_first f r (suc n) p = plain_or (f r) (first_from f (suc r) n) (p r) (plain_first f (suc r) n p)
@@ -69,9 +73,11 @@ plain_waits r older = plain_unless (r == 0) (operand r (oldest (does_write r) ol
 
 plain_waiting : (k : Shape) (stage : ℕ) (t : Token) (older : Slots) → IsPlain (waiting_hold k stage t older)
 plain_waiting k stage t older =
-    plain_or (if stage == k.rd then operand_hold older t.asks else None) (if stage == k.ex then or_else (custom_hold older t.asks) (late_hold older) else None)
-    (plain_if (stage == k.rd) (operand_hold older t.asks)
-    (plain_or (waits_for (min t.asks.first t.asks.second) older) (waits_for (max t.asks.first t.asks.second) older) (plain_waits (min t.asks.first t.asks.second) older) (plain_waits (max t.asks.first t.asks.second) older)))
+    plain_or (if stage == k.rd then reading_hold t older else None) (if stage == k.ex then or_else (custom_hold older t.asks) (late_hold older) else None)
+    (plain_if (stage == k.rd) (reading_hold t older)
+    (plain_or (operand_hold older t.asks) (board_hold t older)
+    (plain_or (waits_for (min t.asks.first t.asks.second) older) (waits_for (max t.asks.first t.asks.second) older) (plain_waits (min t.asks.first t.asks.second) older) (plain_waits (max t.asks.first t.asks.second) older))
+    (plain_board (lower_of t.beside.board (least_from (spawner older t.asks) 0 register_count)))))
     (plain_if (stage == k.ex) (or_else (custom_hold older t.asks) (late_hold older))
     (plain_or (custom_hold older t.asks) (late_hold older)
     (plain_first (waits_for_custom older t.asks) 0 16 (λ r. plain_if (get_or t.asks.customs r false) (custom r (oldest (writes_late r) older)) (plain_custom r (oldest (writes_late r) older)))) (plain_late (oldest is_late older))))
@@ -79,11 +85,11 @@ plain_waiting k stage t older =
 plain_own : (k : Shape) (stage : ℕ) (t : Token) (older : Slots) → (suc stage == k.stages) ≡ false → IsPlain (own_hold k stage t older)
 plain_own k stage t older e =
     plain_or (waiting_hold k stage t older) _ (plain_waiting k stage t older)
-    (plain_or (if stage == k.ex then drain_hold t older else None) _ (plain_if (stage == k.ex) (drain_hold t older) (plain_if (is_some (stop_of t)) (drain (staying older)) (plain_drain (staying older))))
-    (plain_or (if stage == k.mem then or_else (memory_hold t) (store_hold older t.asks) else None) (if suc stage == k.stages then tail_hold t else None)
+    (plain_or (if stage == k.ex then drain_hold t older else None) _ (plain_if (stage == k.ex) (drain_hold t older) (plain_if (is_some (stop_of t)) (drain (left_behind t older)) (plain_drain (left_behind t older))))
+    (plain_or (if stage == k.mem then or_else (memory_hold t) (store_hold older t.asks) else None) (if suc stage == k.stages then ending_hold t else None)
     (plain_if (stage == k.mem) (or_else (memory_hold t) (store_hold older t.asks))
     (plain_or (memory_hold t) (store_hold older t.asks) (plain_unless (t.wait == 0) (Some (H.Wait t.wait)) refl) (plain_if t.asks.loads (store_ahead (oldest does_store older)) (plain_store (oldest does_store older)))))
-    (ap (λ (b : Bool). Lawful.is_tail (if b then tail_hold t else None)) e)))
+    (ap (λ (b : Bool). Lawful.is_tail (if b then ending_hold t else None)) e)))
 
 plain_shown : (k : Shape) (stage : ℕ) (t : Token) (older : Slots) → (suc stage == k.stages) ≡ false → IsPlain (shown k stage t older)
 plain_shown k stage t older e =

@@ -222,5 +222,7 @@ pub record Inv (k : Setting) (earlier : List Row) (m : Machine) : Type 0 where
   pub fresh : (s word : ℕ) → IsWordOf (judged k) earlier s word → s < m.next
   pub retired : (s : ℕ) → is_flushed earlier s ≡ false → is_retired earlier s ≡ nat_lt (place earlier s) (retirements earlier)
   pub unflushed : (s : ℕ) → m.next ≤ s → is_flushed earlier s ≡ false
+  -- nothing is outstanding
+  pub idle : (m.entries ≡ []) × (m.owed ≡ [])
   pub state : architecture (tree_of k) (judged k) earlier ≡ run k (retirements earlier)
   pub progress : rows_without earlier + rank (shape_of k) (greatest k.waits) (owed_by k m) m.slots ≤ (shape_of k).stages + greatest k.waits + 65

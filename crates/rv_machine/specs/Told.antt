@@ -8,6 +8,7 @@ use Rattle.rv_waits.specs.Waits.{wait_at}
 use Rattle.rv_holds.specs.declared.token.Token.{Token}
 use Rattle.rv_holds.specs.Tokens.{Slots, cells_of, makes_access}
 use Rattle.rv_holds.specs.Holds.{waiting_hold, stops_now, shown}
+use Rattle.rv_engine.specs.Owing.{Outstanding, outstanding_of, beside_of}
 use Rattle.rv_engine.specs.Settings.{Setting, shape_of}
 use Rattle.rv_lawful.specs.Settings as Lawful
 use Rattle.rv_lawful.specs.LawfulTrace.{IsWordOf}
@@ -50,6 +51,10 @@ pub record Told (k : Setting) (earlier : List Row) (row : Row) (seen : Slots) : 
   pub memory : (t : Token) (older : Slots) → drop (shape_of k).mem seen ≡ Some t ∷ older → owed ≡ wait_at k.waits (Lawful.accesses_before (judged k).course (retirements earlier + count older)) - Lawful.stood (judged k) earlier t.cell.serial
   -- and for how many a module still goes on
   pub modules : (n : ℕ) (t : Token) (older : Slots) → drop n seen ≡ Some t ∷ older → t.tail + Lawful.tailed (judged k) earlier t.cell.serial ≡ t.asks.tail
+  -- what each meets beside the stages
+  pub outstanding : Outstanding
+  pub meets : (stage : ℕ) (t : Token) (older : Slots) → drop stage seen ≡ Some t ∷ older → t.beside ≡ beside_of (shape_of k) outstanding stage t.asks
+  pub idle : outstanding ≡ outstanding_of k.design [] []
   pub decided : Decided k 0 seen
   pub serials : Serials (row ∷ earlier) (retirements earlier) seen
   pub words : (s word : ℕ) → IsWordOf (judged k) (row ∷ earlier) s word → HasWord seen s word

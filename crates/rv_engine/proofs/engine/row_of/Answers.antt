@@ -1,49 +1,78 @@
-use Rattle.std.proofs.Common.{◌<◌, sym, subst, length, get_or, List, Option, ℕ, arith}
-use Rattle.std.specs.Prelude.{None}
+use Rattle.std.proofs.Common.{◌≡◌, ◌<◌, ◌≤◌, ◌∙◌, ap, sym, subst, drop, length, List, Option, None, arith}
+use Rattle.std.specs.Prelude.{IfSome}
 use Rattle.ix_bits.specs.declared.number.Bits.{Bits}
 use Rattle.ix_extension.specs.Extensions.{view_extension}
 use Rattle.rv_effect.specs.WordEffects.{AreWide}
-use Rattle.rv_seq.specs.declared.commit.Commit.{Commit}
+use Rattle.rv_unit.specs.Timed.{CanEnter}
 use Rattle.rv_holds.specs.declared.token.Token.{Token}
 use Rattle.rv_holds.specs.Tokens.{Slots}
 use Rattle.rv_holds.specs.Flushing.{turn_of, struck}
-use Rattle.rv_engine.specs.Rows.{going}
-use Rattle.rv_engine.specs.Kept.{AreFitting, IsFittingSlot, AreStoredInside}
-use Rattle.rv_engine.proofs.Fitting.{cleared_fitting, advanced_fitting, left_fitting, element_fitting, going_fitting, stored_inside}
-use Rattle.rv_engine.proofs.Widths.{early_file_wide, late_file_wide}
+use Rattle.rv_engine.specs.declared.owing.Owed.{Owed}
+use Rattle.rv_engine.specs.Owing.{Outstanding, unit_entered, outstanding_after}
+use Rattle.rv_engine.specs.Rows.{going, leaving, first_slot, file_late, file_paid, entering_of}
+use Rattle.rv_engine.specs.Kept.{AreFitting, AreWideOwed, IsWideOwed, IsLastOpen}
+use Rattle.rv_engine.proofs.Fitting.{cleared_fitting, advanced_fitting, leaving_fitting, first_fitting, drop_fitting, going_fitting, stored_inside}
+use Rattle.rv_engine.proofs.Widths.{early_file_wide, late_file_wide, paid_file_wide, paying_wide, after_wide}
+use Rattle.rv_engine.proofs.Opening.{cleared_open, leaving_open, struck_few}
 use Rattle.rv_engine.proofs.engine.row_of.Goals as goal
 
-pub retire-requires : goal.retire-requires
-retire-requires c =
-    let x = view_extension c.args.design.now.extension in
-    let turn = turn_of c.args.design.now.sheet.shape c.args.front.now.fetch c.prepare-next.new.slots in
-    let seen : AreFitting x c.flush-shown.new.slots =
-    subst (λ (z : Slots). AreFitting x z) (sym c.flush-shown.ensures.slots) (cleared_fitting x (struck turn) c.prepare-next.new.slots c.prepare-next.ensures.fitting) in
-    let left : IsFittingSlot x (going c.last.result.now) = left_fitting x c.flush-shown.new.slots (going c.last.result.now) c.last.ensures seen in
-    subst (λ (o : Option (ℕ × Commit)). AreStoredInside o) (sym c.retired_in-retired.ensures) (stored_inside x (going c.last.result.now) left)
+pub write-requires-clause-stored : goal.write-requires-clause-stored
+write-requires-clause-stored c =
+    let d = c.args.design.now in
+    let turn = turn_of d.sheet.shape c.args.front.now.fetch c.prepare-next.new.slots in
+    let seen : AreFitting d c.flush-shown.new.slots =
+    subst (λ (z : Slots). AreFitting d z) (sym c.flush-shown.ensures.slots) (cleared_fitting d (struck turn) c.prepare-next.new.slots c.prepare-next.ensures.fitting) in
+    stored_inside d (leaving None c.flush-shown.new.slots) (leaving_fitting d None c.flush-shown.new.slots tt seen)
+
+pub cycle-requires : goal.cycle-requires
+cycle-requires c =
+    let d = c.args.design.now in
+    let o = c.args.owing.now in
+    let turn = turn_of d.sheet.shape c.args.front.now.fetch c.prepare-next.new.slots in
+    let before = c.prepare-next.new.slots in
+    let slots = c.flush-shown.new.slots in
+    let a = d.sheet.shape.lawful.memory_inside in
+    let long = c.prepare-next.ensures.stages in
+    let few : struck turn ≤ length before = struck_few d.sheet.shape c.args.front.now.fetch before in
+    let some : 0 < length slots = let e = c.flush-shown.auto.slots in omega (arith, e, long, a) in
+    let seen : AreFitting d slots = subst (λ (z : Slots). AreFitting d z) (sym c.flush-shown.ensures.slots) (cleared_fitting d (struck turn) before c.prepare-next.ensures.fitting) in
+    let opened : IsLastOpen o slots = subst (λ (z : Slots). IsLastOpen o z) (sym c.flush-shown.ensures.slots) (cleared_open o (struck turn) before few c.prepare-next.ensures.open) in
+    let enter : c.entering_in.result ≡ entering_of (leaving None slots) = c.entering_in.ensures ∙ ap (λ (s : Option Token). entering_of s) c.last-2.ensures in
+    subst (λ e. CanEnter o.lasts o.entries (unit_entered e)) (sym enter) (leaving_open d o c.requires.owing.lasts None slots some seen opened)
 
 pub returns-clause-future : goal.returns-clause-future
 returns-clause-future c =
-    let shape = c.args.design.now.sheet.shape in
-    let x = view_extension c.args.design.now.extension in
-    let turn = turn_of shape c.args.front.now.fetch c.prepare-next.new.slots in
-    let seen : AreFitting x c.flush-shown.new.slots =
-    subst (λ (z : Slots). AreFitting x z) (sym c.flush-shown.ensures.slots) (cleared_fitting x (struck turn) c.prepare-next.new.slots c.prepare-next.ensures.fitting) in
-    let left : IsFittingSlot x (going c.last-2.result.now) = left_fitting x c.flush-shown.new.slots (going c.last-2.result.now) c.last-2.ensures seen in
-    let inside : c.from.result < length c.flush-shown.new.slots =
-    omega (arith, c.from.ensures, c.flush-shown.auto.slots, c.prepare-next.ensures.stages, shape.lawful.memory_late, shape.lawful.memory_inside) in
-    let there = get_or c.flush-shown.new.slots c.from.result c.index-slots-from.result in
-    let executing : IsFittingSlot x there =
-    subst (λ (s : Option Token). IsFittingSlot x s) c.index-slots-from.is (element_fitting x c.flush-shown.new.slots c.from.result c.index-slots-from.result seen inside c.index-slots-from.is) in
-    let late : AreWide x c.put_late.new.file =
-    subst (λ (file : List Bits). AreWide x file) (sym c.put_late.ensures) (late_file_wide x (going c.last-2.result.now) c.args.future.now left c.requires.future) in
-    subst (λ (file : List Bits). AreWide x file) (sym c.put_early.ensures)
-    (early_file_wide x (going there) c.put_late.new.file (going_fitting x there executing) late)
+    let d = c.args.design.now in
+    let x = view_extension d.extension in
+    let o = c.args.owing.now in
+    let turn = turn_of d.sheet.shape c.args.front.now.fetch c.prepare-next.new.slots in
+    let slots = c.flush-shown.new.slots in
+    let seen : AreFitting d slots =
+    subst (λ (z : Slots). AreFitting d z) (sym c.flush-shown.ensures.slots) (cleared_fitting d (struck turn) c.prepare-next.new.slots c.prepare-next.ensures.fitting) in
+    let wide : IfSome c.paying-paying.result (IsWideOwed x) = subst (λ (w : Option Owed). IfSome w (IsWideOwed x)) (sym c.paying-paying.ensures) (paying_wide x o.lasts o.entries o.entries o.owed c.requires.owed) in
+    let paid = paid_file_wide x c.paying-paying.result c.args.future.now wide c.requires.future in
+    let late = late_file_wide d (leaving None slots) (file_paid c.paying-paying.result c.args.future.now) (leaving_fitting d None slots tt seen) paid in
+    let first = going_fitting d (first_slot (drop d.sheet.shape.ex slots)) (first_fitting d (drop d.sheet.shape.ex slots) (drop_fitting d d.sheet.shape.ex slots seen)) in
+    subst (λ (file : List Bits). AreWide x file) (sym c.write.ensures.future)
+    (early_file_wide d (going (first_slot (drop d.sheet.shape.ex slots))) (file_late (leaving None slots) (file_paid c.paying-paying.result c.args.future.now)) first late)
 
 pub returns-clause-fitting : goal.returns-clause-fitting
 returns-clause-fitting c =
-    let x = view_extension c.args.design.now.extension in
-    let turn = turn_of c.args.design.now.sheet.shape c.args.front.now.fetch c.prepare-next.new.slots in
-    let seen : AreFitting x c.flush-shown.new.slots =
-    subst (λ (z : Slots). AreFitting x z) (sym c.flush-shown.ensures.slots) (cleared_fitting x (struck turn) c.prepare-next.new.slots c.prepare-next.ensures.fitting) in
-    subst (λ (z : Slots). AreFitting x z) (sym c.advance.ensures) (advanced_fitting x None c.flush-shown.new.slots tt seen)
+    let d = c.args.design.now in
+    let turn = turn_of d.sheet.shape c.args.front.now.fetch c.prepare-next.new.slots in
+    let seen : AreFitting d c.flush-shown.new.slots =
+    subst (λ (z : Slots). AreFitting d z) (sym c.flush-shown.ensures.slots) (cleared_fitting d (struck turn) c.prepare-next.new.slots c.prepare-next.ensures.fitting) in
+    subst (λ (z : Slots). AreFitting d z) (sym c.advance.ensures) (advanced_fitting d None c.flush-shown.new.slots tt seen)
+
+pub returns-clause-owed : goal.returns-clause-owed
+returns-clause-owed c =
+    let d = c.args.design.now in
+    let x = view_extension d.extension in
+    let o = c.args.owing.now in
+    let turn = turn_of d.sheet.shape c.args.front.now.fetch c.prepare-next.new.slots in
+    let slots = c.flush-shown.new.slots in
+    let seen : AreFitting d slots =
+    subst (λ (z : Slots). AreFitting d z) (sym c.flush-shown.ensures.slots) (cleared_fitting d (struck turn) c.prepare-next.new.slots c.prepare-next.ensures.fitting) in
+    let enter : c.entering_in.result ≡ entering_of (leaving None slots) = c.entering_in.ensures ∙ ap (λ (s : Option Token). entering_of s) c.last-2.ensures in
+    let after : c.cycle.new.self ≡ outstanding_after o (entering_of (leaving None slots)) = c.cycle.ensures ∙ ap (λ e. outstanding_after o e) enter in
+    subst (λ (v : Outstanding). AreWideOwed x v.owed) (sym after) (after_wide d o (leaving None slots) (leaving_fitting d None slots tt seen) c.requires.owed)

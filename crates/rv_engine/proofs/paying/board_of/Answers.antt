@@ -1,0 +1,22 @@
+use Rattle.std.proofs.Common.{◌∙◌, sym, arith}
+use Rattle.rv_holds.specs.Holds.{register_count}
+use Rattle.rv_holds.proofs.Least.{count_is, least_here, least_later, least_none}
+use Rattle.rv_engine.specs.Owing.{holder_for}
+use Rattle.rv_engine.proofs.paying.board_of.Goals as goal
+
+pub returns-in-Some : goal.returns-in-Some
+returns-in-Some c =
+    let top = count_is in
+    sym (least_here (holder_for c.args.owed.now c.args.asks.now) c.loop-number.number register_count c.in-Some.serial c.holder_touched-found.result (omega (arith, c.loop-number-test.true, top)) c.holder_touched-found.ensures c.in-Some.is)
+    ∙ c.loop-number.invariant
+
+pub loop-number-preserved : goal.loop-number-preserved
+loop-number-preserved c =
+    let top = count_is in
+    sym (least_later (holder_for c.args.owed.now c.args.asks.now) c.loop-number.number register_count c.holder_touched-found.result (omega (arith, c.loop-number-test.true, top)) c.holder_touched-found.ensures c.in_default.is)
+    ∙ c.loop-number.invariant
+
+pub returns : goal.returns
+returns c =
+    let top = count_is in
+    sym (least_none (holder_for c.args.owed.now c.args.asks.now) c.loop-number.number register_count (omega (arith, c.loop-number-test.false, top))) ∙ c.loop-number.invariant
