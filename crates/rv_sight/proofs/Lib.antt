@@ -8,3 +8,5 @@ mod Quiet
 mod Seeing
 mod Sights
 mod Units
+mod Lasting
+mod Having

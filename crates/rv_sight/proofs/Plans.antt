@@ -44,16 +44,16 @@ there (x ∷ xs) (suc m) l = let r = there xs m (omega (arith, l)) in record { i
 counted : (n m : ℕ) (f : ℕ → Which) → m < n → slice_get (map f (range_with_len 0 n)) m ≡ Some (f m)
 counted n m f l = (let e : 0 + m ≡ m = omega arith in slice_get-map f (range_with_len 0 n) m ∙ ap (option_map f) (range_at 0 n m l ∙ ap (λ (z : ℕ). Some z) e))
 
-range_length : (a n : ℕ) → length (range_with_len a n) ≡ n
+pub range_length : (a n : ℕ) → length (range_with_len a n) ≡ n
 range_length a zero = refl
 range_length a (suc n) = ap suc (range_length (a + 1) n)
 
-instruction_at : (x : ExtensionTree) (n : ℕ) → n < length x.instructions → slice_get (behaviours_of x) n ≡ Some (W.Instruction n)
+pub instruction_at : (x : ExtensionTree) (n : ℕ) → n < length x.instructions → slice_get (behaviours_of x) n ≡ Some (W.Instruction n)
 instruction_at x n l =
     front_at (map instruction_number (range_with_len 0 (length x.instructions))) (map block_number (range_with_len 0 (length x.blocks))) n (W.Instruction n)
     (counted (length x.instructions) n instruction_number l)
 
-block_at : (x : ExtensionTree) (b m : ℕ) → b ≡ length x.instructions + m → m < length x.blocks → slice_get (behaviours_of x) b ≡ Some (W.Block m)
+pub block_at : (x : ExtensionTree) (b m : ℕ) → b ≡ length x.instructions + m → m < length x.blocks → slice_get (behaviours_of x) b ≡ Some (W.Block m)
 block_at x b m e l =
     let size = length-map (range_with_len 0 (length x.instructions)) instruction_number in
     let count = range_length 0 (length x.instructions) in

@@ -12,6 +12,7 @@ use Rattle.ix_plan.specs.declared.design.Design.{Design}
 use Rattle.ix_plan.specs.Units.{Slots, unit_in, first_units}
 use Rattle.ix_sheet.specs.Behaviours.{IsSpawning, IsModeOf}
 use Rattle.ix_standing.specs.Standing.{behaviours_of, is_block, Stands}
+use Rattle.rv_isa.specs.declared.base.Base.{Base}
 use Rattle.rv_isa.specs.Fields.{rd_of}
 use Rattle.rv_unit.specs.Numbering.{is_decoupled, lasts_of, unit_after, unit_of}
 use Rattle.rv_asks.specs.declared.asks.Act.{Act}
@@ -72,6 +73,16 @@ none_at : (count : ℕ) (o : Option Plan) → ((p : Plan) → o ≡ Some p → i
 none_at count None h = refl
 none_at count (Some p) h = no_some (is_decoupled p.mode) count (h p refl)
 
+-- a word that is no instruction of the extension has no spawn target and no unit
+pub none_quiet : (d : Design) (word : ℕ) → SpawnsNothing (asks_in d word None)
+none_quiet d word =
+    subst SpawnsNothing (sym (none_asks d word))
+    (record { x = refl; customs = λ r. all_false (λ q. list_any (acts.spawns_custom q) []) 16 r (λ q. refl); unit = refl })
+
+pub base_quiet : (d : Design) (word : ℕ) (b : Base) → SpawnsNothing (asks_in d word (Some (D.Base b)))
+base_quiet d word b =
+    subst SpawnsNothing (sym (base_asks_are d word b)) (record { x = refl; customs = λ r. all_false (λ q. false) 16 r (λ q. refl); unit = refl })
+
 module _ (d : Design) (stands : Stands d) (never : NeverSpawns d) where
   abbrev x : ExtensionTree
   x = view_extension d.extension
@@ -102,11 +113,8 @@ module _ (d : Design) (stands : Stands d) (never : NeverSpawns d) where
       }
 
   asks_quiet : (word : ℕ) (o : Option Decoded) → decoded_in x word ≡ o → SpawnsNothing (asks_in d word o)
-  asks_quiet word None is =
-      subst SpawnsNothing (sym (none_asks d word))
-      (record { x = refl; customs = λ r. all_false (λ q. list_any (acts.spawns_custom q) []) 16 r (λ q. refl); unit = refl })
-  asks_quiet word (Some (D.Base b)) is =
-      subst SpawnsNothing (sym (base_asks_are d word b)) (record { x = refl; customs = λ r. all_false (λ q. false) 16 r (λ q. refl); unit = refl })
+  asks_quiet word None is = none_quiet d word
+  asks_quiet word (Some (D.Base b)) is = base_quiet d word b
   asks_quiet word (Some (D.Own n)) is =
       let p = plan_of d stands n (own_within x word n is) in
       subst SpawnsNothing (sym (own_asks d word n p.plan p.there)) (plan_quiet word n p.plan p.there)

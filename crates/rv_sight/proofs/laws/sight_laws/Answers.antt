@@ -1,6 +1,7 @@
 use Rattle.rv_sight.proofs.Quiet.{quiet_design}
 use Rattle.rv_sight.proofs.Seeing.{Laws}
 use Rattle.rv_sight.proofs.Units.{quiet_law}
+use Rattle.rv_sight.proofs.Having.{in_units}
 use Rattle.rv_sight.proofs.Sights.{early_law, exact_law, keeps_law, tail_law}
 use Rattle.rv_sight.proofs.laws.sight_laws.Goals as goal
 
@@ -26,3 +27,6 @@ pub returns-clause-tails : goal.returns-clause-tails
 returns-clause-tails c d stands =
     let laws : Laws = record { depends = c.depend_laws.ensures.depends; by_execute = c.depend_laws.ensures.by_execute; times = c.depend_laws.ensures.times; blind = c.depend_laws.ensures.blind; unwritten = c.depend_laws.ensures.unwritten } in
     tail_law laws d stands
+
+pub returns-clause-units : goal.returns-clause-units
+returns-clause-units c d stands = in_units d stands c.behaviour_laws.ensures.few c.depend_laws.ensures.times c.unit_laws.ensures.units c.unit_laws.ensures.numbering
