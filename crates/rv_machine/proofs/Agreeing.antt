@@ -16,7 +16,7 @@ use Rattle.rv_trace.specs.declared.row.Row.{Row}
 use Rattle.rv_trace.specs.Trace.{place, retirements}
 use Rattle.rv_holds.specs.declared.token.Token.{Token}
 use Rattle.rv_holds.specs.Tokens.{Slots, or_else, stop_of}
-use Rattle.rv_holds.specs.Holds.{drain, staying, drain_hold, own_hold, stops_now, waiting_hold}
+use Rattle.rv_holds.specs.Holds.{drain, staying, drain_hold, own_hold, stops_now, waiting_hold, left_behind, entering}
 use Rattle.rv_holds.specs.Flushing.{slot_stop, remains}
 use Rattle.rv_engine.specs.Settings.{Setting, Machine, shape_of, tree_of}
 use Rattle.rv_engine.specs.Rows.{waited, advanced, with_serial, retired_of, seen_by, fetch_by, left_by}
@@ -25,6 +25,8 @@ use Rattle.rv_lawful.specs.Outstanding.{Written, Decoupled, architecture, after_
 use Rattle.rv_lawful.specs.Sight.{asked}
 use Rattle.rv_machine.proofs.Quiet.{shown_same, record_long, outstanding_none}
 use Rattle.rv_lawful.specs.LawfulTrace.{StopsRun}
+use Rattle.rv_engine.specs.Rows.{written_of}
+use Rattle.rv_machine.proofs.Idle.{idle_paid}
 use Rattle.rv_machine.specs.Placed.{judged, run, count, tail, expected, IsReady}
 use Rattle.rv_machine.specs.Told.{out_of}
 use Rattle.rv_machine.proofs.Deciding.{or_else_none, or_else_none_b}
@@ -101,7 +103,7 @@ module _ (k : Setting) (ready : IsReady k) (earlier : List Row) (m : Machine) (r
     by_left None g = cc (made.is.retired ∙ ap retired_of g, e)
     by_left (Some t) g =
         let x = made.retires t g in
-        let pair = same_pair (t.cell.serial, x.0) (s, c) (sym (made.is.retired ∙ ap retired_of g ∙ ap (λ o. with_serial t.cell.serial o) x.1) ∙ e) in (
+        let pair = same_pair (t.cell.serial, x.0) (s, c) (sym (made.is.retired ∙ ap retired_of g ∙ x.2) ∙ e) in (
           ap (λ (p : ℕ × Commit). place (row ∷ earlier) p.0) (sym pair) ∙ left.serial t g,
           left.recorded t x.0 g x.1 ∙ ap (λ (p : ℕ × Commit). Done p.1) pair,
         )
@@ -130,7 +132,7 @@ module _ (k : Setting) (ready : IsReady k) (earlier : List Row) (m : Machine) (r
             omega (arith, same, le, ge)
 
   stop_agrees : (stop : Stop) → row.stop ≡ Some stop → answer_at (tree_of k) k.image (retirements (row ∷ earlier)) ≡ Stopped stop
-  stop_agrees stop e = why (slot_stop (shape_of k) 0 (seen_by k m)) refl (sym made.is.stop ∙ e) where
+  stop_agrees stop e = why (slot_stop (shape_of k) 0 (seen_by k m)) refl (sym made.stop_is ∙ e) where
     why : (o : Option Stop) → slot_stop (shape_of k) 0 (seen_by k m) ≡ o → or_else o (if remains (seen_by k m) || is_some (word_at k.image (fetch_by k m)) then None else Some Fetch) ≡ Some stop → answer_at (tree_of k) k.image (retirements (row ∷ earlier)) ≡ Stopped stop
     why (Some s) q e =
         let x = stopper k 0 (seen_by k m) stop (q ∙ e) in
@@ -151,7 +153,7 @@ module _ (k : Setting) (ready : IsReady k) (earlier : List Row) (m : Machine) (r
       (c, is, sym (shown_same (asked k.design c.word) (ready.quiet.asks c.word) c (record_long (tree_of k) k.image (run k (retirements earlier)) c is)))
 
   none_written : (w : Written) → row.written ≡ Some w → IsSpawnWrite (judged k) earlier w
-  none_written w e = cc (made.is.written, e)
+  none_written w e = let none : row.written ≡ None = made.is.written ∙ ap written_of (idle_paid k m made.inv.idle) in cc (none, e)
 
   abbrev owing : List Decoupled → Arch
   owing l = after_owed (judged k) (row ∷ earlier) l (architecture (tree_of k) (judged k) (row ∷ earlier))

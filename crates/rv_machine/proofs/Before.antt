@@ -13,7 +13,7 @@ use Rattle.rv_holds.specs.declared.token.Token.{Token}
 use Rattle.rv_holds.specs.declared.flushing.Turn.{Turn}
 use Rattle.rv_holds.specs.Tokens.{Slots}
 use Rattle.rv_holds.specs.Flushing.{next_of, settles, settled, nearest, mismatch, turn_of, struck}
-use Rattle.rv_engine.specs.Settings.{Setting, Machine, shape_of, tree_of}
+use Rattle.rv_engine.specs.Settings.{Setting, Machine, shape_of, tree_of, outstanding_in}
 use Rattle.rv_engine.specs.Rows.{fill_first, trying, loading, owed_by, new_by, read_by, held_by, loaded_by, turn_by, seen_by}
 use Rattle.rv_machine.specs.Placed.{run, count, tail, settling_stage, expected_after, expected, owed_write, paid_late, IsFuture, Placed, IsReady, Inv}
 use Rattle.rv_machine.specs.Told.{Decided, NoStops}

@@ -7,10 +7,12 @@ use Rattle.rv_trace.specs.declared.row.Hold.TheVariants.{Wait, Tail, Behind}
 use Rattle.rv_asks.specs.declared.asks.Asks.{Asks}
 use Rattle.rv_holds.specs.declared.token.Token.{Token}
 use Rattle.rv_holds.specs.Tokens.{Slots, or_else, stop_of}
-use Rattle.rv_holds.specs.Holds.{oldest, does_write, writes_late, does_store, is_late, waits_for, operand_hold, waits_for_custom, first_from, custom_hold, late_hold, waiting_hold, staying, drain_hold, store_hold, memory_hold, tail_hold, own_hold, stops_now, is_blocked, shown, decided}
+use Rattle.rv_holds.specs.Holds.{oldest, does_write, writes_late, does_store, is_late, waits_for, operand_hold, waits_for_custom, first_from, custom_hold, late_hold, waiting_hold, staying, drain_hold, store_hold, memory_hold, tail_hold, own_hold, stops_now, is_blocked, shown, decided, entering, drain, least_from, board_hold, reading_hold, ending_hold, numbered, board, lower_of, spawner, register_count, register_at, spawns_at}
 use Rattle.rv_holds.specs.Flushing.{remains, fetch_after}
 use Rattle.rv_engine.specs.Settings.{Setting, shape_of}
 use Rattle.rv_engine.specs.Rows.{fill_first, tail_after, waited, going, kept, advanced, leaving}
+use Rattle.rv_lawful.specs.Outstanding.{touches}
+use Rattle.rv_machine.proofs.Idle.{alone}
 use Rattle.rv_machine.specs.Placed.{count, first_of_two, may_wait, here, to_go, rank}
 use Rattle.rv_machine.specs.Told.{Decided, NoStops}
 use Rattle.std.proofs.lemmas.Bool.Decides.{nat_tests}
@@ -78,27 +80,64 @@ empty_late older e = rw (empty_oldest is_late older e)
 empty_store : (older : Slots) (a : Asks) → count older ≡ 0 → store_hold older a ≡ None
 empty_store older a e = rw (empty_oldest does_store older e) (if_same a.loads)
 
-empty_drain : (t : Token) (older : Slots) → count older ≡ 0 → drain_hold t older ≡ None
-empty_drain t older e = rw (empty_staying older e) (if_same (is_some (stop_of t)))
+empty_entering : (older : Slots) → count older ≡ 0 → entering older ≡ None
+empty_entering [] e = refl
+empty_entering (None ∷ []) e = refl
+empty_entering (Some t ∷ []) e = absurd (omega (arith, e))
+empty_entering (None ∷ u ∷ older) e = empty_entering (u ∷ older) e
+empty_entering (Some t ∷ u ∷ older) e = absurd (omega (arith, e))
 
-empty_waiting : (k : Shape) (stage : ℕ) (t : Token) (older : Slots) → count older ≡ 0 → waiting_hold k stage t older ≡ None
-empty_waiting k stage t older e = rw (empty_operand older t.asks e, empty_custom older t.asks e, empty_late older e) (both (stage == k.rd) (stage == k.ex)) where
-  both : (a b : Bool) → ◌≡◌ {A = Option Hold} (or_else (if a then None else None) (if b then None else None)) None
-  both true true = refl
-  both true false = refl
-  both false true = refl
-  both false false = refl
+empty_drain : (t : Token) (older : Slots) → t.beside ≡ alone → count older ≡ 0 → drain_hold t older ≡ None
+empty_drain t older al e =
+    ap (λ o. if is_some (stop_of t) then drain o else None)
+    (ap (λ b. or_else b.left (or_else (entering older) (staying older))) al ∙ ap (λ o. or_else o (staying older)) (empty_entering older e) ∙ empty_staying older e)
+    ∙ if_same (is_some (stop_of t))
+
+no_least : (f : ℕ → Option ℕ) (n count : ℕ) → ((m : ℕ) → f m ≡ None) → least_from f n count ≡ None
+no_least f n zero h = refl
+no_least f n (suc count) h = ap (λ o. or_else (numbered n o) (least_from f (suc n) count)) (h n) ∙ no_least f (suc n) count h
+
+no_number : (b : Bool) → ◌≡◌ {A = Option ℕ} (if b then None else None) None
+no_number true = refl
+no_number false = refl
+
+empty_board : (t : Token) (older : Slots) → t.beside ≡ alone → count older ≡ 0 → board_hold t older ≡ None
+empty_board t older al e =
+    ap (λ b. board (lower_of b.board (least_from (spawner older t.asks) 0 register_count))) al
+    ∙ ap board (no_least (spawner older t.asks) 0 register_count (λ n. ap (λ (o : Option ℕ). if touches t.asks (register_at n) then o else None) (empty_oldest (spawns_at n) older e) ∙ no_number (touches t.asks (register_at n))))
+
+empty_reading : (t : Token) (older : Slots) → t.beside ≡ alone → count older ≡ 0 → reading_hold t older ≡ None
+empty_reading t older al e = ap (λ o. or_else o (board_hold t older)) (empty_operand older t.asks e) ∙ empty_board t older al e
+
+pub lone_ending : (t : Token) → t.beside ≡ alone → ending_hold t ≡ tail_hold t
+lone_ending t al = ap (λ b. or_else (tail_hold t) b.port) al ∙ right (tail_hold t) where
+  right : (o : Option Hold) → or_else o None ≡ o
+  right None = refl
+  right (Some h) = refl
+
+empty_waiting : (k : Shape) (stage : ℕ) (t : Token) (older : Slots) → t.beside ≡ alone → count older ≡ 0 → waiting_hold k stage t older ≡ None
+empty_waiting k stage t older al e =
+    ap (λ o. or_else (if stage == k.rd then o else None) (if stage == k.ex then or_else (custom_hold older t.asks) (late_hold older) else None)) (empty_reading t older al e)
+    ∙ ap (λ o. or_else (if stage == k.rd then None else None) (if stage == k.ex then or_else o (late_hold older) else None)) (empty_custom older t.asks e)
+    ∙ ap (λ o. or_else (if stage == k.rd then None else None) (if stage == k.ex then o else None)) (empty_late older e)
+    ∙ both (stage == k.rd) (stage == k.ex) where
+      both : (a b : Bool) → ◌≡◌ {A = Option Hold} (or_else (if a then None else None) (if b then None else None)) None
+      both true true = refl
+      both true false = refl
+      both false true = refl
+      both false false = refl
 
 -- the holds of a token with no older one: that of the memory, and that of its module
 abbrev last_holds : Shape → ℕ → Token → Option Hold
-last_holds k stage t = or_else (if stage == k.mem then memory_hold t else None) (if suc stage == k.stages then ending_hold t else None)
+last_holds k stage t = or_else (if stage == k.mem then memory_hold t else None) (if suc stage == k.stages then tail_hold t else None)
 
-empty_own : (k : Shape) (stage : ℕ) (t : Token) (older : Slots) → count older ≡ 0 → own_hold k stage t older ≡ last_holds k stage t
-empty_own k stage t older e =
-    ap (λ o. or_else o (or_else (if stage == k.ex then drain_hold t older else None) (or_else (if stage == k.mem then or_else (memory_hold t) (store_hold older t.asks) else None) (if suc stage == k.stages then ending_hold t else None)))) (empty_waiting k stage t older e)
-    ∙ ap (λ o. or_else (if stage == k.ex then o else None) (or_else (if stage == k.mem then or_else (memory_hold t) (store_hold older t.asks) else None) (if suc stage == k.stages then ending_hold t else None))) (empty_drain t older e)
+empty_own : (k : Shape) (stage : ℕ) (t : Token) (older : Slots) → t.beside ≡ alone → count older ≡ 0 → own_hold k stage t older ≡ last_holds k stage t
+empty_own k stage t older al e =
+    ap (λ o. or_else o (or_else (if stage == k.ex then drain_hold t older else None) (or_else (if stage == k.mem then or_else (memory_hold t) (store_hold older t.asks) else None) (if suc stage == k.stages then ending_hold t else None)))) (empty_waiting k stage t older al e)
+    ∙ ap (λ o. or_else (if stage == k.ex then o else None) (or_else (if stage == k.mem then or_else (memory_hold t) (store_hold older t.asks) else None) (if suc stage == k.stages then ending_hold t else None))) (empty_drain t older al e)
     ∙ ap (λ o. or_else o (or_else (if stage == k.mem then or_else (memory_hold t) (store_hold older t.asks) else None) (if suc stage == k.stages then ending_hold t else None))) (if_same (stage == k.ex))
-    ∙ ap (λ o. or_else (if stage == k.mem then o else None) (if suc stage == k.stages then ending_hold t else None)) (ap (λ o. or_else (memory_hold t) o) (empty_store older t.asks e) ∙ right (memory_hold t)) where
+    ∙ ap (λ o. or_else (if stage == k.mem then o else None) (if suc stage == k.stages then ending_hold t else None)) (ap (λ o. or_else (memory_hold t) o) (empty_store older t.asks e) ∙ right (memory_hold t))
+    ∙ ap (λ o. or_else (if stage == k.mem then memory_hold t else None) (if suc stage == k.stages then o else None)) (lone_ending t al) where
       right : (o : Option Hold) → or_else o None ≡ o
       right None = refl
       right (Some h) = refl
@@ -116,8 +155,8 @@ pub record Goes (k : Setting) (stage : ℕ) (t : Token) : Type 0 where
   pub some : (t.tail == 0) ≡ false
   pub shows : t.cell.hold ≡ Some (Tail t.tail)
 
-oldest_free : (k : Setting) (stage : ℕ) (t : Token) (older : Slots) → Decided k stage (Some t ∷ older) → NoStops k stage (Some t ∷ older) → count older ≡ 0 → (is_some t.cell.hold ≡ false) ⊎ (Waits k stage t ⊎ Goes k stage t)
-oldest_free k stage t older d n e = by_case (stage == (shape_of k).mem) (t.wait == 0) (suc stage == (shape_of k).stages) (t.tail == 0) refl refl refl (d.0 ∙ shown_is n.0) where
+oldest_free : (k : Setting) (stage : ℕ) (t : Token) (older : Slots) → Decided k stage (Some t ∷ older) → NoStops k stage (Some t ∷ older) → t.beside ≡ alone → count older ≡ 0 → (is_some t.cell.hold ≡ false) ⊎ (Waits k stage t ⊎ Goes k stage t)
+oldest_free k stage t older d n al e = by_case (stage == (shape_of k).mem) (t.wait == 0) (suc stage == (shape_of k).stages) (t.tail == 0) refl refl refl (d.0 ∙ shown_is n.0) where
   right : (o : Option Hold) → or_else o None ≡ o
   right None = refl
   right (Some h) = refl
@@ -127,7 +166,7 @@ oldest_free k stage t older d n e = by_case (stage == (shape_of k).mem) (t.wait 
       ap (λ (b : Bool). if b then None else or_else (own_hold (shape_of k) stage t older) (if is_blocked (shape_of k) (suc stage) older then Some Behind else None)) h
       ∙ ap (λ (b : Bool). or_else (own_hold (shape_of k) stage t older) (if b then Some Behind else None)) (empty_blocked (shape_of k) (suc stage) older e)
       ∙ right (own_hold (shape_of k) stage t older)
-      ∙ empty_own (shape_of k) stage t older e
+      ∙ empty_own (shape_of k) stage t older al e
 
   held_by : (h : Hold) → t.cell.hold ≡ Some h → is_some t.cell.hold ≡ true
   held_by h q = ap (λ o. is_some o) q
@@ -244,9 +283,19 @@ stays_here k most owed stage come t older h e =
 above_zero : (n : ℕ) → (n == 0) ≡ false → 0 < n
 above_zero n e = grind (arith, nat_tests)
 
-oldest_here : (k : Setting) (most owed owed' stage n : ℕ) (come : Option Token) (t : Token) (older : Slots) → owed' ≤ most → Falls k owed owed' stage (Some t ∷ older) → Decided k stage (Some t ∷ older) → NoStops k stage (Some t ∷ older) → leaving come (Some t ∷ older) ≡ None → count older ≡ 0 → suc (length older + may_wait (shape_of k) most owed stage + t.tail) ≡ suc n
+-- none of these meets anything beside the stages
+abbrev pub AreLone : Slots → Type 0
+AreLone [] = Unit {0}
+AreLone (None ∷ older) = AreLone older
+AreLone (Some t ∷ older) = (t.beside ≡ alone) × AreLone older
+
+lone_tail : (s : Option Token) (older : Slots) → AreLone (s ∷ older) → AreLone older
+lone_tail None older h = h
+lone_tail (Some t) older h = h.1
+
+oldest_here : (k : Setting) (most owed owed' stage n : ℕ) (come : Option Token) (t : Token) (older : Slots) → owed' ≤ most → Falls k owed owed' stage (Some t ∷ older) → Decided k stage (Some t ∷ older) → NoStops k stage (Some t ∷ older) → t.beside ≡ alone → leaving come (Some t ∷ older) ≡ None → count older ≡ 0 → suc (length older + may_wait (shape_of k) most owed stage + t.tail) ≡ suc n
     → Nearer (to_go (shape_of k) most owed' stage (advanced come (Some t ∷ older))) n
-oldest_here k most owed owed' stage n come t older le f d ns l q e = elim (oldest_free k stage t older d ns q) [ inl free ↦ moves free | inr w ↦ elim w [ inl x ↦ waits x | inr x ↦ goes x ] ] where
+oldest_here k most owed owed' stage n come t older le f d ns al l q e = elim (oldest_free k stage t older d ns al q) [ inl free ↦ moves free | inr w ↦ elim w [ inl x ↦ waits x | inr x ↦ goes x ] ] where
   same : length older + may_wait (shape_of k) most owed stage + t.tail ≡ n
   same = omega (arith, e)
 
@@ -279,19 +328,19 @@ oldest_here k most owed owed' stage n come t older le f d ns l q e = elim (oldes
       let whole = stays_here (shape_of k) most owed' stage come t older g.held q in
       record { fewer = omega (arith, whole, a, b, z, same); some = omega (arith, whole) }
 
-nearer : (k : Setting) (most owed owed' stage n : ℕ) (come : Option Token) (seen : Slots) → owed' ≤ most → Falls k owed owed' stage seen → Decided k stage seen → NoStops k stage seen → leaving come seen ≡ None → to_go (shape_of k) most owed stage seen ≡ suc n → Nearer (to_go (shape_of k) most owed' stage (advanced come seen)) n
-nearer k most owed owed' stage n come [] le f d ns l e = absurd (omega arith)
-nearer k most owed owed' stage n come (s ∷ older) le f d ns l e =
+nearer : (k : Setting) (most owed owed' stage n : ℕ) (come : Option Token) (seen : Slots) → owed' ≤ most → Falls k owed owed' stage seen → Decided k stage seen → NoStops k stage seen → AreLone seen → leaving come seen ≡ None → to_go (shape_of k) most owed stage seen ≡ suc n → Nearer (to_go (shape_of k) most owed' stage (advanced come seen)) n
+nearer k most owed owed' stage n come [] le f d ns al l e = absurd (omega arith)
+nearer k most owed owed' stage n come (s ∷ older) le f d ns al l e =
     by_case (to_go (shape_of k) most owed (suc stage) older) refl e
-    (λ m q. nearer k most owed owed' (suc stage) m (going s) older le (falls_tail k owed owed' stage s older f) (decided_tail k stage s older d) (no_stops_tail k stage s older ns) l q) where
-      here_now : (s : Option Token) → Falls k owed owed' stage (s ∷ older) → Decided k stage (s ∷ older) → NoStops k stage (s ∷ older) → leaving come (s ∷ older) ≡ None → count older ≡ 0 → here (shape_of k) most owed stage s (length older) ≡ suc n → Nearer (to_go (shape_of k) most owed' stage (advanced come (s ∷ older))) n
-      here_now None f d ns l q e = absurd (omega (arith, e))
-      here_now (Some t) f d ns l q e = oldest_here k most owed owed' stage n come t older le f d ns l q e
+    (λ m q. nearer k most owed owed' (suc stage) m (going s) older le (falls_tail k owed owed' stage s older f) (decided_tail k stage s older d) (no_stops_tail k stage s older ns) (lone_tail s older al) l q) where
+      here_now : (s : Option Token) → Falls k owed owed' stage (s ∷ older) → Decided k stage (s ∷ older) → NoStops k stage (s ∷ older) → AreLone (s ∷ older) → leaving come (s ∷ older) ≡ None → count older ≡ 0 → here (shape_of k) most owed stage s (length older) ≡ suc n → Nearer (to_go (shape_of k) most owed' stage (advanced come (s ∷ older))) n
+      here_now None f d ns al l q e = absurd (omega (arith, e))
+      here_now (Some t) f d ns al l q e = oldest_here k most owed owed' stage n come t older le f d ns al.0 l q e
 
       by_case : (m : ℕ) → to_go (shape_of k) most owed (suc stage) older ≡ m → first_of_two m (here (shape_of k) most owed stage s (length older)) ≡ suc n
           → ((m : ℕ) → to_go (shape_of k) most owed (suc stage) older ≡ suc m → Nearer (to_go (shape_of k) most owed' (suc stage) (advanced (going s) older)) m)
           → Nearer (to_go (shape_of k) most owed' stage (advanced come (s ∷ older))) n
-      by_case zero q e ih = here_now s f d ns l (to_go-zero (shape_of k) most owed (suc stage) older q) e
+      by_case zero q e ih = here_now s f d ns al l (to_go-zero (shape_of k) most owed (suc stage) older q) e
       by_case (suc m) q e ih =
           let i = ih m q in
           let a = i.fewer in
@@ -301,9 +350,9 @@ nearer k most owed owed' stage n come (s ∷ older) le f d ns l e =
           record { fewer = omega (arith, whole, a, e); some = omega (arith, whole, b) }
 
 -- the same of the rank
-pub rank_falls : (k : Setting) (most owed owed' n : ℕ) (seen : Slots) → owed' ≤ most → Falls k owed owed' 0 seen → Decided k 0 seen → NoStops k 0 seen → leaving None seen ≡ None → to_go (shape_of k) most owed 0 seen ≡ suc n → rank (shape_of k) most owed' (advanced None seen) ≤ n
-rank_falls k most owed owed' n seen le f d ns l e =
-    let y = nearer k most owed owed' 0 n None seen le f d ns l e in
+pub rank_falls : (k : Setting) (most owed owed' n : ℕ) (seen : Slots) → owed' ≤ most → Falls k owed owed' 0 seen → Decided k 0 seen → NoStops k 0 seen → AreLone seen → leaving None seen ≡ None → to_go (shape_of k) most owed 0 seen ≡ suc n → rank (shape_of k) most owed' (advanced None seen) ≤ n
+rank_falls k most owed owed' n seen le f d ns al l e =
+    let y = nearer k most owed owed' 0 n None seen le f d ns al l e in
     let a = y.fewer in
     let whole = first_is (to_go (shape_of k) most owed' 0 (advanced None seen)) (suc ((shape_of k).stages + most + 64)) y.some in
     omega (arith, whole, a)

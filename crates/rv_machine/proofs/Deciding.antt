@@ -10,7 +10,7 @@ use Rattle.rv_trace.specs.RowParts.{name_of, names_of}
 use Rattle.rv_tried.specs.declared.trial.Trial.{Trial}
 use Rattle.rv_holds.specs.declared.token.Token.{Token}
 use Rattle.rv_holds.specs.Tokens.{Slots, or_else, stop_of, cells_of}
-use Rattle.rv_holds.specs.Holds.{oldest, is_late, writes_late, operand_hold, custom_hold, late_hold, waiting_hold, drain_hold, memory_hold, store_hold, tail_hold, own_hold, stops_now, shown, held, decided}
+use Rattle.rv_holds.specs.Holds.{oldest, is_late, writes_late, operand_hold, custom_hold, late_hold, waiting_hold, drain_hold, memory_hold, store_hold, tail_hold, own_hold, stops_now, shown, held, decided, reading_hold, board_hold, ending_hold}
 use Rattle.rv_engine.specs.Settings.{Setting, shape_of}
 use Rattle.rv_machine.specs.Placed.{run, count, expected, IsTried, IsPlaced, Placed, Serials}
 use Rattle.rv_machine.specs.Told.{Decided, NoStops}

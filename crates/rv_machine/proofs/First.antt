@@ -119,6 +119,7 @@ first k ready =
       fresh = λ s word h. absurd h;
       retired = λ s alive. sym (none_below (place [] s));
       unflushed = λ s le. refl;
+      idle = (refl, refl);
       state = refl;
       progress = rw g (omega arith);
     }

@@ -8,7 +8,7 @@ use Rattle.rv_waits.specs.Waits.{greatest}
 use Rattle.rv_holds.specs.declared.token.Token.{Token}
 use Rattle.rv_holds.specs.Tokens.{Slots}
 use Rattle.rv_engine.specs.Settings.{Setting, Machine, shape_of, tree_of}
-use Rattle.rv_engine.specs.Rows.{advanced, owed_by, new_by, memory_by, seen_by, arch_after, IsRowOf, machine_after}
+use Rattle.rv_engine.specs.Rows.{advanced, owed_by, new_by, memory_by, seen_by, IsRowOf, machine_after}
 use Rattle.rv_lawful.specs.Settings as Lawful
 use Rattle.rv_machine.specs.Placed.{judged, rank, IsReady, Inv}
 use Rattle.rv_machine.proofs.Filling.{next_within}
@@ -35,7 +35,7 @@ module _ (k : Setting) (ready : IsReady k) (earlier : List Row) (m : Machine) (r
       let now = R.retired_now k ready earlier m row inv is in
       record {
         stages = advanced_length None (seen_by k m) ∙ B.seen_length k ready earlier m inv;
-        arch = ap (λ o. arch_after m.arch o) (sym is.retired) ∙ R.state_now k ready earlier m row inv is;
+        arch = R.state_now k ready earlier m row inv is;
         next_place = F.seen_count k ready earlier m row inv is ∙ omega (arith, c, now);
         next_first = N.next_first k ready earlier m row inv is;
         fetch = N.fetch_next k ready earlier m row inv is e;
@@ -56,6 +56,7 @@ module _ (k : Setting) (ready : IsReady k) (earlier : List Row) (m : Machine) (r
         fresh = F.fresh_now k ready earlier m row inv is;
         retired = λ s alive. R.told_retired k ready earlier m row inv is s alive ∙ ap (λ n. nat_lt (place (row ∷ earlier) s) n) (sym now);
         unflushed = F.unflushed_next k ready earlier m row inv is;
+        idle = R.idle_next k ready earlier m row inv is;
         state = R.architecture_now k ready earlier m row inv is;
         progress = progress;
       }

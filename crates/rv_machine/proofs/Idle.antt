@@ -7,7 +7,7 @@ use Rattle.rv_unit.specs.Numbering.{lasts_of}
 use Rattle.rv_holds.specs.declared.token.Beside.{Beside}
 use Rattle.rv_holds.specs.declared.token.Token.{Token}
 use Rattle.rv_holds.specs.Tokens.{Slots, or_else}
-use Rattle.rv_holds.specs.Holds.{oldest, register_at, spawns_at, spawner, numbered, least_from, lower_of, board, board_hold, entering}
+use Rattle.rv_holds.specs.Holds.{oldest, register_at, spawns_at, spawner, numbered, least_from, lower_of, board, board_hold, entering, register_count}
 use Rattle.rv_engine.specs.declared.owing.Owed.{Owed}
 use Rattle.rv_engine.specs.Owing.{Outstanding, outstanding_of, board_of, holder_for, paying, unit_hold, port_serial, port_hold, retiring_hold, beside_of, outstanding_after}
 use Rattle.rv_engine.specs.Settings.{Setting, Machine, shape_of, outstanding_in}

@@ -20,11 +20,12 @@ use Rattle.rv_holds.specs.Tokens.{Slots, or_else, stop_of, cell_of, cells_of}
 use Rattle.rv_holds.specs.Holds.{is_late, stops_now}
 use Rattle.rv_holds.specs.Flushing.{struck, slot_stop, remains}
 use Rattle.rv_engine.specs.Settings.{Setting, Machine, shape_of}
-use Rattle.rv_engine.specs.Rows.{fill_first, going, with_serial, retired_of, new_by, loaded_by, turn_by, seen_by, fetch_by, left_by}
+use Rattle.rv_engine.specs.Rows.{fill_first, going, with_serial, retired_of, new_by, loaded_by, turn_by, seen_by, fetch_by, left_by, written_of}
 use Rattle.rv_lawful.specs.Settings as Lawful
 use Rattle.rv_lawful.specs.LawfulTrace.{fetch_address, next_serial, new_cell, Moves, Retires, WaitsForJump, StopsRun, IsEmptyAfter, StopsRightly, IsInForm, LawfulRow}
 use Rattle.rv_lawful.specs.Outstanding.{serial_written, outstanding}
 use Rattle.rv_machine.proofs.Quiet.{written_none, outstanding_none}
+use Rattle.rv_machine.proofs.Idle.{idle_paid}
 use Rattle.rv_machine.specs.Placed.{judged, IsReady}
 use Rattle.rv_machine.proofs.Places.{stood, token_order}
 use Rattle.rv_machine.proofs.Deciding.{test_eq, is_none_of}
@@ -152,7 +153,7 @@ module _ (k : Setting) (ready : IsReady k) (earlier : List Row) (m : Machine) (r
               }
           by_hold false q g =
               let x = made.retires t g in
-              let is_retired : row.retired ≡ Some (t.cell.serial, x.0) = made.is.retired ∙ ap retired_of g ∙ ap (λ o. with_serial t.cell.serial o) x.1 in
+              let is_retired : row.retired ≡ Some (t.cell.serial, x.0) = made.is.retired ∙ ap retired_of g ∙ x.2 in
               record {
                 leaver = λ s commit p. (t.cell, stands_t, unheld_leaves stage t at (is_none_of t.cell.hold q), ap serial_in (same_pair (t.cell.serial, x.0) (s, commit) (sym is_retired ∙ p)));
                 retired = λ c stands p. (x.0, is_retired ∙ ap (λ (d : Cell). Some (d.serial, x.0)) (same_cell c stands p));
@@ -246,9 +247,9 @@ module _ (k : Setting) (ready : IsReady k) (earlier : List Row) (m : Machine) (r
   row_stops : StopsRightly (judged k) earlier row
   row_stops =
       record {
-        cause = λ stop e. why stop (slot_stop (shape_of k) 0 (seen_by k m)) refl (sym made.is.stop ∙ e);
-        of_cell = λ stage c stop stands s. made.is.stop ∙ ap (λ o. or_else o (if remains (seen_by k m) || is_some (word_at k.image (fetch_by k m)) then None else Some Fetch)) (ex_left stage c stop stands s (unflushed stage c stop stands s));
-        of_fetch = λ f o w. made.is.stop ∙ nothing_left f w (slot_stop (shape_of k) 0 (seen_by k m)) refl;
+        cause = λ stop e. why stop (slot_stop (shape_of k) 0 (seen_by k m)) refl (sym made.stop_is ∙ e);
+        of_cell = λ stage c stop stands s. made.stop_is ∙ ap (λ o. or_else o (if remains (seen_by k m) || is_some (word_at k.image (fetch_by k m)) then None else Some Fetch)) (ex_left stage c stop stands s (unflushed stage c stop stands s));
+        of_fetch = λ f o w. made.stop_is ∙ nothing_left f w (slot_stop (shape_of k) 0 (seen_by k m)) refl;
       } where
         why : (stop : Stop) (o : Option Stop) → slot_stop (shape_of k) 0 (seen_by k m) ≡ o → or_else o (if remains (seen_by k m) || is_some (word_at k.image (fetch_by k m)) then None else Some Fetch) ≡ Some stop
             → ((stage : ℕ) × (c : Cell) × Lawful.Stands (judged k) row stage c × StopsRun (judged k) earlier row stage c stop) ⊎ ((stop ≡ Fetch) × IsEmptyAfter (judged k) row × (outstanding (judged k) (row ∷ earlier) ≡ []) × (word_at k.image (fetch_address (judged k) (row ∷ earlier)) ≡ None))
@@ -283,7 +284,7 @@ module _ (k : Setting) (ready : IsReady k) (earlier : List Row) (m : Machine) (r
     retires = row_retires;
     holds = λ stage c stands. shows k ready earlier row (seen_by k m) made.told stage c stands;
     successors = S.row_successors k ready earlier m row made;
-    units = ap serial_written made.is.written ∙ sym (written_none (judged k) ready.quiet.asks ready.quiet.units earlier);
+    units = ap serial_written (made.is.written ∙ ap written_of (idle_paid k m made.inv.idle)) ∙ sym (written_none (judged k) ready.quiet.asks ready.quiet.units earlier);
     untaken = made.is.taken;
     stops = row_stops;
   }

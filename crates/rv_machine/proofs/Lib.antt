@@ -38,6 +38,8 @@ pub mod TailsAfter
 pub mod Telling
 pub mod Trying
 pub mod Quiet
+pub mod Idle
+pub mod Meeting
 pub mod Agreeing
 pub mod FewUnits
 pub mod EachRow

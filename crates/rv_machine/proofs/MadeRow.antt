@@ -6,7 +6,7 @@ use Rattle.rv_trace.specs.RowParts.{Name, name_of, names_of}
 use Rattle.rv_holds.specs.declared.token.Token.{Token}
 use Rattle.rv_holds.specs.Tokens.{Slots, cells_of, commit_of}
 use Rattle.rv_engine.specs.Settings.{Setting, Machine}
-use Rattle.rv_engine.specs.Rows.{fill_first, new_by, loaded_by, left_by, IsRowOf}
+use Rattle.rv_engine.specs.Rows.{fill_first, new_by, loaded_by, left_by, IsRowOf, retired_of}
 use Rattle.rv_machine.specs.Placed.{IsReady, Inv}
 use Rattle.rv_machine.specs.Made.{Made}
 use Rattle.rv_machine.proofs.Reading.{Alike, IsAlike}
@@ -45,12 +45,18 @@ made k ready earlier m row inv is =
       flushed_from = F.flushed_from k ready earlier m row inv is;
       ascends = F.row_ascends k ready earlier m row inv is;
       names_pc = R.names_pc k ready earlier m row inv is;
+      stop_is = R.stop_now k ready earlier m row inv is;
       retires = retires;
     } where
-      retires : (t : Token) → left_by k m ≡ Some t → (c : Commit) × (commit_of t ≡ Some c)
+      retires : (t : Token) → left_by k m ≡ Some t → (c : Commit) × (commit_of t ≡ Some c) × (retired_of (Some t) ≡ Some (t.cell.serial, c))
       retires t e = elim (R.goes_out k ready earlier m row inv is) [
         | inl n ↦ cc (n.0, e)
-        | inr y ↦ (y.0.commit, ap commit_of (same_token t y.0.token (sym e ∙ y.0.is_left)) ∙ y.0.comes_to)
+        | inr y ↦
+            let same = same_token t y.0.token (sym e ∙ y.0.is_left) in (
+              y.0.commit,
+              ap commit_of same ∙ y.0.comes_to,
+              ap retired_of (sym e) ∙ sym is.retired ∙ y.0.is_retired ∙ ap (λ (u : Token). Some (u.cell.serial, y.0.commit)) (sym same),
+            )
       ] where
         same_token : (t u : Token) → ◌≡◌ {A = Option Token} (Some t) (Some u) → t ≡ u
         same_token t u e = cc

@@ -31,7 +31,9 @@ use Rattle.rv_machine.proofs.Standing.{asks_at, here_of}
 use Rattle.rv_machine.proofs.Stopping.{no_stops}
 use Rattle.rv_machine.proofs.Moving.{FlushesFirst, advanced_length, keeps_all, clears}
 use Rattle.rv_machine.proofs.Filling.{next_within, front_cells}
-use Rattle.rv_machine.proofs.Bound.{Waits, Falls, falls, rank_falls, to_go-zero, tails_of, to_go-tails, IsShort, AreShort, to_go-le, first_le, fill_rank, nothing_there}
+use Rattle.rv_machine.proofs.Idle.{alone, alone_is, quiet_unit}
+use Rattle.rv_machine.proofs.Standing.{asks_at, here_of}
+use Rattle.rv_machine.proofs.Bound.{AreLone, Waits, Falls, falls, rank_falls, to_go-zero, tails_of, to_go-tails, IsShort, AreShort, to_go-le, first_le, fill_rank, nothing_there}
 use Rattle.rv_machine.proofs.Clearing.{cleared_to_go, cleared_first, unheld_first}
 use Rattle.rv_machine.proofs.Turns.{turner, struck_inside}
 use Rattle.rv_machine.proofs.Lawful as L
@@ -124,7 +126,7 @@ module _ (k : Setting) (ready : IsReady k) (earlier : List Row) (m : Machine) (r
   after = machine_after k m
 
   pub no_stop : row.stop ≡ None → NoStops k 0 (seen_by k m)
-  no_stop e = no_stops k 0 (seen_by k m) (or_else_none (slot_stop (shape_of k) 0 (seen_by k m)) _ (sym made.is.stop ∙ e))
+  no_stop e = no_stops k 0 (seen_by k m) (or_else_none (slot_stop (shape_of k) 0 (seen_by k m)) _ (sym made.stop_is ∙ e))
 
   seen_length : length (seen_by k m) ≡ (shape_of k).stages
   seen_length = L.seen_length k ready earlier m row made
@@ -243,16 +245,24 @@ module _ (k : Setting) (ready : IsReady k) (earlier : List Row) (m : Machine) (r
         let lt = (cleared_to_go (shape_of k) (greatest k.waits) (owed_by k m) 0 turn.stage (loaded_by k m) x.older x.token x.rest).1 in
         absurd (omega (arith, lt, z))
 
+  -- no token meets anything beside the stages
+  lone : AreLone (seen_by k m)
+  lone = lone_from (seen_by k m) (λ n t older e. alone_is k made.told.outstanding n t made.told.idle (quiet_unit k ready t.cell.word t.asks (asks_at k (retirements earlier) 0 n (seen_by k m) t made.told.placed (here_of (seen_by k m) older t n e))) (made.told.meets n t older e)) where
+    lone_from : (l : Slots) → ((n : ℕ) (t : Token) (older : Slots) → drop n l ≡ Some t ∷ older → t.beside ≡ alone) → AreLone l
+    lone_from [] f = tt
+    lone_from (None ∷ l) f = lone_from l (λ n t older e. f (suc n) t older e)
+    lone_from (Some u ∷ l) f = (f 0 u l refl, lone_from l (λ n t older e. f (suc n) t older e))
+
   pub progress_next : Awaiting → tails_of (loaded_by k m) ≡ tails_of (fill_first (new_by k m) m.slots) → row.stop ≡ None → rows_without (row ∷ earlier) + rank (shape_of k) (greatest k.waits) (owed_by k after) after.slots ≤ (shape_of k).stages + greatest k.waits + 65
   unfolding rows_without
   progress_next owed tails stop = by_left (left_by k m) refl where
     fetch_stop : remains (seen_by k m) ≡ false → word_at k.image (fetch_by k m) ≡ None → or_else (slot_stop (shape_of k) 0 (seen_by k m)) (if remains (seen_by k m) || is_some (word_at k.image (fetch_by k m)) then None else Some Fetch) ≡ Some Fetch
-    fetch_stop r w = let n = or_else_none (slot_stop (shape_of k) 0 (seen_by k m)) _ (sym made.is.stop ∙ stop) in rw (n, r, w)
+    fetch_stop r w = let n = or_else_none (slot_stop (shape_of k) 0 (seen_by k m)) _ (sym made.stop_is ∙ stop) in rw (n, r, w)
 
     by_left : (o : Option Token) → left_by k m ≡ o → (if is_some row.retired then 0 else suc (rows_without earlier)) + rank (shape_of k) (greatest k.waits) (owed_by k after) after.slots ≤ (shape_of k).stages + greatest k.waits + 65
     by_left (Some t) g =
         let x = made.retires t g in
-        let is_retired : is_some row.retired ≡ true = ap (λ p. is_some p) (made.is.retired ∙ ap retired_of g ∙ ap (λ o. with_serial t.cell.serial o) x.1) in
+        let is_retired : is_some row.retired ≡ true = ap (λ p. is_some p) (made.is.retired ∙ ap retired_of g ∙ x.2) in
         let a = to_go-le (shape_of k) (greatest k.waits) (owed_by k after) 0 after.slots owed_most_after (advanced_short None (seen_by k m) tt shorts) in
         let b = next_stages in
         let c = first_le (to_go (shape_of k) (greatest k.waits) (owed_by k after) 0 after.slots) (suc ((shape_of k).stages + greatest k.waits + 64)) ((shape_of k).stages + greatest k.waits + 65) (omega (arith, a, b)) (omega arith) in
@@ -263,13 +273,13 @@ module _ (k : Setting) (ready : IsReady k) (earlier : List Row) (m : Machine) (r
         let d = to_go-tails (shape_of k) (greatest k.waits) (owed_by k m) 0 (loaded_by k m) (fill_first (new_by k m) m.slots) tails in
         elim (fill_rank (shape_of k) (greatest k.waits) (owed_by k m) (new_by k m) m.slots made.inv.stages (omega (arith, a)) owed_most (fetched_short k ready m.future m.next m.fetch (word_at k.image m.fetch))) [
           | inl x ↦
-              let f = rank_falls k (greatest k.waits) (owed_by k m) (owed_by k after) x.0 (seen_by k m) owed_most_after (owed_falls owed) made.told.decided (no_stop stop) g (go_same ∙ d ∙ x.1) in
+              let f = rank_falls k (greatest k.waits) (owed_by k m) (owed_by k after) x.0 (seen_by k m) owed_most_after (owed_falls owed) made.told.decided (no_stop stop) lone g (go_same ∙ d ∙ x.1) in
               let p = made.inv.progress in
               rw q (omega (arith, f, x.2, p))
           | inr x ↦
               let z = nothing_there (seen_by k m) m.fetch (to_go-zero (shape_of k) (greatest k.waits) (owed_by k m) 0 (seen_by k m) (go_same ∙ d ∙ x.1)) in
               let plain : fetch_by k m ≡ m.fetch = ap (λ o. Rows.unless (redirect_of o) (fetch_after m.fetch (seen_by k m))) (none_turned (d ∙ x.1)) ∙ z.1 in
               let none = no_fetch k.design m.future m.next m.fetch (word_at k.image m.fetch) x.0 in
-              let now : row.stop ≡ Some Fetch = made.is.stop ∙ fetch_stop z.0 (ap (λ n. word_at k.image n) plain ∙ none) in
+              let now : row.stop ≡ Some Fetch = made.stop_is ∙ fetch_stop z.0 (ap (λ n. word_at k.image n) plain ∙ none) in
               cc (stop, now)
         ]

@@ -13,7 +13,6 @@ use Rattle.rv_trace.specs.Trace.{newest}
 use Rattle.rv_trace.specs.TraceText.{trace_text}
 use Rattle.rv_text.specs.RunText.{state_text}
 use Rattle.rv_engine.specs.Settings.{Setting, setting, tree_of}
-use Rattle.rv_engine.specs.Rows.{arch_after}
 use Rattle.rv_lawful.specs.Outstanding.{Decoupled, owed_targets, architecture}
 use Rattle.rv_machine.proofs.Quiet.{outstanding_none}
 use Rattle.rv_lawful.specs.Headline.{Headline}
@@ -95,8 +94,7 @@ arch_is k ready [] are = refl
 arch_is k ready (row ∷ earlier) are =
     let m = machine_at k earlier in
     let inv = (known k ready earlier are.2).going are.1 in
-    ap (λ (o : Option (ℕ × Commit)). arch_after m.arch o) (sym are.0.retired)
-    ∙ R.state_now k ready earlier m row inv are.0
+    R.state_now k ready earlier m row inv are.0
     ∙ sym (R.architecture_now k ready earlier m row inv are.0)
 
 pub text_law : Sights → TextLaw

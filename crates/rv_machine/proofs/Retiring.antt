@@ -1,19 +1,19 @@
 -- What goes out of the last stage retires the next record of the run; and what is told of a row that the machine makes.
-use Rattle.std.proofs.Common.{◌≡◌, ◌≢◌, ℕ, zero, suc, ◌+◌, ◌-◌, ◌<◌, ◌≤◌, List, [], ◌∷◌, drop, length, Option, Some, None, Bool, true, false, refl, sym, ap, ◌∙◌, subst, arith, add-zero, ◌⊎◌, inl, inr}
-use Rattle.std.specs.Prelude.{◌||◌, if◌then◌else◌, ◌==◌, is_some, nat_lt}
+use Rattle.std.proofs.Common.{◌≡◌, ◌≢◌, ℕ, zero, suc, ◌+◌, ◌-◌, ◌<◌, ◌≤◌, List, [], ◌∷◌, drop, length, Option, Some, None, Bool, true, false, refl, sym, ap, ◌∙◌, subst, arith, add-zero, ◌⊎◌, inl, inr, IfSome, Fits}
+use Rattle.std.specs.Prelude.{◌||◌, if◌then◌else◌, ◌==◌, is_some, nat_lt, IfSome}
 use Rattle.std.proofs.lemmas.Bool.Decides.{nat_tests}
 use Rattle.rv_seq.specs.declared.answer.StepAnswer.{StepAnswer}
 use Rattle.rv_seq.specs.declared.answer.StepAnswer.TheVariants.{Done, Stopped}
 use Rattle.rv_seq.specs.declared.commit.Commit.{Commit}
 use Rattle.rv_seq.specs.Commits.{applied}
-use Rattle.rv_seq.specs.Steps.{after}
+use Rattle.rv_seq.specs.Steps.{after, word_at}
 use Rattle.rv_trace.specs.declared.row.Row.{Row}
 use Rattle.rv_trace.specs.Trace.{place, is_flushed, is_retired, retirements}
 use Rattle.rv_holds.specs.declared.token.Token.{Token}
-use Rattle.rv_holds.specs.Tokens.{Slots, stop_in, commit_in, tried_commit, commit_of}
-use Rattle.rv_holds.specs.Flushing.{next_of, settles, struck, cleared}
-use Rattle.rv_engine.specs.Settings.{Setting, Machine, shape_of, tree_of}
-use Rattle.rv_engine.specs.Rows.{going, leaving, with_serial, retired_of, arch_after, owed_by, turn_by, seen_by, left_by, IsRowOf}
+use Rattle.rv_holds.specs.Tokens.{Slots, stop_in, commit_in, tried_commit, commit_of, or_else}
+use Rattle.rv_holds.specs.Flushing.{next_of, settles, struck, cleared, slot_stop, remains}
+use Rattle.rv_engine.specs.Settings.{Setting, Machine, shape_of, tree_of, outstanding_in}
+use Rattle.rv_engine.specs.Rows.{going, leaving, with_serial, retired_of, owed_by, turn_by, seen_by, left_by, IsRowOf, native_of, outstanding_by, arch_retired, arch_paid, written_of, paid_by, fetch_by, native_in, native_tried, is_owing}
 use Rattle.rv_lawful.specs.Outstanding.{architecture, after_retired, after_written}
 use Rattle.rv_machine.specs.Placed.{judged, run, one_more, count, settling_stage, Serials, IsPlaced, IsPlacedSlot, IsReady, Inv}
 use Rattle.rv_machine.specs.Told.{NoStops, out_of, Told}
@@ -26,10 +26,17 @@ use Rattle.rv_machine.proofs.Going.{AreSeen}
 use Rattle.rv_machine.proofs.Moves.{leaving_placed, past_ex}
 use Rattle.rv_machine.proofs.Clearing.{cleared_drop, cleared_placed, cleared_decided, cleared_loaded}
 use Rattle.rv_machine.proofs.Settling.{settles_parts, settled_next, seen_rest}
-use Rattle.rv_machine.proofs.Quiet.{record_long, retired_whole}
+use Rattle.rv_machine.proofs.Quiet.{arch_after, shown_same, native_same, record_long, retired_whole}
+use Rattle.rv_machine.proofs.Idle.{idle_outstanding, idle_paid, idle_after, quiet_unit}
+use Rattle.rv_machine.proofs.Meeting.{seen_meets, meets_at}
 use Rattle.rv_machine.proofs.Before as B
 use Rattle.rv_machine.proofs.Flushing as F
 use Rattle.rv_machine.proofs.Telling as T
+use Rattle.rv_tried.specs.Parts.{shown, native}
+use Rattle.ix_bits.specs.declared.number.Bits.{Bits}
+use Rattle.rv_tried.specs.declared.trial.Trial.{Trial}
+use Rattle.rv_lawful.specs.Sight.{asked}
+use Rattle.rv_seq.specs.declared.commit.Stop.TheVariants.{Fetch}
 
 cleared_stops : (k : Setting) (stage n : ℕ) (slots : Slots) → n ≤ length slots → NoStops k (stage + n) (drop n slots) → NoStops k stage (cleared n slots)
 cleared_stops k stage zero slots le h = subst (λ b. NoStops k b slots) (add-zero stage) h
@@ -144,6 +151,27 @@ module _ (k : Setting) (ready : IsReady k) (earlier : List Row) (m : Machine) (r
     pub comes_to : commit_of token ≡ Some commit
     pub is_retired : p ≡ Some (token.cell.serial, commit)
     pub recorded : answer k (retirements earlier) ≡ Done commit
+    pub writes : native_of o ≡ Some commit
+
+  -- where nothing is spawned it is shown whole
+  shown_is : (t : Token) → IsPlaced k r (run k r).pc (shape_of k).stages [] t → (c : Commit) → answer k r ≡ Done c → shown t.asks c ≡ c
+  shown_is t h c done =
+      ap (λ a. shown a c) h.asks ∙ shown_same (asked k.design t.cell.word) (ready.quiet.asks t.cell.word) c (record_long (tree_of k) k.image (run k r) c done)
+
+  -- and written whole
+  native_is : (t : Token) → IsPlaced k r (run k r).pc (shape_of k).stages [] t → (c : Commit) → commit_of t ≡ Some c → answer k r ≡ Done c → native_of (Some t) ≡ Some c
+  native_is t h c comes done = by_trial t.trial comes where
+    by_answer : (blocks : List (Option Bits)) (y : StepAnswer) → commit_in y ≡ Some c → native_in t.asks blocks y ≡ Some c
+    by_answer blocks (Done d) e =
+        let same : d ≡ c = cc in
+        ap (λ x. Some (native t.asks blocks x)) same
+        ∙ ap (λ a. Some (native a blocks c)) h.asks
+        ∙ ap (λ x. Some x) (native_same (asked k.design t.cell.word) (ready.quiet.asks t.cell.word) c (record_long (tree_of k) k.image (run k r) c done) blocks)
+    by_answer blocks (Stopped stop) e = cc
+
+    by_trial : (o : Option Trial) → tried_commit o ≡ Some c → native_tried t.asks o ≡ Some c
+    by_trial None e = cc
+    by_trial (Some trial) e = by_answer trial.blocks trial.answer e
 
   retirement : (t : Token) → IsPlaced k r (run k r).pc (shape_of k).stages [] t → Retirement (Some t) (retired_of (Some t))
   retirement t h =
@@ -158,8 +186,9 @@ module _ (k : Setting) (ready : IsReady k) (earlier : List Row) (m : Machine) (r
         is_left = refl;
         commit = c.0;
         comes_to = e;
-        is_retired = ap (λ o. with_serial t.cell.serial o) e;
+        is_retired = ap (λ o. with_serial t.cell.serial t.asks o) e ∙ ap (λ x. Some (t.cell.serial, x)) (shown_is t h c.0 (sym exact.answer ∙ c.1));
         recorded = sym exact.answer ∙ c.1;
+        writes = native_is t h c.0 e (sym exact.answer ∙ c.1);
       }
 
   -- either nothing goes out, or a token that retires
@@ -170,7 +199,7 @@ module _ (k : Setting) (ready : IsReady k) (earlier : List Row) (m : Machine) (r
     by_case (Some t) e h =
         let x = retirement t h in
         inr (
-          record { token = x.token; is_left = e ∙ x.is_left; commit = x.commit; comes_to = x.comes_to; is_retired = is.retired ∙ ap retired_of e ∙ x.is_retired; recorded = x.recorded },
+          record { token = x.token; is_left = e ∙ x.is_left; commit = x.commit; comes_to = x.comes_to; is_retired = is.retired ∙ ap retired_of e ∙ x.is_retired; recorded = x.recorded; writes = ap native_of e ∙ x.writes },
           sym left_out ∙ ap (λ s. one_more s 0) e,
         )
 
@@ -226,6 +255,9 @@ module _ (k : Setting) (ready : IsReady k) (earlier : List Row) (m : Machine) (r
         awaits = T.awaits_told k ready earlier m row inv is;
         memory = T.memory_told k ready earlier m row inv is;
         modules = T.modules_told k ready earlier m row inv is;
+        outstanding = outstanding_in k m;
+        meets = λ stage t older e. meets_at (shape_of k) (outstanding_in k m) stage (seen_by k m) older t (seen_meets k m (B.struck_inside k ready earlier m inv)) e;
+        idle = idle_outstanding k m inv.idle;
         decided = B.seen_decided k ready earlier m inv;
         serials = F.seen_serials k ready earlier m row inv is;
         words = F.words_now k ready earlier m row inv is;
@@ -237,18 +269,46 @@ module _ (k : Setting) (ready : IsReady k) (earlier : List Row) (m : Machine) (r
   unfolding told
   told_struck = refl
 
+  -- nothing is outstanding after the row
+  left_unit : IfSome (left_by k m) (λ t. t.asks.unit ≡ None)
+  left_unit = by_slot (left_by k m) left_placed where
+    by_slot : (o : Option Token) → IsPlacedSlot k r (run k r).pc (shape_of k).stages [] o → IfSome o (λ t. t.asks.unit ≡ None)
+    by_slot None h = tt
+    by_slot (Some t) h = quiet_unit k ready t.cell.word t.asks h.asks
+
+  pub idle_next : ((outstanding_by k m).entries ≡ []) × ((outstanding_by k m).owed ≡ [])
+  idle_next = idle_after k m inv.idle left_unit
+
+  pub stop_now : row.stop ≡ or_else (slot_stop (shape_of k) 0 (seen_by k m)) (if remains (seen_by k m) || is_some (word_at k.image (fetch_by k m)) then None else Some Fetch)
+  stop_now =
+      is.stop
+      ∙ ap (λ l. or_else (slot_stop (shape_of k) 0 (seen_by k m)) (if remains (seen_by k m) || (is_owing l || is_some (word_at k.image (fetch_by k m))) then None else Some Fetch)) idle_next.1
+
   -- ---- the state after the row
 
-  pub state_now : arch_after m.arch row.retired ≡ run k (retirements (row ∷ earlier))
-  state_now = elim goes_out [
+  retired_state : arch_retired (native_of (left_by k m)) m.arch ≡ run k (retirements (row ∷ earlier))
+  retired_state = elim goes_out [
+    | inl n ↦
+        let z : retirements earlier + 0 ≡ retirements earlier = omega arith in
+        let e = retired_now ∙ ap (λ o. retirements earlier + o) n.2 ∙ z in
+        ap (λ o. arch_retired (native_of o) m.arch) n.0 ∙ inv.arch ∙ ap (λ j. run k j) (sym e)
+    | inr y ↦
+        let z : retirements earlier + 1 ≡ suc (retirements earlier) = omega arith in
+        let e = retired_now ∙ ap (λ o. retirements earlier + o) y.1 ∙ z in
+        ap (λ o. arch_retired o m.arch) y.0.writes ∙ ap (λ s. applied y.0.commit s) inv.arch ∙ sym (run_suc k (retirements earlier) ∙ ap (λ a. after (run k (retirements earlier)) a) y.0.recorded) ∙ ap (λ j. run k j) (sym e)
+  ]
+
+  pub state_now : arch_paid (paid_by k m) (arch_retired (native_of (left_by k m)) m.arch) ≡ run k (retirements (row ∷ earlier))
+  state_now = ap (λ w. arch_paid w (arch_retired (native_of (left_by k m)) m.arch)) (idle_paid k m inv.idle) ∙ retired_state
+
+  -- what the row retires is what is written
+  retired_written : arch_after m.arch row.retired ≡ run k (retirements (row ∷ earlier))
+  retired_written = elim goes_out [
     | inl n ↦
         let z : retirements earlier + 0 ≡ retirements earlier = omega arith in
         let e = retired_now ∙ ap (λ o. retirements earlier + o) n.2 ∙ z in
         ap (λ o. arch_after m.arch o) n.1 ∙ inv.arch ∙ ap (λ j. run k j) (sym e)
-    | inr y ↦
-        let z : retirements earlier + 1 ≡ suc (retirements earlier) = omega arith in
-        let e = retired_now ∙ ap (λ o. retirements earlier + o) y.1 ∙ z in
-        ap (λ o. arch_after m.arch o) y.0.is_retired ∙ ap (λ s. applied y.0.commit s) inv.arch ∙ sym (run_suc k (retirements earlier) ∙ ap (λ a. after (run k (retirements earlier)) a) y.0.recorded) ∙ ap (λ j. run k j) (sym e)
+    | inr y ↦ ap (λ o. arch_after m.arch o) y.0.is_retired ∙ sym (ap (λ o. arch_retired o m.arch) y.0.writes) ∙ retired_state
   ]
 
   -- what retires has a record of the run
@@ -265,7 +325,7 @@ module _ (k : Setting) (ready : IsReady k) (earlier : List Row) (m : Machine) (r
   pub architecture_now : architecture (tree_of k) (judged k) (row ∷ earlier) ≡ run k (retirements (row ∷ earlier))
   unfolding architecture
   architecture_now =
-      ap (λ w. after_written w (after_retired (judged k) (retirements earlier) row.retired (architecture (tree_of k) (judged k) earlier))) is.written
+      ap (λ w. after_written w (after_retired (judged k) (retirements earlier) row.retired (architecture (tree_of k) (judged k) earlier))) (is.written ∙ ap written_of (idle_paid k m inv.idle))
       ∙ ap (λ s. after_retired (judged k) (retirements earlier) row.retired s) (inv.state ∙ sym inv.arch)
       ∙ retired_whole (judged k) ready.quiet.asks (retirements earlier) row.retired m.arch retired_long
-      ∙ state_now
+      ∙ retired_written

@@ -17,6 +17,7 @@ use Rattle.rv_engine.specs.Settings.{Setting, Machine, shape_of, tree_of, first_
 use Rattle.rv_engine.specs.Rows.{IsRowOf, machine_after, next_after, accesses_after, stood_after, new_by, memory_by}
 use Rattle.rv_engine.specs.Kept.{machine_of, IsFit}
 use Rattle.rv_machine.specs.Running.{machine_at, AreRows, IsSound}
+use Rattle.rv_engine.specs.Owing.{IsOwingOf}
 
 -- counts grow by one at most
 one_more : (b : Bool) (n : ℕ) → (if b then suc n else n) ≤ n + 1
@@ -49,7 +50,7 @@ reverse_push rows row items e = ap reverse e ∙ reverse-append rows (row ∷ []
 -- after one more row
 module _ (k : Setting) (asking : Asking) (scratch scratch' : Scratch) (kept kept' : Kept) (rows : List Row) (row : Row) (spare spare' : ℕ) (less : spare' + 1 ≡ spare)
     (sound : IsSound k asking scratch kept rows spare) (going : (newest rows).stop ≡ None) (is : IsRowOf k (machine_of (shape_of k) kept) row)
-    (after : machine_of (shape_of k) kept' ≡ machine_after k (machine_of (shape_of k) kept)) (fit : IsFit k (machine_of (shape_of k) kept')) (ready : IsScratchOf (tree_of k) scratch') where
+    (after : machine_of (shape_of k) kept' ≡ machine_after k (machine_of (shape_of k) kept)) (fit : IsFit k (machine_of (shape_of k) kept')) (owing : IsOwingOf k.design kept'.owing) (ready : IsScratchOf (tree_of k) scratch') where
   pub rows_after : AreRows k (row ∷ rows)
   rows_after = (subst (λ m. IsRowOf k m row) sound.machine is, going, sound.are_rows)
 
@@ -81,14 +82,15 @@ module _ (k : Setting) (asking : Asking) (scratch scratch' : Scratch) (kept kept
         few_stood = omega (arith, stood, c, few_stood);
         machine = machine_then;
         fit = fit;
+        owing = owing;
         are_rows = rows_after;
       }
 
 -- before the first row
 pub sound_first : (k : Setting) (asking : Asking) (scratch : Scratch) (kept : Kept) (cycles : ℕ) → cycles < 2 ^ 32 → IsWellFormed k.design.extension → IsValidSheet k.design.sheet → IsAskingOf k.design asking → IsScratchOf (tree_of k) scratch
-    → machine_of (shape_of k) kept ≡ first_machine k → IsFit k (machine_of (shape_of k) kept) → IsSound k asking scratch kept [] cycles
+    → machine_of (shape_of k) kept ≡ first_machine k → IsFit k (machine_of (shape_of k) kept) → IsOwingOf k.design kept.owing → IsSound k asking scratch kept [] cycles
 unfolding machine_at
-sound_first k asking scratch kept cycles fits well_formed sheet asked ready first fit =
+sound_first k asking scratch kept cycles fits well_formed sheet asked ready first fit owing =
     let next : kept.front.next ≡ 0 = ap (λ (n : Machine). n.next) first in
     let accesses : kept.front.accesses ≡ 0 = ap (λ (n : Machine). n.accesses) first in
     let stood : kept.front.stood ≡ 0 = ap (λ (n : Machine). n.stood) first in
@@ -103,5 +105,6 @@ sound_first k asking scratch kept cycles fits well_formed sheet asked ready firs
       few_stood = omega (arith, stood);
       machine = first;
       fit = fit;
+      owing = owing;
       are_rows = tt;
     }

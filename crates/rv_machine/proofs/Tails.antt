@@ -9,7 +9,7 @@ use Rattle.rv_trace.specs.declared.row.Hold.TheVariants.{Tail, Wait}
 use Rattle.rv_holds.specs.declared.token.Token.{Token}
 use Rattle.rv_asks.specs.declared.asks.Asks.{Asks}
 use Rattle.rv_holds.specs.Tokens.{Slots, or_else, stop_of, cells_of}
-use Rattle.rv_holds.specs.Holds.{operand_hold, custom_hold, late_hold, drain_hold, store_ahead, store_hold, memory_hold, tail_hold, shown}
+use Rattle.rv_holds.specs.Holds.{operand_hold, custom_hold, late_hold, drain_hold, store_ahead, store_hold, memory_hold, tail_hold, shown, reading_hold, ending_hold}
 use Rattle.rv_engine.specs.Rows.{tail_after, waited, going, advanced, first_slot, fill_first, new_by, loaded_by, seen_by, IsRowOf}
 use Rattle.rv_lawful.specs.Settings as Lawful
 use Rattle.rv_machine.proofs.Deciding.{same_test}
@@ -80,20 +80,20 @@ no_older_store a = by_case a.loads where
   by_case false = refl
 
 -- the token of the last stage waits for the memory, where that is MEM, or for its module
-pub last_hold : (k : Shape) (stage : ℕ) (t : Token) → (stage == k.rd) ≡ false → (stage == k.ex) ≡ false → (suc stage == k.stages) ≡ true → shown k stage t [] ≡ or_else (if stage == k.mem then memory_hold t else None) (tail_hold t)
+pub last_hold : (k : Shape) (stage : ℕ) (t : Token) → (stage == k.rd) ≡ false → (stage == k.ex) ≡ false → (suc stage == k.stages) ≡ true → shown k stage t [] ≡ or_else (if stage == k.mem then memory_hold t else None) (ending_hold t)
 last_hold k stage t e f g =
     ap (λ (b : Bool). by_tests b (stage == k.ex) (suc stage == k.stages)) e
     ∙ ap (λ (b : Bool). by_tests false b (suc stage == k.stages)) f
     ∙ ap (λ (b : Bool). by_tests false false b) g
-    ∙ or_right (or_else (if stage == k.mem then or_else (memory_hold t) (store_hold [] t.asks) else None) (tail_hold t))
-    ∙ ap (λ o. or_else (if stage == k.mem then or_else (memory_hold t) o else None) (tail_hold t)) (no_older_store t.asks)
-    ∙ ap (λ o. or_else (if stage == k.mem then o else None) (tail_hold t)) (or_right (memory_hold t)) where
+    ∙ or_right (or_else (if stage == k.mem then or_else (memory_hold t) (store_hold [] t.asks) else None) (ending_hold t))
+    ∙ ap (λ o. or_else (if stage == k.mem then or_else (memory_hold t) o else None) (ending_hold t)) (no_older_store t.asks)
+    ∙ ap (λ o. or_else (if stage == k.mem then o else None) (ending_hold t)) (or_right (memory_hold t)) where
       own_by : Bool → Bool → Bool → Option Hold
       own_by a b c =
-          or_else (or_else (if a then operand_hold [] t.asks else None) (if b then or_else (custom_hold [] t.asks) (late_hold []) else None))
+          or_else (or_else (if a then reading_hold t [] else None) (if b then or_else (custom_hold [] t.asks) (late_hold []) else None))
           (or_else (if b then drain_hold t [] else None)
           (or_else (if stage == k.mem then or_else (memory_hold t) (store_hold [] t.asks) else None)
-          (if c then tail_hold t else None)))
+          (if c then ending_hold t else None)))
 
       by_tests : Bool → Bool → Bool → Option Hold
       by_tests a b c = if b && is_some (stop_of t) && is_none (own_by a b c) then None else or_else (own_by a b c) None

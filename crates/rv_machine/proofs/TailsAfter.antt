@@ -8,8 +8,8 @@ use Rattle.rv_trace.specs.declared.row.Hold.{Hold}
 use Rattle.rv_trace.specs.declared.row.Hold.TheVariants as H
 use Rattle.rv_holds.specs.declared.token.Token.{Token}
 use Rattle.rv_holds.specs.Tokens.{Slots, or_else, stop_of}
-use Rattle.rv_holds.specs.Holds.{oldest, operand, does_write, waits_for, operand_hold, custom, writes_late, waits_for_custom, first_from, custom_hold, late, is_late, late_hold, waiting_hold, drain, staying, drain_hold, store_ahead, does_store, store_hold, memory_hold, tail_hold, own_hold, stops_now, is_blocked, shown}
-use Rattle.rv_engine.specs.Settings.{Setting, Machine, shape_of}
+use Rattle.rv_holds.specs.Holds.{oldest, operand, does_write, waits_for, operand_hold, custom, writes_late, waits_for_custom, first_from, custom_hold, late, is_late, late_hold, waiting_hold, drain, staying, drain_hold, store_ahead, does_store, store_hold, memory_hold, tail_hold, own_hold, stops_now, is_blocked, shown, board, reading_hold, left_behind, board_hold, ending_hold, lower_of, least_from, spawner, register_count}
+use Rattle.rv_engine.specs.Settings.{Setting, Machine, shape_of, outstanding_in}
 use Rattle.rv_engine.specs.Rows.{tail_after, advanced, seen_by, IsRowOf}
 use Rattle.rv_lawful.specs.Settings as Lawful
 use Rattle.rv_machine.specs.Placed.{judged, IsReady, Inv}
@@ -22,6 +22,9 @@ use Rattle.rv_machine.proofs.Telling as T
 use Rattle.rv_machine.proofs.Tails.{Moved, stayed, went, moved_from, last_hold, tail_stays}
 use Rattle.rv_machine.proofs.Tails as L
 use Rattle.rv_machine.proofs.GoesNext.{TailsAfter}
+use Rattle.rv_machine.proofs.Idle.{alone, alone_is, idle_outstanding, quiet_unit}
+use Rattle.rv_machine.proofs.Meeting.{seen_meets, meets_at}
+use Rattle.rv_machine.proofs.Bound.{lone_ending}
 
 -- ---- below the last stage no hold is Tail
 
@@ -133,6 +136,12 @@ module _ (k : Setting) (ready : IsReady k) (earlier : List Row) (m : Machine) (r
         let z : 0 + i ≡ i = omega arith in
         (subst (λ l. Decided k i l) d (subst (λ b. Decided k b (drop i (seen_by k m))) z (decided_drop k 0 i (seen_by k m) (B.seen_decided k ready earlier m inv)))).0
 
+    -- nothing is met beside the stages
+    alone_at : (i : ℕ) (t : Token) (rest : Slots) → drop i (seen_by k m) ≡ Some t ∷ rest → t.beside ≡ alone
+    alone_at i t rest d =
+        alone_is k (outstanding_in k m) i t (idle_outstanding k m inv.idle) (quiet_unit k ready t.cell.word t.asks (T.at_rest k ready earlier m row inv is i t rest d).0.asks)
+        (meets_at (shape_of k) (outstanding_in k m) i (seen_by k m) rest t (seen_meets k m (B.struck_inside k ready earlier m inv)) d)
+
     stay : (t : Token) (rest : Slots) → drop n (seen_by k m) ≡ Some t ∷ rest → is_some t.cell.hold ≡ true → (b : Bool) → (suc n == (shape_of k).stages) ≡ b → tail_after t.cell.hold t.tail + Lawful.tailed (judged k) (row ∷ earlier) t.cell.serial ≡ t.asks.tail
     stay t rest d h false q =
         let w = within n (seen_by k m) rest (Some t) d in
@@ -151,7 +160,8 @@ module _ (k : Setting) (ready : IsReady k) (earlier : List Row) (m : Machine) (r
         ap (λ j. tail_after t.cell.hold t.tail + j) (L.shown_last k ready earlier m row inv is n t rest d last)
         ∙ tail_stays (n == (shape_of k).mem) t (Lawful.tailed (judged k) earlier t.cell.serial) (T.modules_told k ready earlier m row inv is n t rest d)
         (λ at some. ended t rest (ap (λ i. drop i (seen_by k m)) (sym (test_eq n (shape_of k).mem at)) ∙ d) some)
-        (held_at n t rest d ∙ ap (λ l. shown (shape_of k) n t l) none ∙ last_hold (shape_of k) n t no_rd no_ex q) h where
+        (held_at n t rest d ∙ ap (λ l. shown (shape_of k) n t l) none ∙ last_hold (shape_of k) n t no_rd no_ex q
+        ∙ ap (λ o. or_else (if n == (shape_of k).mem then memory_hold t else None) o) (lone_ending t (alone_at n t rest d))) h where
           higher : (a b : ℕ) → b < a → (a == b) ≡ false
           higher a b lt = grind (arith, nat_tests)
 

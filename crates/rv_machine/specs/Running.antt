@@ -9,6 +9,7 @@ use Rattle.rv_trace.specs.Trace.{newest}
 use Rattle.rv_asks.specs.Asks.{IsAskingOf}
 use Rattle.rv_asks.specs.declared.asking.Asking.{Asking}
 use Rattle.rv_engine.specs.declared.front.Kept.{Kept}
+use Rattle.rv_engine.specs.Owing.{IsOwingOf}
 use Rattle.rv_engine.specs.Settings.{Setting, Machine, shape_of, tree_of, first_machine}
 use Rattle.rv_engine.specs.Rows.{IsRowOf, machine_after}
 use Rattle.rv_engine.specs.Kept.{machine_of, IsFit}
@@ -41,4 +42,5 @@ pub record IsSound (k : Setting) (asking : Asking) (scratch : Scratch) (kept : K
   pub few_stood : kept.front.stood ≤ length rows
   pub machine : machine_of (shape_of k) kept ≡ machine_at k rows
   pub fit : IsFit k (machine_of (shape_of k) kept)
+  pub owing : IsOwingOf k.design kept.owing
   pub are_rows : AreRows k rows

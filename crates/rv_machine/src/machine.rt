@@ -9,12 +9,12 @@ use crate::laws::rows_laws;
 use ix_behaviour::behaviour_laws;
 use ix_bits::Memory;
 use ix_eval::Scratch;
-use ix_plan::{Design, Target};
+use ix_plan::Design;
 use rv_asks::{Asking, asking_of};
 use rv_engine::{Kept, first_kept, make_row};
-use rv_holds::does_spawn;
 use rv_isa::Image;
 use rv_seq::Arch;
+use rv_sight::sight_laws;
 use rv_trace::{Row, Trace};
 use rv_waits::Waits;
 use std::alloc::Global;
@@ -62,6 +62,7 @@ impl<'a> Machine<'a> {
         ensures spare { IfOk result (λ m. m.spare ≡ cycles) }
     {
         behaviour_laws();
+        sight_laws();
         let trace = Trace::new(alloc, cycles)?;
         let asking = asking_of(alloc, design)?;
         let scratch = Scratch::new(alloc, &design.extension)?;
@@ -106,21 +107,6 @@ impl<'a> Machine<'a> {
         ensures are_rows { AreRows self.now.setting self.now.rows }
     {
         &self.trace
-    }
-
-    /// Lists the outstanding registers, each with its serial, and tells how many there are.
-    pub fn list_outstanding(&self, all: &mut [(u32, Target); 48]) -> usize {
-        let mut count = 0;
-        for one in self.kept.owing.owed().iter().rev() {
-            for number in 0..48u8 {
-                if does_spawn(&one.asks, number) && count < 48 {
-                    let target = if number < 32 { Target::X(number) } else { Target::Custom(number - 32) };
-                    all[count] = (one.serial, target);
-                    count += 1;
-                }
-            }
-        }
-        count
     }
 
     /// The architectural state after the last row.

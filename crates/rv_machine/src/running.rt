@@ -8,7 +8,7 @@ ghost use Rattle.rv_machine.specs.DesignText.{IsDesignText};
 
 use crate::machine::Machine;
 use ix_io::{Out, Sink};
-use ix_plan::{Design, Target};
+use ix_plan::Design;
 use rv_isa::Image;
 use rv_text::{RunErr, write_trace};
 use rv_waits::Waits;
@@ -52,13 +52,11 @@ pub fn write_design_run<S: Sink>(
         return Err(RunErr::Memory);
     };
     run_machine(&mut machine, cycles);
-    let mut targets = [(0, Target::X(0)); 48];
-    let count = machine.list_outstanding(&mut targets);
     match write_trace(
         machine.trace(),
         design.sheet.shape,
         design.extension.registers.len(),
-        &targets[..count],
+        &[],
         machine.arch(),
         &mut out,
         sink,

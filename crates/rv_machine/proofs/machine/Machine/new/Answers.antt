@@ -12,7 +12,10 @@ invariant_of-result c =
     let fits : c.args.cycles < 2 ^ 32 = omega (arith, few) in
     rw (c.as_slice.ensures.words, ap (λ (l : List Row). reverse l) c.in_ok-trace.ensures.rows, c.in_ok-trace.ensures.spare)
     (sound_first (setting c.args.design.now c.args.image.now c.args.waits.now) c.in_ok-asking.asking c.in_ok-scratch.scratch c.in_ok-kept.kept c.args.cycles fits c.requires.stands.well_formed c.requires.stands.sheet c.in_ok-asking.ensures.asking
-    c.in_ok-scratch.ensures (c.in_ok-kept.ensures.machine c.args.image.now c.args.waits.now) (c.in_ok-kept.ensures.fit c.args.image.now c.args.waits.now))
+    c.in_ok-scratch.ensures (c.in_ok-kept.ensures.machine c.args.image.now c.args.waits.now) (c.in_ok-kept.ensures.fit c.args.image.now c.args.waits.now) c.in_ok-kept.ensures.units)
 
 pub asking_of-requires : goal.asking_of-requires
 asking_of-requires c = record { few = few_units c.args.design.now c.behaviour_laws.ensures.few c.requires.stands }
+
+pub first_kept-requires-clause-units : goal.first_kept-requires-clause-units
+first_kept-requires-clause-units c = (c.sight_laws.ensures.units c.args.design.now c.requires.stands).units
