@@ -27,7 +27,8 @@ use Rattle.rv_machine.proofs.Quiet.{shown_same, record_long, outstanding_none}
 use Rattle.rv_lawful.specs.LawfulTrace.{StopsRun}
 use Rattle.rv_engine.specs.Rows.{written_of}
 use Rattle.rv_machine.proofs.Idle.{idle_paid}
-use Rattle.rv_machine.specs.Placed.{judged, run, count, tail, expected, IsReady}
+use Rattle.rv_machine.specs.Owing.{judged}
+use Rattle.rv_machine.specs.Placed.{run, count, tail, expected, IsReady}
 use Rattle.rv_machine.specs.Told.{out_of}
 use Rattle.rv_machine.proofs.Deciding.{or_else_none, or_else_none_b}
 use Rattle.rv_machine.specs.Made.{Made}

@@ -15,7 +15,8 @@ use Rattle.rv_engine.specs.Rows.{unless as unless_of, waited, going, kept, advan
 use Rattle.rv_lawful.specs.Settings as Lawful
 use Rattle.rv_lawful.specs.Settings.{Course}
 use Rattle.rv_lawful.specs.LawfulTrace.{plain_fetch, fetch_address, next_serial}
-use Rattle.rv_machine.specs.Placed.{judged, one_more, count, expected, IsReady, Inv}
+use Rattle.rv_machine.specs.Owing.{judged}
+use Rattle.rv_machine.specs.Placed.{one_more, count, expected, IsReady, Inv}
 use Rattle.rv_machine.specs.Told.{NoStops}
 use Rattle.rv_machine.proofs.Deciding.{decided_tail, no_stops_tail}
 use Rattle.rv_machine.proofs.Places.{token_order}

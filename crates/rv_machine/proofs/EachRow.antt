@@ -12,7 +12,8 @@ use Rattle.rv_engine.specs.Settings.{Setting, Machine, shape_of, tree_of}
 use Rattle.rv_engine.specs.Rows.{fill_first, owed_by, new_by, loaded_by, seen_by, left_by, advanced, IsRowOf, machine_after}
 use Rattle.rv_lawful.specs.LawfulTrace.{LawfulRow}
 use Rattle.rv_lawful.specs.Headline.{AgreesWithRun}
-use Rattle.rv_machine.specs.Placed.{judged, one_more, tail, expected, rank, IsReady, Inv}
+use Rattle.rv_machine.specs.Owing.{judged}
+use Rattle.rv_machine.specs.Placed.{one_more, tail, expected, rank, IsReady, Inv}
 use Rattle.rv_machine.specs.Made.{Made}
 use Rattle.rv_machine.proofs.Bound.{tails_of}
 use Rattle.rv_machine.proofs.Reading.{Alike}

@@ -17,7 +17,8 @@ use Rattle.rv_engine.specs.Rows.{first_slot, owed_by}
 use Rattle.rv_lawful.specs.Settings.{Course, accesses_before}
 use Rattle.rv_lawful.specs.Outstanding.{architecture}
 use Rattle.rv_lawful.specs.LawfulTrace.{fetch_address, next_serial}
-use Rattle.rv_machine.specs.Placed.{judged, run, count, tail, expected, past_ex, paid_late, to_go, Placed, Serials, IsReady, Inv}
+use Rattle.rv_machine.specs.Owing.{judged}
+use Rattle.rv_machine.specs.Placed.{run, count, tail, expected, past_ex, paid_late, to_go, Placed, Serials, IsReady, Inv}
 
 abbrev nothing : ℕ → Slots
 nothing n = replicate n None

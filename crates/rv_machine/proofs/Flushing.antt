@@ -18,7 +18,8 @@ use Rattle.rv_engine.specs.Settings.{Setting, Machine}
 use Rattle.rv_engine.specs.Rows.{fetched, fill_first, next_after, new_by, loaded_by, turn_by, seen_by, IsRowOf}
 use Rattle.rv_lawful.specs.Settings as Lawful
 use Rattle.rv_lawful.specs.LawfulTrace.{IsWordOf}
-use Rattle.rv_machine.specs.Placed.{judged, count, HasWord, Serials, IsReady, Inv}
+use Rattle.rv_machine.specs.Owing.{judged}
+use Rattle.rv_machine.specs.Placed.{count, HasWord, Serials, IsReady, Inv}
 use Rattle.rv_machine.proofs.Places.{stood, one_token, token_order, token_of, serials_drop, serials_more, serials_filled, place_same, flushed_same, flushed_now, flushed_before, unflushed_before, place_over, place_suc, place_lt, place_le, lower_place, next_placed, Unflushed, HasSerial}
 use Rattle.rv_machine.proofs.Standing.{here_of}
 use Rattle.rv_machine.proofs.Moving.{Named, filled_from, KeepsAll, keeps_all, FlushesFirst}

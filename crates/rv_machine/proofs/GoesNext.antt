@@ -10,7 +10,8 @@ use Rattle.rv_holds.specs.Tokens.{Slots}
 use Rattle.rv_engine.specs.Settings.{Setting, Machine, shape_of, tree_of}
 use Rattle.rv_engine.specs.Rows.{advanced, owed_by, new_by, memory_by, seen_by, IsRowOf, machine_after}
 use Rattle.rv_lawful.specs.Settings as Lawful
-use Rattle.rv_machine.specs.Placed.{judged, rank, IsReady, Inv}
+use Rattle.rv_machine.specs.Owing.{judged}
+use Rattle.rv_machine.specs.Placed.{rank, IsReady, Inv}
 use Rattle.rv_machine.proofs.Filling.{next_within}
 use Rattle.rv_machine.proofs.Moves.{advanced_length}
 use Rattle.rv_machine.proofs.Before as B

@@ -4,7 +4,8 @@ use Rattle.rv_trace.specs.declared.row.Row.{Row}
 use Rattle.rv_engine.specs.Settings.{Setting, Machine}
 use Rattle.rv_engine.specs.Rows.{IsRowOf, machine_after}
 use Rattle.rv_lawful.specs.LawfulTrace.{Lawful}
-use Rattle.rv_machine.specs.Placed.{judged, IsReady, Inv}
+use Rattle.rv_machine.specs.Owing.{judged}
+use Rattle.rv_machine.specs.Placed.{IsReady, Inv}
 use Rattle.rv_machine.proofs.GoesNext.{goes_next}
 use Rattle.rv_machine.proofs.TailsAfter.{tails_after}
 use Rattle.rv_machine.proofs.EachRow as R

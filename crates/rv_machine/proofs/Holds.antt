@@ -15,7 +15,8 @@ use Rattle.rv_holds.specs.Holds.{own_hold, stops_now, is_blocked, shown}
 use Rattle.rv_engine.specs.Settings.{Setting, shape_of}
 use Rattle.rv_lawful.specs.Settings.{stages_of, Stands}
 use Rattle.rv_lawful.specs.LawfulTrace.{OwnHold, StopsRun, WaitsBehind, TrueHold, ShowsHold}
-use Rattle.rv_machine.specs.Placed.{judged, IsReady, Placed}
+use Rattle.rv_machine.specs.Owing.{judged}
+use Rattle.rv_machine.specs.Placed.{IsReady, Placed}
 use Rattle.rv_machine.specs.Told.{Told}
 use Rattle.rv_machine.proofs.Standing.{slice_get-drop, drop_more, cells_drop, here_of, at_stage}
 use Rattle.rv_machine.proofs.Ordering.{own_kind}

@@ -26,7 +26,8 @@ use Rattle.rv_lawful.specs.LawfulTrace.{fetch_address, next_serial, new_cell, Mo
 use Rattle.rv_lawful.specs.Outstanding.{serial_written, outstanding}
 use Rattle.rv_machine.proofs.Quiet.{written_none, outstanding_none}
 use Rattle.rv_machine.proofs.Idle.{idle_paid}
-use Rattle.rv_machine.specs.Placed.{judged, IsReady}
+use Rattle.rv_machine.specs.Owing.{judged}
+use Rattle.rv_machine.specs.Placed.{IsReady}
 use Rattle.rv_machine.proofs.Places.{stood, token_order}
 use Rattle.rv_machine.proofs.Deciding.{test_eq, is_none_of}
 use Rattle.rv_machine.specs.Made.{Made}

@@ -17,7 +17,8 @@ use Rattle.rv_engine.specs.Settings.{Setting, Machine, shape_of}
 use Rattle.rv_engine.specs.Rows.{fill_first, new_by, loaded_by, seen_by, IsRowOf}
 use Rattle.rv_lawful.specs.Settings.{accesses_before, stages_of, stood, is_tail, has_tail, tailed}
 use Rattle.rv_lawful.specs.LawfulTrace.{WaitsForMemory, Lawful}
-use Rattle.rv_machine.specs.Placed.{judged, count, Placed, IsReady, Inv}
+use Rattle.rv_machine.specs.Owing.{judged}
+use Rattle.rv_machine.specs.Placed.{count, Placed, IsReady, Inv}
 use Rattle.rv_machine.specs.Told.{Told}
 use Rattle.rv_machine.proofs.Places.{place_same}
 use Rattle.rv_machine.proofs.Standing.{placed_drop, here_of}

@@ -22,7 +22,8 @@ use Rattle.rv_engine.specs.Rows as Rows
 use Rattle.rv_engine.specs.Rows.{fetched, fill_first, first_slot, next_after, tail_after, waited, going, advanced, leaving, with_serial, retired_of, owed_by, new_by, loaded_by, turn_by, seen_by, fetch_by, left_by, memory_by, accesses_after, stood_after, machine_after}
 use Rattle.rv_lawful.specs.Settings as Lawful
 use Rattle.rv_lawful.specs.LawfulTrace.{next_serial}
-use Rattle.rv_machine.specs.Placed.{judged, IsReady, to_go, rank}
+use Rattle.rv_machine.specs.Owing.{judged}
+use Rattle.rv_machine.specs.Placed.{IsReady, to_go, rank}
 use Rattle.rv_machine.specs.Told.{NoStops}
 use Rattle.rv_machine.proofs.Places.{HasSerial, first_fetched, first_named, first_kept}
 use Rattle.rv_machine.proofs.Deciding.{or_else_none}
@@ -247,7 +248,7 @@ module _ (k : Setting) (ready : IsReady k) (earlier : List Row) (m : Machine) (r
 
   -- no token meets anything beside the stages
   lone : AreLone (seen_by k m)
-  lone = lone_from (seen_by k m) (λ n t older e. alone_is k made.told.outstanding n t made.told.idle (quiet_unit k ready t.cell.word t.asks (asks_at k (retirements earlier) 0 n (seen_by k m) t made.told.placed (here_of (seen_by k m) older t n e))) (made.told.meets n t older e)) where
+  lone = lone_from (seen_by k m) (λ n t older e. alone_is k made.told.outstanding n t made.told.idle (quiet_unit k ready t.cell.word t.asks (asks_at k (retirements earlier) 0 n (seen_by k m) t made.told.placed (here_of (seen_by k m) older t n e))) (made.told.beside.meets n t older e)) where
     lone_from : (l : Slots) → ((n : ℕ) (t : Token) (older : Slots) → drop n l ≡ Some t ∷ older → t.beside ≡ alone) → AreLone l
     lone_from [] f = tt
     lone_from (None ∷ l) f = lone_from l (λ n t older e. f (suc n) t older e)

@@ -13,7 +13,8 @@ use Rattle.rv_engine.specs.Settings.{Setting, Machine, shape_of, tree_of}
 use Rattle.rv_engine.specs.Rows.{advanced, first_slot, fill_first, next_after, new_by, loaded_by, turn_by, seen_by, left_by, fetch_by, executed_by, file_early, file_late, accesses_after, stood_after, IsRowOf, file_paid, paid_by}
 use Rattle.rv_lawful.specs.Settings as Lawful
 use Rattle.rv_lawful.specs.LawfulTrace.{IsWordOf}
-use Rattle.rv_machine.specs.Placed.{judged, one_more, count, tail, expected, HasWord, Placed, Serials, IsFuture, past_ex, IsReady, Inv}
+use Rattle.rv_machine.specs.Owing.{judged}
+use Rattle.rv_machine.specs.Placed.{one_more, count, tail, expected, HasWord, Placed, Serials, IsFuture, past_ex, IsReady, Inv}
 use Rattle.rv_machine.specs.Told.{NoStops, out_of}
 use Rattle.rv_machine.proofs.Deciding.{or_else_none}
 use Rattle.rv_machine.proofs.Places.{HasSerial, first_fetched, first_named, first_kept}

@@ -22,7 +22,8 @@ use Rattle.rv_engine.specs.Settings.{Setting, shape_of}
 use Rattle.rv_lawful.specs.Settings as Lawful
 use Rattle.rv_lawful.specs.Sight.{asked, IsEarly}
 use Rattle.rv_lawful.specs.LawfulTrace.{IsWordOf, IsDueToStop, reads_of, WaitsForOperand, WaitsForCustom, WaitsForJump, WaitsToDrain, IsUnwritten, WaitsForMemory, WaitsForStore, WaitsForModule, OwnHold, StopsRun}
-use Rattle.rv_machine.specs.Placed.{judged, count, IsReady, IsTried, Placed, Serials}
+use Rattle.rv_machine.specs.Owing.{judged}
+use Rattle.rv_machine.specs.Placed.{count, IsReady, IsTried, Placed, Serials}
 use Rattle.rv_machine.specs.Told.{out_of, Told}
 use Rattle.rv_machine.proofs.Places.{Stood, stood, older_lower, token_of, serials_drop, place_lt, place_order}
 use Rattle.rv_machine.proofs.Deciding.{same_test, test_eq, test_ne, no_waiting}
@@ -427,7 +428,7 @@ module _ (k : Setting) (ready : IsReady k) (earlier : List Row) (row : Row) (see
 
   -- nothing is met beside the stages
   alone_here : t.beside ≡ alone
-  alone_here = alone_is k told.outstanding stage t told.idle (quiet_unit k ready t.cell.word t.asks placed.0.asks) (told.meets stage t older rest)
+  alone_here = alone_is k told.outstanding stage t told.idle (quiet_unit k ready t.cell.word t.asks placed.0.asks) (told.beside.meets stage t older rest)
 
   left_is : left_behind t older ≡ staying older
   left_is =

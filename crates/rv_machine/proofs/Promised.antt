@@ -16,11 +16,13 @@ use Rattle.rv_engine.specs.Settings.{Setting, setting, tree_of}
 use Rattle.rv_lawful.specs.Outstanding.{Decoupled, owed_targets, architecture}
 use Rattle.rv_machine.proofs.Quiet.{outstanding_none}
 use Rattle.rv_lawful.specs.Headline.{Headline}
+use Rattle.rv_sight.specs.InUnits.{AreInUnits}
 use Rattle.rv_lawful.specs.Sight.{EarlyLaw, ExactLaw, KeepsLaw, TailLaw, QuietLaw}
 use Rattle.rv_machine.specs.Running.{AreRows, machine_at}
 use Rattle.rv_machine.specs.Promises.{IsInOrder, RowsLaw, TextLaw}
 use Rattle.rv_tried.specs.Whole.{WholeLaw, WideLaw}
-use Rattle.rv_machine.specs.Placed.{judged, Inv, IsReady, AnswerLaw}
+use Rattle.rv_machine.specs.Owing.{judged}
+use Rattle.rv_machine.specs.Placed.{Inv, IsReady, AnswerLaw}
 use Rattle.rv_machine.proofs.Retiring as R
 use Rattle.rv_machine.proofs.First.{first}
 use Rattle.rv_machine.proofs.GoesOn.{goes_on}
@@ -34,6 +36,7 @@ pub record Sights : Type 0 where
   pub exact : (d : Design) → Stands d → ExactLaw d
   pub keeps : (d : Design) → Stands d → KeepsLaw d
   pub tails : (d : Design) → Stands d → TailLaw d
+  pub units : (d : Design) → Stands d → AreInUnits d
   pub quiet : (d : Design) → Stands d → first_spawning (view_extension d.extension) ≡ None → QuietLaw d
   pub whole : WholeLaw
   pub blocks_wide : WideLaw
@@ -59,6 +62,7 @@ ready_of sights d image waits h =
       keeps = sights.keeps d h.stands;
       tails = sights.tails d h.stands;
       quiet = sights.quiet d h.stands h.quiet;
+      in_units = sights.units d h.stands;
       whole = sights.whole;
       blocks_wide = sights.blocks_wide;
       answers = sights.answers;

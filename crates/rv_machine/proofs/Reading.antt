@@ -19,7 +19,8 @@ use Rattle.rv_holds.specs.declared.token.Beside.{Beside}
 use Rattle.rv_engine.specs.Owing.{Outstanding, beside_of}
 use Rattle.rv_engine.specs.Settings.{Setting, shape_of}
 use Rattle.rv_engine.specs.Rows.{with_inputs, operands, with_operands, reading, tried_with, seeing, is_ripe, trying, is_loading, loading}
-use Rattle.rv_machine.specs.Placed.{judged, run, count, expected, IsTried, IsPlaced, Placed, IsReady, Serials}
+use Rattle.rv_machine.specs.Owing.{judged}
+use Rattle.rv_machine.specs.Placed.{run, count, expected, IsTried, IsPlaced, Placed, IsReady, Serials}
 use Rattle.rv_lawful.specs.Sight.{IsEarly}
 use Rattle.rv_machine.proofs.Deciding.{test_eq, same_test}
 

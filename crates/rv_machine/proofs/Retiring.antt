@@ -15,7 +15,8 @@ use Rattle.rv_holds.specs.Flushing.{next_of, settles, struck, cleared, slot_stop
 use Rattle.rv_engine.specs.Settings.{Setting, Machine, shape_of, tree_of, outstanding_in}
 use Rattle.rv_engine.specs.Rows.{going, leaving, with_serial, retired_of, owed_by, turn_by, seen_by, left_by, IsRowOf, native_of, outstanding_by, arch_retired, arch_paid, written_of, paid_by, fetch_by, native_in, native_tried, is_owing}
 use Rattle.rv_lawful.specs.Outstanding.{architecture, after_retired, after_written}
-use Rattle.rv_machine.specs.Placed.{judged, run, one_more, count, settling_stage, Serials, IsPlaced, IsPlacedSlot, IsReady, Inv}
+use Rattle.rv_machine.specs.Owing.{judged}
+use Rattle.rv_machine.specs.Placed.{run, one_more, count, settling_stage, Serials, IsPlaced, IsPlacedSlot, IsReady, Inv}
 use Rattle.rv_machine.specs.Told.{NoStops, out_of, Told}
 use Rattle.rv_machine.proofs.Places.{serials_drop, one_place}
 use Rattle.rv_machine.proofs.Moving.{last_slot, out_going}
@@ -242,6 +243,24 @@ module _ (k : Setting) (ready : IsReady k) (earlier : List Row) (m : Machine) (r
 
   -- ---- what is told
 
+  -- a serial that is retired has no token, and so is not flushed
+  kept_alive : (s : ℕ) → is_flushed earlier s ≡ false → is_retired earlier s ≡ true → is_flushed (row ∷ earlier) s ≡ false
+  kept_alive s alive gone = ?
+
+  beside_told : IsBeside k earlier row (seen_by k m) (outstanding_in k m)
+  beside_told =
+      record {
+        is = record { stages = refl; lasts = refl };
+        owing = inv.owing;
+        worded = inv.worded;
+        units = inv.units;
+        timed = inv.timed;
+        distinct = inv.distinct;
+        written = is.written;
+        alive = kept_alive;
+        meets = λ stage t older e. meets_at (shape_of k) (outstanding_in k m) stage (seen_by k m) older t (seen_meets k m (B.struck_inside k ready earlier m inv)) e;
+      }
+
   pub told : Told k earlier row (seen_by k m)
   told =
       record {
@@ -256,7 +275,7 @@ module _ (k : Setting) (ready : IsReady k) (earlier : List Row) (m : Machine) (r
         memory = T.memory_told k ready earlier m row inv is;
         modules = T.modules_told k ready earlier m row inv is;
         outstanding = outstanding_in k m;
-        meets = λ stage t older e. meets_at (shape_of k) (outstanding_in k m) stage (seen_by k m) older t (seen_meets k m (B.struck_inside k ready earlier m inv)) e;
+        beside = beside_told;
         idle = idle_outstanding k m inv.idle;
         decided = B.seen_decided k ready earlier m inv;
         serials = F.seen_serials k ready earlier m row inv is;

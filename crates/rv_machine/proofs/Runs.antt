@@ -26,7 +26,8 @@ use Rattle.rv_tried.specs.Whole.{IsWhole, AreBlocksWide}
 use Rattle.rv_lawful.specs.Settings.{does_access, word_accesses, state_trial, run_trial}
 use Rattle.rv_lawful.specs.Outstanding.{is_register}
 use Rattle.rv_lawful.specs.Sight.{asked, IsKept}
-use Rattle.rv_machine.specs.Placed.{judged, run, IsReady}
+use Rattle.rv_machine.specs.Owing.{judged}
+use Rattle.rv_machine.specs.Placed.{run, IsReady}
 
 -- what the step at a place comes to
 abbrev pub answer : Setting → ℕ → StepAnswer

@@ -10,7 +10,8 @@ use Rattle.rv_holds.specs.Holds.{oldest, staying}
 use Rattle.rv_engine.specs.Settings.{Setting}
 use Rattle.rv_lawful.specs.Settings.{stages_of}
 use Rattle.rv_lawful.specs.Sight.{asked}
-use Rattle.rv_machine.specs.Placed.{judged, one_more, count, Serials, Placed}
+use Rattle.rv_machine.specs.Owing.{judged}
+use Rattle.rv_machine.specs.Placed.{one_more, count, Serials, Placed}
 use Rattle.rv_machine.specs.Told.{Decided, out_last, out_of}
 use Rattle.rv_machine.proofs.Places.{older_lower}
 

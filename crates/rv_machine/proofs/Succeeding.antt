@@ -18,7 +18,8 @@ use Rattle.rv_engine.specs.Rows.{loaded_by, turn_by, seen_by, fetch_by, IsRowOf}
 use Rattle.rv_lawful.specs.Settings as Lawful
 use Rattle.rv_lawful.specs.Sight.{asked}
 use Rattle.rv_lawful.specs.LawfulTrace.{plain_fetch, fetch_address, StopsRun, IsSettlingStage, Settles, successor, IsNextYounger, HasNoYounger, IsMismatch, Successors}
-use Rattle.rv_machine.specs.Placed.{judged, run, Placed, IsReady}
+use Rattle.rv_machine.specs.Owing.{judged}
+use Rattle.rv_machine.specs.Placed.{run, Placed, IsReady}
 use Rattle.rv_machine.proofs.Deciding.{same_test, test_eq, test_ne}
 use Rattle.rv_machine.specs.Made.{Made}
 use Rattle.rv_machine.proofs.Standing.{here_of, At, at_stage, cell_here}

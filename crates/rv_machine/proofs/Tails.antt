@@ -20,7 +20,8 @@ use Rattle.rv_machine.proofs.Before as B
 use Rattle.rv_machine.proofs.Flushing as F
 use Rattle.rv_machine.proofs.Telling as T
 use Rattle.rv_machine.proofs.Flushing.{alike_get}
-use Rattle.rv_machine.specs.Placed.{judged, IsReady, Inv}
+use Rattle.rv_machine.specs.Owing.{judged}
+use Rattle.rv_machine.specs.Placed.{IsReady, Inv}
 use Rattle.rv_engine.specs.Settings.{Setting, Machine, shape_of}
 use Rattle.rv_trace.specs.Trace.{retirements}
 use Rattle.rv_trace.specs.declared.row.Cell.{Cell}

@@ -12,7 +12,8 @@ use Rattle.rv_holds.specs.Holds.{oldest, operand, does_write, waits_for, operand
 use Rattle.rv_engine.specs.Settings.{Setting, Machine, shape_of, outstanding_in}
 use Rattle.rv_engine.specs.Rows.{tail_after, advanced, seen_by, IsRowOf}
 use Rattle.rv_lawful.specs.Settings as Lawful
-use Rattle.rv_machine.specs.Placed.{judged, IsReady, Inv}
+use Rattle.rv_machine.specs.Owing.{judged}
+use Rattle.rv_machine.specs.Placed.{IsReady, Inv}
 use Rattle.rv_machine.specs.Told.{Decided}
 use Rattle.rv_machine.proofs.Deciding.{test_eq}
 use Rattle.rv_machine.proofs.Standing.{decided_drop}

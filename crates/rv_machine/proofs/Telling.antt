@@ -19,7 +19,8 @@ use Rattle.rv_engine.specs.Settings.{Setting, Machine, shape_of, tree_of, outsta
 use Rattle.rv_engine.specs.Rows.{tried_with, seeing, is_ripe, with_operands, reading, trying, is_loading, loading, fetched, fill_first, owed_by, new_by, read_by, held_by, loaded_by, turn_by, seen_by, IsRowOf}
 use Rattle.rv_lawful.specs.Settings as Lawful
 use Rattle.rv_lawful.specs.LawfulTrace.{IsWordOf}
-use Rattle.rv_machine.specs.Placed.{judged, count, expected, IsTried, IsPlaced, Placed, IsReady, Inv}
+use Rattle.rv_machine.specs.Owing.{judged}
+use Rattle.rv_machine.specs.Placed.{count, expected, IsTried, IsPlaced, Placed, IsReady, Inv}
 use Rattle.rv_machine.proofs.Deciding.{test_eq, same_test}
 use Rattle.rv_machine.proofs.Standing.{here_of, drop_more}
 use Rattle.rv_machine.proofs.Moving.{filled_from}

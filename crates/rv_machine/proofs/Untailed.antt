@@ -11,7 +11,8 @@ use Rattle.rv_holds.specs.declared.token.Token.{Token}
 use Rattle.rv_holds.specs.Tokens.{Slots, cell_of, cells_of}
 use Rattle.rv_engine.specs.Settings.{Setting, Machine, shape_of}
 use Rattle.rv_lawful.specs.Settings.{stages_of, is_tail, has_tail, tailed}
-use Rattle.rv_machine.specs.Placed.{judged, Inv}
+use Rattle.rv_machine.specs.Owing.{judged}
+use Rattle.rv_machine.specs.Placed.{Inv}
 use Rattle.rv_machine.proofs.Places.{stood, token_order, flushed_now}
 
 -- a cell that is held and not flushed is the next row's

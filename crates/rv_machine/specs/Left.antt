@@ -10,7 +10,8 @@ use Rattle.rv_holds.specs.Tokens.{commit_of}
 use Rattle.rv_engine.specs.Settings.{Setting, Machine, tree_of}
 use Rattle.rv_engine.specs.Rows.{advanced, seen_by, fetch_by, left_by}
 use Rattle.rv_lawful.specs.Outstanding.{architecture}
-use Rattle.rv_machine.specs.Placed.{judged, run, tail, expected}
+use Rattle.rv_machine.specs.Owing.{judged}
+use Rattle.rv_machine.specs.Placed.{run, tail, expected}
 use Rattle.rv_machine.specs.Told.{NoStops, out_of}
 
 pub record Left (k : Setting) (earlier : List Row) (m : Machine) (row : Row) : Type 0 where

@@ -1,5 +1,6 @@
 pub mod Running
 pub mod DesignText
+pub mod Owing
 pub mod Placed
 pub mod Told
 pub mod Made

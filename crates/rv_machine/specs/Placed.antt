@@ -28,14 +28,15 @@ use Rattle.rv_holds.specs.Holds.{oldest, is_late, writes_late}
 use Rattle.rv_engine.specs.Settings.{Setting, Machine, shape_of, tree_of}
 use Rattle.rv_engine.specs.Rows.{late_write, first_slot, owed_by}
 use Rattle.rv_lawful.specs.Settings as Lawful
-use Rattle.rv_lawful.specs.Outstanding.{architecture}
+use Rattle.rv_machine.specs.Owing.{judged, Owing, RetiredAs, Distinct, Apart}
+use Rattle.rv_lawful.specs.Outstanding.{architecture, outstanding, units_after}
+use Rattle.rv_unit.specs.Numbering.{lasts_of}
+use Rattle.rv_unit.specs.Slots.{units_of}
+use Rattle.rv_unit.specs.Timed.{IsTimed}
+use Rattle.rv_sight.specs.InUnits.{AreInUnits}
 use Rattle.rv_lawful.specs.LawfulTrace.{fetch_address, next_serial, IsWordOf}
 use Rattle.rv_lawful.specs.Sight.{asked, HasWords, AreWords, IsEarly, EarlyLaw, ExactLaw, KeepsLaw, TailLaw, QuietLaw}
 use Rattle.rv_effect.specs.WordEffects.{AreWide}
-
--- what the rows of a setting are judged against
-abbrev pub judged : Setting → Lawful.Setting
-judged k = Lawful.setting k.design k.image k.waits
 
 -- the state after so many steps of the run
 abbrev pub run : Setting → ℕ → Arch
@@ -59,6 +60,7 @@ pub record IsReady (k : Setting) : Type 0 where
   pub keeps : KeepsLaw k.design
   pub tails : TailLaw k.design
   pub quiet : QuietLaw k.design
+  pub in_units : AreInUnits k.design
   pub whole : WholeLaw
   pub blocks_wide : WideLaw
   pub answers : AnswerLaw
@@ -222,7 +224,14 @@ pub record Inv (k : Setting) (earlier : List Row) (m : Machine) : Type 0 where
   pub fresh : (s word : ℕ) → IsWordOf (judged k) earlier s word → s < m.next
   pub retired : (s : ℕ) → is_flushed earlier s ≡ false → is_retired earlier s ≡ nat_lt (place earlier s) (retirements earlier)
   pub unflushed : (s : ℕ) → m.next ≤ s → is_flushed earlier s ≡ false
-  -- nothing is outstanding
+  -- what is outstanding
+  pub owing : Owing k earlier (outstanding (judged k) earlier) m.entries m.owed
+  pub worded : (s word : ℕ) → IsWordOf (judged k) earlier s word → is_flushed earlier s ≡ false → is_retired earlier s ≡ true → RetiredAs earlier s word
+  pub units : units_after (judged k) earlier ≡ units_of (shape_of k).stages (lasts_of k.design.plans) m.entries
+  pub timed : IsTimed (shape_of k).stages (lasts_of k.design.plans) m.entries
+  pub distinct : Distinct m.owed
+  pub apart : Apart k m.owed 0 m.slots
+  -- nothing is, yet
   pub idle : (m.entries ≡ []) × (m.owed ≡ [])
   pub state : architecture (tree_of k) (judged k) earlier ≡ run k (retirements earlier)
   pub progress : rows_without earlier + rank (shape_of k) (greatest k.waits) (owed_by k m) m.slots ≤ (shape_of k).stages + greatest k.waits + 65

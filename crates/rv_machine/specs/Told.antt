@@ -8,11 +8,16 @@ use Rattle.rv_waits.specs.Waits.{wait_at}
 use Rattle.rv_holds.specs.declared.token.Token.{Token}
 use Rattle.rv_holds.specs.Tokens.{Slots, cells_of, makes_access}
 use Rattle.rv_holds.specs.Holds.{waiting_hold, stops_now, shown}
-use Rattle.rv_engine.specs.Owing.{Outstanding, outstanding_of, beside_of}
+use Rattle.rv_engine.specs.Owing.{Outstanding, IsOwingOf, outstanding_of, paying, beside_of}
+use Rattle.rv_engine.specs.Rows.{written_of}
+use Rattle.rv_unit.specs.Slots.{units_of}
+use Rattle.rv_unit.specs.Timed.{IsTimed}
+use Rattle.rv_lawful.specs.Outstanding as Out
 use Rattle.rv_engine.specs.Settings.{Setting, shape_of}
 use Rattle.rv_lawful.specs.Settings as Lawful
 use Rattle.rv_lawful.specs.LawfulTrace.{IsWordOf}
-use Rattle.rv_machine.specs.Placed.{judged, count, HasWord, IsTried, Placed, Serials}
+use Rattle.rv_machine.specs.Owing.{judged, Owing, RetiredAs, Distinct}
+use Rattle.rv_machine.specs.Placed.{count, HasWord, IsTried, Placed, Serials}
 
 -- each token shows its hold
 abbrev pub Decided : Setting → ℕ → Slots → Type 0
@@ -53,7 +58,7 @@ pub record Told (k : Setting) (earlier : List Row) (row : Row) (seen : Slots) : 
   pub modules : (n : ℕ) (t : Token) (older : Slots) → drop n seen ≡ Some t ∷ older → t.tail + Lawful.tailed (judged k) earlier t.cell.serial ≡ t.asks.tail
   -- what each meets beside the stages
   pub outstanding : Outstanding
-  pub meets : (stage : ℕ) (t : Token) (older : Slots) → drop stage seen ≡ Some t ∷ older → t.beside ≡ beside_of (shape_of k) outstanding stage t.asks
+  pub beside : IsBeside k earlier row seen outstanding
   pub idle : outstanding ≡ outstanding_of k.design [] []
   pub decided : Decided k 0 seen
   pub serials : Serials (row ∷ earlier) (retirements earlier) seen
