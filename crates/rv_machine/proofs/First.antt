@@ -19,6 +19,7 @@ use Rattle.rv_lawful.specs.Outstanding.{architecture}
 use Rattle.rv_lawful.specs.LawfulTrace.{fetch_address, next_serial}
 use Rattle.rv_machine.specs.Owing.{judged}
 use Rattle.rv_machine.specs.Placed.{run, count, tail, expected, past_ex, paid_late, to_go, Placed, Serials, IsReady, Inv}
+use Rattle.rv_machine.proofs.Idle.{idle_owing, idle_units, idle_apart}
 
 abbrev nothing : ℕ → Slots
 nothing n = replicate n None
@@ -120,6 +121,12 @@ first k ready =
       fresh = λ s word h. absurd h;
       retired = λ s alive. sym (none_below (place [] s));
       unflushed = λ s le. refl;
+      owing = idle_owing k ready [] (first_machine k) (refl, refl);
+      worded = λ s word h. absurd h;
+      units = idle_units k ready [] (first_machine k) (refl, refl);
+      timed = tt;
+      distinct = tt;
+      apart = idle_apart k ready (first_machine k) 0 (refl, refl) (placed_none k 0 n);
       idle = (refl, refl);
       state = refl;
       progress = rw g (omega arith);

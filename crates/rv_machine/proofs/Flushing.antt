@@ -264,6 +264,21 @@ module _ (k : Setting) (ready : IsReady k) (earlier : List Row) (m : Machine) (r
           | inr below ↦ ap (λ p. nat_lt p (retirements earlier)) (sym (place_same row earlier s (λ j lt. kept j (omega (arith, lt, below)))))
         ]
 
+  -- a serial that is retired has no token, and so is not flushed
+  pub kept_alive : (s : ℕ) → is_flushed earlier s ≡ false → is_retired earlier s ≡ true → is_flushed (row ∷ earlier) s ≡ false
+  kept_alive s alive gone = flushed_same row earlier s (by_flag (has_serial row.flushed s) refl) ∙ alive where
+    below : (a b : ℕ) → nat_lt a b ≡ true → a < b
+    below a b h = grind (arith, nat_tests)
+
+    by_flag : (b : Bool) → has_serial row.flushed s ≡ b → has_serial row.flushed s ≡ false
+    by_flag false q = q
+    by_flag true q =
+        let x = flushed_from s q in
+        let low = (stood earlier (retirements earlier) x.0 (loaded_by k m) x.1 loaded_serials x.3).low in
+        let same = ap (λ n. place earlier n) x.4 in
+        let lt = below (place earlier s) (retirements earlier) (sym (inv.retired s alive) ∙ gone) in
+        absurd (omega (arith, low, same, lt))
+
   -- Words
 
   -- a token before the flush stood before the row, or is the new one

@@ -12,10 +12,15 @@ use Rattle.rv_engine.specs.declared.owing.Owed.{Owed}
 use Rattle.rv_engine.specs.Owing.{Outstanding, outstanding_of, board_of, holder_for, paying, unit_hold, port_serial, port_hold, retiring_hold, beside_of, outstanding_after}
 use Rattle.rv_engine.specs.Settings.{Setting, Machine, shape_of, outstanding_in}
 use Rattle.rv_engine.specs.Rows.{into_unit, entering_of, owed_tried, left_by, paid_by, outstanding_by}
-use Rattle.rv_lawful.specs.Outstanding.{has_target, touches}
+use Rattle.rv_lawful.specs.Outstanding.{has_target, touches, outstanding, units_after}
 use Rattle.rv_lawful.specs.Sight.{asked, SpawnsNothing}
 use Rattle.rv_machine.specs.Placed.{IsReady, IsPlacedSlot, Placed}
-use Rattle.rv_machine.proofs.Quiet.{no_target}
+use Rattle.rv_machine.proofs.Quiet.{no_target, outstanding_none, units_none}
+use Rattle.rv_machine.specs.Owing.{judged, Owing, Distinct, Apart}
+use Rattle.rv_trace.specs.declared.row.Row.{Row}
+use Rattle.rv_unit.specs.Slots.{units_of}
+use Rattle.rv_unit.specs.Timed.{IsTimed}
+use Rattle.rv_unit.proofs.Numbered.{first_law}
 
 -- nothing is met
 abbrev pub alone : Beside
@@ -78,6 +83,26 @@ idle_after k m idle h =
     ap (λ o. outstanding_after o (entering_of (left_by k m))) (idle_outstanding k m idle) ∙ ap (λ e. outstanding_after (outstanding_of k.design [] []) e) none in
     (ap (λ o. o.entries) whole, ap (λ o. o.owed) whole)
 
+-- what is said of what is outstanding then
+module _ (k : Setting) (ready : IsReady k) (rows : List Row) (m : Machine) (idle : IsIdle m) where
+  pub idle_owing : Owing k rows (outstanding (judged k) rows) m.entries m.owed
+  idle_owing =
+      subst (λ l. Owing k rows l m.entries m.owed) (sym (outstanding_none (judged k) ready.quiet.asks rows))
+      (subst (λ (e : List Entry). Owing k rows [] e m.owed) (sym idle.0) (subst (λ (w : List Owed). Owing k rows [] [] w) (sym idle.1) tt))
+
+  pub idle_units : units_after (judged k) rows ≡ units_of (shape_of k).stages (lasts_of k.design.plans) m.entries
+  idle_units =
+      units_none (judged k) ready.quiet.asks ready.quiet.units rows
+      ∙ sym ready.quiet.units
+      ∙ sym (first_law (shape_of k).stages k.design.plans)
+      ∙ ap (λ (e : List Entry). units_of (shape_of k).stages (lasts_of k.design.plans) e) (sym idle.0)
+
+  pub idle_timed : IsTimed (shape_of k).stages (lasts_of k.design.plans) m.entries
+  idle_timed = subst (λ (e : List Entry). IsTimed (shape_of k).stages (lasts_of k.design.plans) e) (sym idle.0) tt
+
+  pub idle_distinct : Distinct m.owed
+  idle_distinct = subst (λ (w : List Owed). Distinct w) (sym idle.1) tt
+
 -- ---- tokens that spawn nothing
 
 module _ (k : Setting) (ready : IsReady k) where
@@ -109,3 +134,14 @@ module _ (k : Setting) (ready : IsReady k) where
   quiet_board r stage t older e h =
       ap (λ b. board (lower_of b.board (least_from (spawner older t.asks) 0 register_count))) e
       ∙ ap board (least_nothing (spawner older t.asks) 0 register_count (λ n. ap (λ (o : Option ℕ). if touches t.asks (register_at n) then o else None) (quiet_spawns r stage older h n) ∙ if_none (touches t.asks (register_at n))))
+
+  none_apart : (r stage : ℕ) (slots : Slots) → Placed k r stage slots → Apart k [] stage slots
+  none_apart r stage [] h = tt
+  none_apart r stage (None ∷ older) h = none_apart r (suc stage) older h.1
+  none_apart r stage (Some t ∷ older) h = (
+    λ lt. record { tokens = λ n few touched. quiet_spawns r (suc stage) older h.1 n; entries = λ n few touched. refl },
+    none_apart r (suc stage) older h.1,
+  )
+
+  pub idle_apart : (m : Machine) (r : ℕ) → IsIdle m → Placed k r 0 m.slots → Apart k m.owed 0 m.slots
+  idle_apart m r idle h = subst (λ (w : List Owed). Apart k w 0 m.slots) (sym idle.1) (none_apart r 0 m.slots h)

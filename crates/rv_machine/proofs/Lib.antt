@@ -54,3 +54,4 @@ pub mod Turns
 pub mod Untailed
 pub mod WideFuture
 mod Promised
+pub mod Worded

@@ -17,7 +17,7 @@ use Rattle.rv_engine.specs.Rows.{going, leaving, with_serial, retired_of, owed_b
 use Rattle.rv_lawful.specs.Outstanding.{architecture, after_retired, after_written}
 use Rattle.rv_machine.specs.Owing.{judged}
 use Rattle.rv_machine.specs.Placed.{run, one_more, count, settling_stage, Serials, IsPlaced, IsPlacedSlot, IsReady, Inv}
-use Rattle.rv_machine.specs.Told.{NoStops, out_of, Told}
+use Rattle.rv_machine.specs.Told.{NoStops, out_of, Told, IsBeside}
 use Rattle.rv_machine.proofs.Places.{serials_drop, one_place}
 use Rattle.rv_machine.proofs.Moving.{last_slot, out_going}
 use Rattle.rv_machine.proofs.Runs.{answer, run_suc}
@@ -70,7 +70,7 @@ module _ (k : Setting) (ready : IsReady k) (earlier : List Row) (m : Machine) (r
   abbrev r : ℕ
   r = retirements earlier
 
-  seen_length : length (seen_by k m) ≡ (shape_of k).stages
+  pub seen_length : length (seen_by k m) ≡ (shape_of k).stages
   seen_length = B.seen_length k ready earlier m inv
 
   -- what is known of the slots from a stage on, where none of these stops the run
@@ -143,6 +143,9 @@ module _ (k : Setting) (ready : IsReady k) (earlier : List Row) (m : Machine) (r
               let same : u ≡ t = cc in
               let serial = ap (λ (v : Token). v.cell.serial) same in
               (ap (λ n. place (row ∷ earlier) n) (sym serial) ∙ s.0.0 ∙ add-zero r, ap (λ n. is_flushed (row ∷ earlier) n) (sym serial) ∙ s.0.1)
+
+  pub left_is : (t : Token) → left_by k m ≡ Some t → IsPlaced k r (run k r).pc (shape_of k).stages [] t
+  left_is t e = subst (λ o. IsPlacedSlot k r (run k r).pc (shape_of k).stages [] o) e left_placed
 
   -- what is retired, where something goes out
   pub record Retirement (o : Option Token) (p : Option (ℕ × Commit)) : Type 0 where
@@ -243,10 +246,6 @@ module _ (k : Setting) (ready : IsReady k) (earlier : List Row) (m : Machine) (r
 
   -- ---- what is told
 
-  -- a serial that is retired has no token, and so is not flushed
-  kept_alive : (s : ℕ) → is_flushed earlier s ≡ false → is_retired earlier s ≡ true → is_flushed (row ∷ earlier) s ≡ false
-  kept_alive s alive gone = ?
-
   beside_told : IsBeside k earlier row (seen_by k m) (outstanding_in k m)
   beside_told =
       record {
@@ -257,7 +256,7 @@ module _ (k : Setting) (ready : IsReady k) (earlier : List Row) (m : Machine) (r
         timed = inv.timed;
         distinct = inv.distinct;
         written = is.written;
-        alive = kept_alive;
+        alive = F.kept_alive k ready earlier m row inv is;
         meets = λ stage t older e. meets_at (shape_of k) (outstanding_in k m) stage (seen_by k m) older t (seen_meets k m (B.struck_inside k ready earlier m inv)) e;
       }
 

@@ -41,6 +41,19 @@ out_of [] = 0
 out_of (s ∷ []) = out_last s
 out_of (s ∷ u ∷ rest) = out_of (u ∷ rest)
 
+-- what is told of what is outstanding before a row, of what is written in it, and of what its tokens meet
+pub record IsBeside (k : Setting) (earlier : List Row) (row : Row) (seen : Slots) (o : Outstanding) : Type 0 where
+  pub is : IsOwingOf k.design o
+  pub owing : Owing k earlier (Out.outstanding (judged k) earlier) o.entries o.owed
+  pub worded : (s word : ℕ) → IsWordOf (judged k) earlier s word → is_flushed earlier s ≡ false → is_retired earlier s ≡ true → RetiredAs earlier s word
+  pub units : Out.units_after (judged k) earlier ≡ units_of o.stages o.lasts o.entries
+  pub timed : IsTimed o.stages o.lasts o.entries
+  pub distinct : Distinct o.owed
+  pub written : row.written ≡ written_of (paying o)
+  -- what is retired is not flushed
+  pub alive : (s : ℕ) → is_flushed earlier s ≡ false → is_retired earlier s ≡ true → is_flushed (row ∷ earlier) s ≡ false
+  pub meets : (stage : ℕ) (t : Token) (older : Slots) → drop stage seen ≡ Some t ∷ older → t.beside ≡ beside_of (shape_of k) o stage t.asks
+
 -- what is told of a row with these slots, of which the first stages are flushed
 pub record Told (k : Setting) (earlier : List Row) (row : Row) (seen : Slots) : Type 0 where
   pub flushed : ℕ
