@@ -72,7 +72,7 @@ missing() {
 
 # Help
 
-for script in trace_summary trace_picture schedule_picture sheet_check delays_from_yosys explore; do
+for script in trace_summary trace_picture schedule_picture sweep_picture sheet_check delays_from_yosys explore; do
     ends 0 "$user/$script.py" --help
     grep -q '^usage' out || fail "$script.py --help has no usage"
     ends 2 "$user/$script.py" --no-such-option
