@@ -1,5 +1,5 @@
 -- An extension has a sweep, or a first behaviour with too many operations.
-use Rattle.std.proofs.Common.{◌≡◌, ◌≢◌, refl, ℕ, ◌<◌, ◌≤◌, List, [], ◌∷◌, length, arith, inl, inr}
+use Rattle.std.proofs.Common.{◌≢◌, refl, ℕ, ◌<◌, ◌≤◌, List, [], ◌∷◌, length, arith, inl, inr}
 use Rattle.ix_extension.specs.Extensions.{ExtensionTree}
 use Rattle.ix_behaviour.specs.declared.which.Which.{Which}
 use Rattle.ix_graph_laws.specs.Operations.{operations_at}

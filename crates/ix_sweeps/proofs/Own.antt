@@ -1,15 +1,15 @@
 -- The period of the datasheet itself changes no sweep.
-use Rattle.std.proofs.Common.{◌≡◌, ℕ, Bool, List, [], ◌∷◌, Option, Some, None}
+use Rattle.std.proofs.Common.{ℕ, Bool, List, [], ◌∷◌, Option, Some, None}
 use Rattle.ix_extension.specs.Extensions.{ExtensionTree}
 use Rattle.ix_behaviour.specs.declared.which.Which.{Which}
 use Rattle.ix_graph.specs.declared.graph.Graph.{Graph}
 use Rattle.ix_graph.specs.declared.graph.Mode.{Mode}
 use Rattle.ix_sheet.specs.declared.sheet.Sheet.{Sheet}
 use Rattle.ix_cert.specs.declared.report.Report.{Report}
-use Rattle.ix_sweep.specs.Periods.{at_period, IsPeriodIn, IsPeriodOf, periods_of, refuted_at}
+use Rattle.ix_sweep.specs.Periods.{at_period, IsPeriodIn, periods_of, refuted_at}
 use Rattle.ix_schedules.specs.Scheduling.{behaviours_of, name_at, is_block}
 use Rattle.ix_sweeps.specs.declared.sweeping.Swept.{Swept}
-use Rattle.ix_sweeps.specs.Sweeping.{IsReportAt, AreReportsAt, IsRefuted, IsSweptBy, IsSwept, AreSwept}
+use Rattle.ix_sweeps.specs.Sweeping.{AreReportsAt, IsRefuted, IsSweptBy, AreSwept}
 use Rattle.ix_sweeps.specs.SweepText.{IsSweepText}
 
 period_own : (g : Graph) (sheet : Sheet) (p : ℕ) (mode : Mode) (period : Option ℕ) → IsPeriodIn g (at_period sheet p) mode period → IsPeriodIn g sheet mode period

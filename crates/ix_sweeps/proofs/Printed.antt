@@ -4,7 +4,7 @@ use Rattle.std.specs.Prelude.{All, nat_le}
 use Rattle.std.specs.List.{flat_map}
 use Rattle.std.proofs.lemmas.Bool.Decides.{nat_tests}
 use Rattle.std.proofs.lemmas.Grind.{flat_map-append}
-use Rattle.std.proofs.lemmas.List.{flat_map_more, take_more}
+use Rattle.std.proofs.lemmas.List.{append-nil, flat_map_more, take_more}
 use Rattle.std.proofs.lemmas.List.Elements.{All-nil, All-cons, All-head, All-tail, All-append}
 use Rattle.ix_extension.specs.Extensions.{ExtensionTree}
 use Rattle.ix_behaviour.specs.declared.which.Which.{Which}
@@ -24,7 +24,7 @@ use Rattle.ix_schedules.specs.Scheduling.{behaviours_of, name_at, is_block}
 use Rattle.ix_schedules.specs.ScheduleText.{alone}
 use Rattle.ix_schedules.proofs.Sound.{alone_in_form, alone_faultless}
 use Rattle.ix_sweeps.specs.declared.sweeping.Swept.{Swept}
-use Rattle.ix_sweeps.specs.Sweeping.{IsReportAt, AreReportsAt, IsRefuted, IsSweptBy, IsSwept, AreSwept}
+use Rattle.ix_sweeps.specs.Sweeping.{AreReportsAt, IsRefuted, IsSweptBy, IsSwept, AreSwept}
 use Rattle.ix_sweeps.specs.SweepText.{head_text, report_text, below_in, reports_in, swept_text, AreInForm, AreFaultless, IsSweepText}
 
 -- ---- a report alone
@@ -138,3 +138,26 @@ swept_written s before first second last head r hd one two is three =
     ∙ ap (λ l. before ++ (head ++ l)) (sym (flat_map-append report_text s.reports (below_in r)))
     ∙ ap (λ l. before ++ (l ++ flat_map report_text (s.reports ++ below_in r))) hd
     ∙ ap (λ (o : Option Report). before ++ (head_text s.name s.period ++ flat_map report_text (s.reports ++ below_in o))) is
+
+-- the same where there is a last report
+pub written_some : (s : Swept) (before first second last head : List ℕ) (r : Report) → head ≡ head_text s.name s.period → first ≡ before ++ head → second ≡ first ++ flat_map report_text s.reports → s.below ≡ Some r →
+    last ≡ second ++ report_text r → last ≡ before ++ swept_text s
+written_some s before first second last head r hd one two is three =
+    swept_written s before first second last head (Some r) hd one two (sym is) (three ∙ ap (λ l. second ++ l) (sym (append-nil (report_text r))))
+
+-- ---- the reports of a behaviour, apart
+front_of : (P : Report → Type 0) (xs ys : List Report) → All P (xs ++ ys) → All P xs
+front_of P [] ys a = All-nil P
+front_of P (x ∷ xs) ys a = All-cons P x xs (All-head P x (xs ++ ys) a) (front_of P xs ys (All-tail P x (xs ++ ys) a))
+
+rest_of : (P : Report → Type 0) (xs ys : List Report) → All P (xs ++ ys) → All P ys
+rest_of P [] ys a = a
+rest_of P (x ∷ xs) ys a = rest_of P xs ys (All-tail P x (xs ++ ys) a)
+
+pub schedules_in_form : (s : Swept) → All IsInForm (reports_in s) → All IsInForm s.reports
+schedules_in_form s a = front_of IsInForm s.reports (below_in s.below) a
+
+pub last_in_form : (s : Swept) (r : Report) → s.below ≡ Some r → All IsInForm (reports_in s) → IsInForm r
+last_in_form s r is a =
+    let last : All IsInForm (below_in (Some r)) = subst (λ o. All IsInForm (below_in o)) is (rest_of IsInForm s.reports (below_in s.below) a) in
+    All-head IsInForm r [] last

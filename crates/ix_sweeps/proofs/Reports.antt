@@ -1,6 +1,5 @@
 -- The reports of a behaviour: what was found of it with a period, and one report behind the other.
-use Rattle.std.proofs.Common.{◌≡◌, ◌∙◌, sym, ap, subst, rw, refl, ℕ, ◌≤◌, Bool, List, [], ◌∷◌, ◌++◌, map, Option, Some, None}
-use Rattle.std.specs.Prelude.{All}
+use Rattle.std.proofs.Common.{◌≡◌, sym, subst, ℕ, Bool, List, [], ◌∷◌, ◌++◌, map, Option, Some, None}
 use Rattle.std.proofs.lemmas.List.{map-append}
 use Rattle.ix_graph.specs.declared.graph.Graph.{Graph}
 use Rattle.ix_sheet.specs.declared.sheet.Sheet.{Sheet}

@@ -1,5 +1,5 @@
 -- Behaviours in their turn: those that were swept, and the first that has too many operations.
-use Rattle.std.proofs.Common.{◌≡◌, subst, rw, ℕ, zero, suc, ◌+◌, ◌<◌, ◌≤◌, List, [], ◌∷◌, ◌++◌, length, take, get_or, arith, inl, inr}
+use Rattle.std.proofs.Common.{◌≡◌, subst, ℕ, zero, suc, ◌+◌, ◌<◌, ◌≤◌, List, [], ◌∷◌, ◌++◌, length, take, get_or, arith, inl, inr}
 use Rattle.std.proofs.lemmas.List.{take_all}
 use Rattle.ix_extension.specs.Extensions.{ExtensionTree}
 use Rattle.ix_behaviour.specs.declared.which.Which.{Which}
