@@ -180,6 +180,69 @@ parts.append("byte NOTEXT 255")
 due("schedule MULX NOTEXT", 8, "refused Sheet Utf8 -\n")
 due("schedule EMPTY EMPTY", 7, "refused Extension At 0 0\n")
 
+# sweeps: reports with the least period, twice and four times as much, and the cycle of one less; a block that fits with no period; and each refusal
+FLOW_OF_SWEEP = "flow 2 early 2\nflow 1 early 3\nflow 2 early 4\n"
+UNTIMED = re.sub(" time .", "", LINES[: LINES.index("cost")]).replace("early 2 late 4", "early 2 late 64")
+
+
+def swept(least, delay):
+    """The sweep of the product with this delay, whose schedule is the same with each of these periods."""
+    text = f"sweep mulx least {least}\n"
+    for period in [least, 2 * least, 4 * least]:
+        if period <= 1000000:
+            text += f"longnail report 1\nperiod {period}\nbehaviour mulx InPipeline\n{LINES}{FLOW_OF_SWEEP}end\n"
+    text += f"longnail report 1\nperiod {least - 1}\nbehaviour mulx none\n{UNTIMED}cycle chain 2\nend\n" if least > 1 else ""
+    return text.replace("delay 600", f"delay {delay}")
+
+
+due("sweep MULX FIVE", 0, swept(600, 600))
+due("sweep MULX SLOW", 0, swept(1200, 1200))
+for n, delay in enumerate([0, 1, 2, 250000, 250001, 500001, 1000000]):
+    file(f"D{n}", f'core = "five"\nperiod = 7\n[delay]\nmul = {delay}\n')
+    due(f"sweep MULX D{n}", 0, swept(max(1, delay), delay))
+# two reads of a register that are summed twice in the one stage of a block
+file("BLOCKS", "InstructionSet Twice extends RV32I { architectural_state { register unsigned<32> A; } always { twice { A = (unsigned<32>)((unsigned<32>)(A * A) * A); } } }")
+file("D7", 'core = "five"\nperiod = 7\n[delay]\nmul = 500001\n')
+due("sweep BLOCKS D7", 0, """sweep twice none
+longnail report 1
+period 1000000
+behaviour twice none
+op 0 RdCustReg.0 delay 0 latency 0 early 2 late 2
+op 1 mul delay 500001 latency 0 early 2 late 2
+op 2 cast delay 0 latency 0 early 2 late 2
+op 3 mul delay 500001 latency 0 early 2 late 2
+op 4 cast delay 0 latency 0 early 2 late 2
+op 5 WrCustReg.0 delay 0 latency 0 early 2 late 2
+edge 0 1
+edge 1 2
+edge 0 3
+edge 2 3
+edge 3 4
+edge 4 5
+cycle early 0
+cycle chain 0 1 2 3
+cycle late 3
+end
+""")
+# each of two behaviours has its sweep, though the first has no schedule with the datasheet's period; one with 257 operations is refused
+LARGE = "encoding: 7'd1 :: rs2[4:0] :: rs1[4:0] :: 3'd0 :: rd[4:0] :: 7'b0001011; behavior: { unsigned<32> a = X[rs1] ^ X[rs2]; for (int i = 0; i < 126; i += 1) a = a ^ X[rs1]; for (int i = 0; i < 127; i += 1) a = a ^ X[rs1]; X[rd] = a; }"
+file("LARGE", "InstructionSet Large extends RV32I { instructions { mulx { encoding: 7'd0 :: rs2[4:0] :: rs1[4:0] :: 3'd0 :: rd[4:0] :: 7'b0001011; behavior: X[rd] = (unsigned<32>)(X[rs1] * X[rs2]); } large { " + LARGE + " } } }")
+due("sweep LARGE SLOW", 7, "refused Extension TooManyOps large\n")
+due("sweep LARGE NOTEXT", 8, "refused Sheet Utf8 -\n")
+for words in ["sweep", "sweep MULX", "sweep MULX FIVE FIVE", "swee MULX FIVE", "Sweep MULX FIVE", "sweep MULX FIVE 5"]:
+    due(words, 2, "refused Usage\n")
+due("sweep LOST FIVE", 4, "refused ReadFault LOST\n")
+due("sweep MULX LOST", 4, "refused ReadFault LOST\n")
+due("sweep LINES1 LOST", 6, "refused TooLong LINES1\n")
+due("sweep MULX LINES1", 6, "refused TooLong LINES1\n")
+due("sweep EMPTY LOST", 7, "refused Extension At 0 0\n")
+for n, line in enumerate(["Toml -", "Core core", "Number period", "Window WrRD", "Number lifetime"]):
+    due(f"sweep MULX T{n}", 8, f"refused Sheet {line}\n")
+# writes of a hundred bytes
+SWEPT = swept(600, 600)
+for n in range(0, len(SWEPT) // 100 + 1, 4):
+    due("sweep MULX FIVE", 5, SWEPT[: 100 * n], ("-", 4096, n, 100))
+
 STORED = [Path(__file__).resolve().parent / "commands" / name for name in ["tutorial", "schedules", "runs", "base", "diagnoses"]]
 FOLDER.joinpath("stdin").write_bytes(b"".join(it.with_suffix(".cases").read_bytes() for it in STORED) + "".join(part + END for part in parts).encode())
 FOLDER.joinpath("stdout").write_bytes(b"".join(it.with_suffix(".answers").read_bytes() for it in STORED) + "".join(answer + END for answer in answers).encode())

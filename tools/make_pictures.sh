@@ -32,6 +32,9 @@ schedule_picture average-schedule average.core_desc core.toml
 schedule_picture average-no-schedule average.core_desc fast.toml
 schedule_picture store-product-no-schedule "$root/examples/store-product.core_desc" store.toml
 
+"$program" sweep "$root/examples/dot-product.core_desc" "$root/examples/template.toml" > sweep &&
+    "$user/sweep_picture.py" sweep -o "$pictures/dot-product-sweep.svg" || failed=1
+
 "$program" run average.core_desc core.toml average.hex none.waits 20 > trace &&
     "$user/trace_picture.py" trace --source average.s --name average.s -o "$pictures/average-run.svg" || failed=1
 

@@ -72,7 +72,7 @@ missing() {
 
 # Help
 
-for script in trace_summary trace_picture schedule_picture sheet_check delays_from_yosys explore; do
+for script in trace_summary trace_picture schedule_picture sweep_picture sheet_check delays_from_yosys explore; do
     ends 0 "$user/$script.py" --help
     grep -q '^usage' out || fail "$script.py --help has no usage"
     ends 2 "$user/$script.py" --no-such-option
@@ -97,7 +97,18 @@ for extension in "$examples"/*.core_desc; do
         esac
     done
     ends 0 "$user/sheet_check.py" "$extension" "$examples/template.toml"
+    name=$(basename "$extension" .core_desc)
+    "$program" sweep "$extension" "$examples/template.toml" > "$name.sweep" || fail "$name is not swept"
+    ends 0 "$user/sweep_picture.py" "$name.sweep" -o "$name.svg"
+    fits "$name.svg"
 done
+: > none.sweep
+refused "has no behaviour" "$user/sweep_picture.py" none.sweep
+printf 'refused Usage\n' > bad.sweep
+refused "the program refused" "$user/sweep_picture.py" bad.sweep
+printf 'sweep a least 5\n' > bad.sweep
+refused "do not fit" "$user/sweep_picture.py" bad.sweep
+refused "no behaviour is named" "$user/sweep_picture.py" dot-product.sweep --behaviour other
 
 # Runs of all programs: each extension's own, and those of the base set
 

@@ -191,7 +191,7 @@ pub(crate) fn finding_of<'a>(refusal: Refusal<'a>, bytes: &[u8]) -> Finding<'a>
         ),
         Status::Usage | Status::Other => at(
             None,
-            "these words are not a command: write `run IMAGE CYCLES`, `run EXT SHEET IMAGE WAITS CYCLES`, `check EXT`, `certify REPORT`, `seq EXT IMAGE STEPS`, `asm EXT SOURCE`, `schedule EXT SHEET` or `build EXT SHEET`, CYCLES and STEPS being numbers from 0 to 200000",
+            "these words are not a command: write `run IMAGE CYCLES`, `run EXT SHEET IMAGE WAITS CYCLES`, `check EXT`, `certify REPORT`, `seq EXT IMAGE STEPS`, `asm EXT SOURCE`, `schedule EXT SHEET`, `build EXT SHEET` or `sweep EXT SHEET`, CYCLES and STEPS being numbers from 0 to 200000",
         ),
     }
 }

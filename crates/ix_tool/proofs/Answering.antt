@@ -1,4 +1,4 @@
--- What the assembly of a source, and the scheduling and the building of an extension, answers.
+-- What the assembly of a source, and the scheduling, the building and the sweeping of an extension, answers.
 use Rattle.std.proofs.Common.{◌≡◌, ℕ, List, [], ◌∷◌, Option, refl, ◌⊎◌, inl, inr}
 use Rattle.ix_extension.specs.Extensions.{ExtensionTree}
 use Rattle.rv_text.specs.RunText.{run_text}
@@ -10,10 +10,14 @@ use Rattle.ix_sheet.specs.declared.sheet.Sheet.{Sheet}
 use Rattle.ix_schedules.specs.declared.text.TextErr.{TextErr}
 use Rattle.ix_schedules.specs.ScheduleText.{IsScheduleText, IsRefusedText as IsRefusedSchedule}
 use Rattle.ix_tool.specs.declared.status.Status.{Status}
-use Rattle.ix_tool.specs.declared.status.Status.TheVariants.{Ok as ok_status, Memory, Source}
+use Rattle.ix_tool.specs.declared.status.Status.TheVariants.{Ok as ok_status, Memory, Source, Extension as extension_status}
 use Rattle.ix_modules.specs.Modules.{IsModulesText}
+use Rattle.ix_schedules.specs.Scheduling.{behaviours_of}
+use Rattle.ix_sweeps.specs.declared.sweeping.SweepErr.TheVariants as W
+use Rattle.ix_sweeps.specs.Sweeping.{IsFirstLarge}
+use Rattle.ix_sweeps.specs.SweepText.{IsSweepText}
 use Rattle.ix_tool.specs.declared.command.Command.{Command}
-use Rattle.ix_tool.specs.declared.command.Command.TheVariants.{Assemble, Schedule, Build, Seq, RunExtension}
+use Rattle.ix_tool.specs.declared.command.Command.TheVariants.{Assemble, Schedule, Build, Sweep, Seq, RunExtension}
 use Rattle.ix_tool.specs.Readings.{Reading, extension_read, sheet_read, source_read, image_read, waits_read, number_read}
 use Rattle.ix_tool.specs.CommandOutput.{Writes, IsToldAs, Schedules, Answered, IsExtensionRun, source_line}
 
@@ -44,7 +48,14 @@ module _ (x : ExtensionTree) (sheet : Sheet) (before now : Option (List ℕ)) (f
   pub behaviour_answered : (command : Command) (others : List Reading) → Schedules command → (e : TextErr) (status : Status) (text : List ℕ) → IsRefusedSchedule x sheet e → IsToldAs e status text → Writes status text before now faults faults_now result
       → Answered command (extension_read x ∷ sheet_read sheet ∷ others) before now faults faults_now result
   behaviour_answered command others schedules e status text h told w =
-      inr (status, text, inl (inr (record { schedules = schedules; extension = x; sheet = sheet; others = others; values_are = refl; error = e; refused = h; told = told })), w)
+      inr (status, text, inl (inr (inl (record { schedules = schedules; extension = x; sheet = sheet; others = others; values_are = refl; error = e; refused = h; told = told }))), w)
+
+  pub sweep_answered : (text : List ℕ) → IsSweepText x sheet text → Writes ok_status text before now faults faults_now result → Answered Sweep (extension_read x ∷ sheet_read sheet ∷ []) before now faults faults_now result
+  sweep_answered text h w = inr (ok_status, text, inr (refl, h), w)
+
+  pub large_answered : (line : List ℕ) → IsFirstLarge x (behaviours_of x) (W.TooManyOps line) → Writes extension_status line before now faults faults_now result → Answered Sweep (extension_read x ∷ sheet_read sheet ∷ []) before now faults faults_now result
+  large_answered line h w =
+      inr (extension_status, line, inl (inr (inr (record { command_is = refl; extension = x; sheet = sheet; values_are = refl; refused = h; status_is = refl }))), w)
 
   pub run_answered : (image waits : List ℕ) (cycles : ℕ) (text : List ℕ) → IsExtensionRun x sheet image waits cycles text → Writes ok_status text before now faults faults_now result
       → Answered RunExtension (extension_read x ∷ sheet_read sheet ∷ image_read image ∷ waits_read waits ∷ number_read cycles ∷ []) before now faults faults_now result

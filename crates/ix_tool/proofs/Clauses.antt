@@ -14,7 +14,7 @@ use Rattle.ix_schedules.specs.declared.text.TextErr.TheVariants as T
 use Rattle.ix_schedules.specs.ScheduleText.{IsRefusedText as IsRefusedSchedule}
 use Rattle.ix_tool.specs.Readings.{Reading}
 use Rattle.ix_tool.specs.CommandLine.{command_of, slots_of, behind}
-use Rattle.ix_tool.specs.CommandOutput.{Outcome, RoseIn, NoneRises, file_line, refusal_status, IsRefusedFile, not_read, too_long, bad_text, IsFirstRefused, IsAnswer, IsDue, due_usage, due_file, due_answer, UsageAnswer, ReadFaultAnswer, WriteFaultAnswer, TooLongAnswer, IsFileOf, TextAnswer, OutputAnswer, SourceAnswer, IsToldAs, IsScheduleRefusal, UnscheduledAnswer, NoScheduleAnswer, ExtensionAnswer, AreRead, IsStatusOr, Premises, Completes}
+use Rattle.ix_tool.specs.CommandOutput.{Outcome, RoseIn, NoneRises, file_line, refusal_status, IsRefusedFile, not_read, too_long, bad_text, IsFirstRefused, IsAnswer, IsDue, due_usage, due_file, due_answer, UsageAnswer, ReadFaultAnswer, WriteFaultAnswer, TooLongAnswer, IsFileOf, TextAnswer, OutputAnswer, SourceAnswer, IsToldAs, IsScheduleRefusal, IsSweepRefusal, UnscheduledAnswer, UnsweptAnswer, NoScheduleAnswer, ExtensionAnswer, AreRead, IsStatusOr, Premises, Completes}
 use Rattle.ix_tool.proofs.Reading.{at_found}
 use Rattle.ix_tool.proofs.Due.{all_one, not_refused, told_status, own_status, commanded, usage_alone, due_one}
 
@@ -166,7 +166,8 @@ source_answer_of files R words before now _ _ (due_usage none) e a = absurd cc
 source_answer_of files R words before now _ _ (due_file command status line is first) e a =
     let found = at_found files (λ kind name. IsRefusedFile files R kind name status line) (slots_of command) (behind words) first in
     absurd (no_source_file files R found.0 found.1 status line found.2 e)
-source_answer_of files R words before now _ _ (due_answer command vs status bytes is read (inl (inr own))) e a = absurd (told_status (λ s. s ≡ Source → ⊥) (λ q. cc) (λ q. cc) own.error status bytes own.told e)
+source_answer_of files R words before now _ _ (due_answer command vs status bytes is read (inl (inr (inl own)))) e a = absurd (told_status (λ s. s ≡ Source → ⊥) (λ q. cc) (λ q. cc) own.error status bytes own.told e)
+source_answer_of files R words before now _ _ (due_answer command vs status bytes is read (inl (inr (inr own)))) e a = absurd (let x = sym own.status_is ∙ e in cc)
 source_answer_of files R words before now _ _ (due_answer command vs status bytes is read (inl (inl own))) e a =
     record {
       values = vs;
@@ -212,12 +213,28 @@ large_by files words before now command vs status bytes (T.TooManyOps text) is r
 large_by files words before now command vs status bytes (T.NoSchedule text) is read own same told e a = absurd (let x = sym told.0 ∙ e in cc)
 large_by files words before now command vs status bytes T.Memory is read own same told e a = absurd told
 
+-- a behaviour that is not swept
+unswept : (files : Option NamedFiles) (words : List (List ℕ)) (before now : Option (List ℕ)) (command : Command) (vs : List Reading) (status : Status) (bytes : List ℕ) → command_of words ≡ Some command → AreRead files (slots_of command) (behind words) vs
+    → IsSweepRefusal command vs status bytes → Appends before now bytes → UnsweptAnswer files words before now
+unswept files words before now command vs status bytes is read own a = record {
+  values = vs;
+  extension = own.extension;
+  sheet = own.sheet;
+  line = bytes;
+  command_is = subst (λ c. command_of words ≡ Some c) own.command_is is;
+  read = subst (λ c. AreRead files (slots_of c) (behind words) vs) own.command_is read;
+  values_are = own.values_are;
+  refused = own.refused;
+  written = a;
+}
+
 no_schedule_of : (files : Option NamedFiles) (R : List ℕ → Type 0) (words : List (List ℕ)) (before now : Option (List ℕ)) (status : Status) (bytes : List ℕ) → IsDue files R words status bytes → status ≡ NoSchedule → Appends before now bytes → NoScheduleAnswer files words before now
 no_schedule_of files R words before now _ _ (due_usage none) e a = absurd cc
 no_schedule_of files R words before now _ _ (due_file command status line is first) e a =
     absurd (of_first (λ s. s ≡ NoSchedule → ⊥) (λ q. cc) (λ q. cc) text_no_schedule files R command words status line first e)
 no_schedule_of files R words before now _ _ (due_answer command vs status bytes is read (inl (inl own))) e a = absurd (let x = sym own.status_is ∙ e in cc)
-no_schedule_of files R words before now _ _ (due_answer command vs status bytes is read (inl (inr own))) e a = none_by files words before now command vs status bytes own.error is read own refl own.told e a
+no_schedule_of files R words before now _ _ (due_answer command vs status bytes is read (inl (inr (inl own)))) e a = none_by files words before now command vs status bytes own.error is read own refl own.told e a
+no_schedule_of files R words before now _ _ (due_answer command vs status bytes is read (inl (inr (inr own)))) e a = absurd (let x = sym own.status_is ∙ e in cc)
 no_schedule_of files R words before now _ _ (due_answer command vs status bytes is read (inr out)) e a = absurd (let ok = out.0 in grind (arith, ok, e))
 
 extension_of_due : (files : Option NamedFiles) (R : List ℕ → Type 0) (words : List (List ℕ)) (before now : Option (List ℕ)) (status : Status) (bytes : List ℕ) → IsDue files R words status bytes → status ≡ extension_status → Appends before now bytes → ExtensionAnswer files words before now
@@ -226,7 +243,8 @@ extension_of_due files R words before now _ _ (due_file command status line is f
     let found = at_found files (λ other name. IsRefusedFile files R other name status line) (slots_of command) (behind words) first in
     inl (bad_of files R words extension_status before now command found.0 found.1 status line is found.2 found.3 e (λ q. cc) (λ q. cc) a)
 extension_of_due files R words before now _ _ (due_answer command vs status bytes is read (inl (inl own))) e a = absurd (let x = sym own.status_is ∙ e in cc)
-extension_of_due files R words before now _ _ (due_answer command vs status bytes is read (inl (inr own))) e a = inr (large_by files words before now command vs status bytes own.error is read own refl own.told e a)
+extension_of_due files R words before now _ _ (due_answer command vs status bytes is read (inl (inr (inl own)))) e a = inr (inl (large_by files words before now command vs status bytes own.error is read own refl own.told e a))
+extension_of_due files R words before now _ _ (due_answer command vs status bytes is read (inl (inr (inr own)))) e a = inr (inr (unswept files words before now command vs status bytes is read own a))
 extension_of_due files R words before now _ _ (due_answer command vs status bytes is read (inr out)) e a = absurd (let ok = out.0 in grind (arith, ok, e))
 
 -- ---- from the outcome

@@ -6,7 +6,7 @@ use Rattle.ix_io.specs.Shelf.{NamedFiles, told_file, file_named}
 use Rattle.ix_cert.proofs.Verdicts.{faultless_not_refused}
 use Rattle.ix_tool.specs.declared.status.Status.{Status}
 use Rattle.ix_tool.specs.declared.status.Status.TheVariants.{Usage, ReadFault, Source, Extension as extension_status, NoSchedule}
-use Rattle.ix_tool.specs.declared.command.Command.TheVariants.{RunImage, Check, Certify, Assemble, Seq, Schedule, Build, RunExtension}
+use Rattle.ix_tool.specs.declared.command.Command.TheVariants.{RunImage, Check, Certify, Assemble, Seq, Schedule, Build, Sweep, RunExtension}
 use Rattle.ix_tool.specs.declared.command.Command.{Command}
 use Rattle.ix_tool.specs.declared.command.FileKind.{FileKind}
 use Rattle.ix_tool.specs.declared.command.FileKind.TheVariants.{Image, Report, Extension, InOrder, Sheet, PlainSheet, Source as source_kind, Waits}
@@ -14,7 +14,7 @@ use Rattle.ix_tool.specs.declared.command.Slot.{Slot}
 use Rattle.ix_tool.specs.declared.command.Slot.TheVariants.{Number, File}
 use Rattle.ix_tool.specs.Readings.{Reading, number_read, image_read, report_read, extension_read, sheet_read, source_read, waits_read}
 use Rattle.ix_tool.specs.CommandLine.{command_of, slots_of, behind, number_within}
-use Rattle.ix_tool.specs.CommandOutput.{IsRefusedText, IsReadAs, IsFile, IsRead, AreRead, IsRefusedFile, not_read, too_long, bad_text, IsFirstRefused, IsSourceRefusal, IsToldAs, Schedules, IsScheduleRefusal, IsPipelineOutput, IsOwnRefusal, IsOutput, IsAnswer, IsDue, due_usage, due_file, due_answer, NoneRises, NoFileRises}
+use Rattle.ix_tool.specs.CommandOutput.{IsRefusedText, IsReadAs, IsFile, IsRead, AreRead, IsRefusedFile, not_read, too_long, bad_text, IsFirstRefused, IsSourceRefusal, IsToldAs, Schedules, IsScheduleRefusal, IsSweepRefusal, IsPipelineOutput, IsOwnRefusal, IsOutput, IsAnswer, IsDue, due_usage, due_file, due_answer, NoneRises, NoFileRises}
 use Rattle.ix_listing.proofs.OneExtension.{same_extension, extension_not_refused}
 use Rattle.ix_spawns.specs.Spawns.{first_spawning}
 use Rattle.rv_asm.proofs.WaitLemmas.{one_text, text_not_refused as waits_not_refused}
@@ -27,6 +27,8 @@ use Rattle.ix_schedules.specs.declared.text.TextErr.{TextErr}
 use Rattle.ix_schedules.specs.declared.text.TextErr.TheVariants as T
 use Rattle.ix_schedules.specs.ScheduleText.{IsRefusedText as IsRefusedSchedule}
 use Rattle.ix_schedules.proofs.OneAnswer.{scheduled_not_refused, one_refusal}
+use Rattle.ix_sweeps.specs.declared.sweeping.SweepErr.TheVariants as W
+use Rattle.ix_sweeps.proofs.OneAnswer.{swept_not_refused}
 use Rattle.ix_modules.proofs.OneText.{built_not_refused as modules_not_refused, design_not_refused}
 use Rattle.ix_tool.proofs.OneSheet.{one_sheet, sheet_not_refused}
 
@@ -298,7 +300,8 @@ told_status P x n T.Memory status line told = absurd told
 -- their statuses, by what is so of each
 pub own_status : (P : Status → Type 0) → P Source → P extension_status → P NoSchedule → (command : Command) (vs : List Reading) (status : Status) (line : List ℕ) → IsOwnRefusal command vs status line → P status
 own_status P s x n command vs status line (inl own) = subst P (sym own.status_is) s
-own_status P s x n command vs status line (inr own) = told_status P x n own.error status line own.told
+own_status P s x n command vs status line (inr (inl own)) = told_status P x n own.error status line own.told
+own_status P s x n command vs status line (inr (inr own)) = subst P (sym own.status_is) x
 
 -- a source that is refused has no words
 source_apart : (command : Command) (vs : List Reading) (s : Status) (a b : List ℕ) → IsSourceRefusal command vs s a → IsOutput command vs b → ⊥
@@ -331,14 +334,26 @@ sheet_apart Check x sheet others b e h some out refused = h
 sheet_apart Certify x sheet others b e h some out refused = h
 sheet_apart Assemble x sheet others b e h some out refused = h
 sheet_apart Seq x sheet others b e h some out refused = h
+sheet_apart Sweep x sheet others b e h some out refused = h
 
 schedule_apart : (command : Command) (vs : List Reading) (s : Status) (a b : List ℕ) → IsScheduleRefusal command vs s a → IsOutput command vs b → ⊥
 schedule_apart command vs s a b own out =
     sheet_apart command own.extension own.sheet own.others b own.error own.schedules (told_some own.error s a own.told) (subst (λ us. IsOutput command us b) own.values_are out) own.refused
 
+-- an extension of which a behaviour has too many operations has no sweep
+line_some : (line : List ℕ) → W.TooManyOps line ≡ W.Memory → ⊥
+line_some line e = cc
+
+sweep_apart : (command : Command) (vs : List Reading) (s : Status) (a b : List ℕ) → IsSweepRefusal command vs s a → IsOutput command vs b → ⊥
+sweep_apart command vs s a b own out =
+    let there : IsOutput Sweep (extension_read own.extension ∷ sheet_read own.sheet ∷ []) b =
+    subst (λ us. IsOutput Sweep us b) own.values_are (subst (λ c. IsOutput c vs b) own.command_is out) in
+    swept_not_refused own.extension own.sheet b (W.TooManyOps a) (line_some a) there own.refused
+
 own_apart : (command : Command) (vs : List Reading) (s : Status) (a b : List ℕ) → IsOwnRefusal command vs s a → IsOutput command vs b → ⊥
 own_apart command vs s a b (inl own) out = source_apart command vs s a b own out
-own_apart command vs s a b (inr own) out = schedule_apart command vs s a b own out
+own_apart command vs s a b (inr (inl own)) out = schedule_apart command vs s a b own out
+own_apart command vs s a b (inr (inr own)) out = sweep_apart command vs s a b own out
 
 -- a behaviour is refused with one status
 refused_one : (x : ExtensionTree) (sheet : Datasheet) (e f : TextErr) (s t : Status) (a b : List ℕ) → IsRefusedSchedule x sheet e → IsRefusedSchedule x sheet f → IsToldAs e s a → IsToldAs f t b → s ≡ t
@@ -364,11 +379,23 @@ schedules_one command vs s t a b own other =
 no_scheduling : (command : Command) → command ≡ Assemble → Schedules command → ⊥
 no_scheduling command e h = subst Schedules e h
 
+-- nor does a sweep refuse what has no schedule
+no_sweeping : (command : Command) → command ≡ Sweep → Schedules command → ⊥
+no_sweeping command e h = subst Schedules e h
+
+assembly_or_sweep : (command : Command) → command ≡ Assemble → command ≡ Sweep → ⊥
+assembly_or_sweep command e f = let same = sym e ∙ f in cc
+
 own_one : (command : Command) (vs : List Reading) (s t : Status) (a b : List ℕ) → IsOwnRefusal command vs s a → IsOwnRefusal command vs t b → s ≡ t
 own_one command vs s t a b (inl own) (inl other) = own.status_is ∙ sym other.status_is
-own_one command vs s t a b (inl own) (inr other) = absurd (no_scheduling command own.command_is other.schedules)
-own_one command vs s t a b (inr own) (inl other) = absurd (no_scheduling command other.command_is own.schedules)
-own_one command vs s t a b (inr own) (inr other) = schedules_one command vs s t a b own other
+own_one command vs s t a b (inl own) (inr (inl other)) = absurd (no_scheduling command own.command_is other.schedules)
+own_one command vs s t a b (inl own) (inr (inr other)) = absurd (assembly_or_sweep command own.command_is other.command_is)
+own_one command vs s t a b (inr (inl own)) (inl other) = absurd (no_scheduling command other.command_is own.schedules)
+own_one command vs s t a b (inr (inl own)) (inr (inl other)) = schedules_one command vs s t a b own other
+own_one command vs s t a b (inr (inl own)) (inr (inr other)) = absurd (no_sweeping command other.command_is own.schedules)
+own_one command vs s t a b (inr (inr own)) (inl other) = absurd (assembly_or_sweep command other.command_is own.command_is)
+own_one command vs s t a b (inr (inr own)) (inr (inl other)) = absurd (no_sweeping command own.command_is other.schedules)
+own_one command vs s t a b (inr (inr own)) (inr (inr other)) = own.status_is ∙ sym other.status_is
 
 -- a command answers its values with one status
 answer_one : (command : Command) (vs : List Reading) (s t : Status) (a b : List ℕ) → IsAnswer command vs s a → IsAnswer command vs t b → s ≡ t

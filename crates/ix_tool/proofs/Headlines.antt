@@ -8,12 +8,12 @@ use Rattle.ix_io.specs.Shelf.{NamedFiles, told_file}
 use Rattle.ix_io.specs.Sink.{Appends}
 use Rattle.ix_cert.proofs.Verdicts.{faultless_certified}
 use Rattle.ix_tool.specs.declared.command.Command.{Command}
-use Rattle.ix_tool.specs.declared.command.Command.TheVariants.{RunImage, Check, Certify, Schedule, Build, Seq, Assemble, RunExtension}
+use Rattle.ix_tool.specs.declared.command.Command.TheVariants.{RunImage, Check, Certify, Schedule, Build, Sweep, Seq, Assemble, RunExtension}
 use Rattle.ix_tool.specs.Readings.{Reading, extension_read, source_read}
 use Rattle.ix_listing.specs.Listing.{listing_text}
 use Rattle.rv_text.specs.RunText.{run_text}
 use Rattle.ix_listing.proofs.OneExtension.{is_well_formed}
-use Rattle.ix_tool.specs.CommandLine.{word_of, command_of, commands, first_command, is_command, slots_of, fits_slots, behind, number_within, run_of, run_command, SeqCommand, seq_command, seq_of, AsmCommand, ScheduleCommand, extension_of, report_of, source_of, schedule_of, build_of}
+use Rattle.ix_tool.specs.CommandLine.{word_of, command_of, commands, first_command, is_command, slots_of, fits_slots, behind, number_within, run_of, run_command, SeqCommand, seq_command, seq_of, AsmCommand, ScheduleCommand, extension_of, report_of, source_of, schedule_of, build_of, sweep_of}
 use Rattle.ix_spawns.specs.Spawns.{first_spawning}
 use Rattle.rv_asm.specs.ImageText.{IsImageText}
 use Rattle.rv_machine.specs.Promises.{TextLaw}
@@ -76,6 +76,7 @@ pub record AreNoOther (words : List (List ℕ)) : Type 0 where
   pub source : source_of words ≡ None
   pub schedule : schedule_of words ≡ None
   pub build : build_of words ≡ None
+  pub sweep : sweep_of words ≡ None
 
 pub six_no_other : (words : List (List ℕ)) (a b c d e : List ℕ) → is_command RunExtension words ≡ true → behind words ≡ a ∷ b ∷ c ∷ d ∷ e ∷ [] → AreNoOther words
 six_no_other [] a b c d e is h = absurd (true≢false (sym is))
@@ -88,6 +89,7 @@ six_no_other (word ∷ rest) a b c d e is h =
       source = ap (λ r. source_of (word ∷ r)) h;
       schedule = ap (λ r. schedule_of (word ∷ r)) h;
       build = ap (λ r. build_of (word ∷ r)) h;
+      sweep = ap (λ r. sweep_of (word ∷ r)) h;
     }
 
 pub pipeline_no_other : (files : Option NamedFiles) (words : List (List ℕ)) (vs : List Reading) → is_command RunExtension words ≡ true → AreRead files (slots_of RunExtension) (behind words) vs → AreNoOther words
@@ -154,6 +156,9 @@ headline_of law files words before now Schedule vs text is read out a told =
 headline_of law files words before now Build vs text is read out a told =
     let r = schedule_is_read files (behind words) vs read in
     absurd (told (ap (λ o. image_of_run files o) (pair_no_run Build refl words r.name r.other is r.words)))
+headline_of law files words before now Sweep vs text is read out a told =
+    let r = schedule_is_read files (behind words) vs read in
+    absurd (told (ap (λ o. image_of_run files o) (pair_no_run Sweep refl words r.name r.other is r.words)))
 headline_of law files words before now Seq vs text is read out a told =
     let r = seq_read files (behind words) vs read in
     absurd (told (ap (λ o. image_of_run files o) (four_no_other words r.name r.other r.number is r.words).0))
@@ -207,6 +212,9 @@ certified_of files words before now Schedule vs text report is read out a e =
 certified_of files words before now Build vs text report is read out a e =
     let r = schedule_is_read files (behind words) vs read in
     absurd (both (report_of words) report e (three_no_file words r.name r.other Build is r.words).1)
+certified_of files words before now Sweep vs text report is read out a e =
+    let r = schedule_is_read files (behind words) vs read in
+    absurd (both (report_of words) report e (three_no_file words r.name r.other Sweep is r.words).1)
 certified_of files words before now Seq vs text report is read out a e =
     let r = seq_read files (behind words) vs read in
     absurd (both (report_of words) report e (four_no_other words r.name r.other r.number is r.words).2)
@@ -258,6 +266,9 @@ listed_of files words before now Schedule vs text name is read out a e =
 listed_of files words before now Build vs text name is read out a e =
     let r = schedule_is_read files (behind words) vs read in
     absurd (both (extension_of words) name e (three_no_file words r.name r.other Build is r.words).0)
+listed_of files words before now Sweep vs text name is read out a e =
+    let r = schedule_is_read files (behind words) vs read in
+    absurd (both (extension_of words) name e (three_no_file words r.name r.other Sweep is r.words).0)
 listed_of files words before now Seq vs text name is read out a e =
     let r = seq_read files (behind words) vs read in
     absurd (both (extension_of words) name e (four_no_other words r.name r.other r.number is r.words).1)
@@ -307,6 +318,9 @@ stepped_of files words before now Schedule vs text asked is read out a e =
 stepped_of files words before now Build vs text asked is read out a e =
     let r = schedule_is_read files (behind words) vs read in
     absurd (both (seq_of words) asked e (two_no_seq words r.name r.other Build is r.words))
+stepped_of files words before now Sweep vs text asked is read out a e =
+    let r = schedule_is_read files (behind words) vs read in
+    absurd (both (seq_of words) asked e (two_no_seq words r.name r.other Sweep is r.words))
 stepped_of files words before now RunExtension vs text asked is read out a e = absurd (both (seq_of words) asked e (pipeline_no_other files words vs is read).seq)
 stepped_of files words before now Seq vs text asked is read out a e =
     let r = seq_read files (behind words) vs read in
@@ -373,6 +387,9 @@ assembled_of files words before now Schedule vs text asked is read out a e =
 assembled_of files words before now Build vs text asked is read out a e =
     let r = schedule_is_read files (behind words) vs read in
     absurd (both (source_of words) asked e (pair_no_asm Build refl words r.name r.other is r.words))
+assembled_of files words before now Sweep vs text asked is read out a e =
+    let r = schedule_is_read files (behind words) vs read in
+    absurd (both (source_of words) asked e (pair_no_asm Sweep refl words r.name r.other is r.words))
 assembled_of files words before now Seq vs text asked is read out a e =
     let r = seq_read files (behind words) vs read in
     absurd (both (source_of words) asked e (three_no_asm words r.name r.other r.number Seq is r.words))
@@ -443,6 +460,9 @@ scheduled_of files words before now Assemble vs text asked is read out a e =
 scheduled_of files words before now Build vs text asked is read out a e =
     let r = schedule_is_read files (behind words) vs read in
     absurd (both (schedule_of words) asked e (pair_no_schedule Build refl words r.name r.other is r.words))
+scheduled_of files words before now Sweep vs text asked is read out a e =
+    let r = schedule_is_read files (behind words) vs read in
+    absurd (both (schedule_of words) asked e (pair_no_schedule Sweep refl words r.name r.other is r.words))
 scheduled_of files words before now RunExtension vs text asked is read out a e = absurd (both (schedule_of words) asked e (pipeline_no_other files words vs is read).schedule)
 scheduled_of files words before now Schedule vs text asked is read out a e =
     let r = schedule_is_read files (behind words) vs read in

@@ -10,6 +10,7 @@ pub mod Clauses
 mod Taking
 pub mod Headlines
 pub mod ModulesShown
+pub mod SweepsShown
 mod ImageWords
 mod PipelineValues
 mod PipelinesShown

@@ -8,7 +8,7 @@ use Rattle.ix_io.specs.Sink.{Appends}
 use Rattle.ix_listing.proofs.OneExtension.{is_well_formed}
 use Rattle.ix_modules.specs.Modules.{IsModulesText}
 use Rattle.ix_tool.specs.declared.command.Command.{Command}
-use Rattle.ix_tool.specs.declared.command.Command.TheVariants.{RunImage, Check, Certify, Schedule, Build, Seq, Assemble, RunExtension}
+use Rattle.ix_tool.specs.declared.command.Command.TheVariants.{RunImage, Check, Certify, Schedule, Build, Sweep, Seq, Assemble, RunExtension}
 use Rattle.ix_tool.specs.Readings.{Reading}
 use Rattle.ix_tool.specs.CommandLine.{word_of, is_command, slots_of, behind, BuildCommand, build_of}
 use Rattle.ix_tool.specs.CommandOutput.{AreRead, IsOutput, OutputAnswer, ModulesAnswer}
@@ -62,6 +62,9 @@ modules_of files words before now Assemble vs text asked is read out a e =
 modules_of files words before now Schedule vs text asked is read out a e =
     let r = schedule_is_read files (behind words) vs read in
     absurd (both (build_of words) asked e (pair_no_build Schedule refl words r.name r.other is r.words))
+modules_of files words before now Sweep vs text asked is read out a e =
+    let r = schedule_is_read files (behind words) vs read in
+    absurd (both (build_of words) asked e (pair_no_build Sweep refl words r.name r.other is r.words))
 modules_of files words before now RunExtension vs text asked is read out a e = absurd (both (build_of words) asked e (pipeline_no_other files words vs is read).build)
 modules_of files words before now Build vs text asked is read out a e =
     let r = schedule_is_read files (behind words) vs read in

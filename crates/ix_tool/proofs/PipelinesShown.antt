@@ -9,7 +9,7 @@ use Rattle.ix_extension.specs.Extensions.{ExtensionTree}
 use Rattle.ix_sheet.specs.declared.sheet.Sheet.{Sheet}
 use Rattle.ix_listing.proofs.OneExtension.{is_well_formed}
 use Rattle.ix_tool.specs.declared.command.Command.{Command}
-use Rattle.ix_tool.specs.declared.command.Command.TheVariants.{RunImage, Check, Certify, Schedule, Build, Seq, Assemble, RunExtension}
+use Rattle.ix_tool.specs.declared.command.Command.TheVariants.{RunImage, Check, Certify, Schedule, Build, Sweep, Seq, Assemble, RunExtension}
 use Rattle.ix_tool.specs.Readings.{Reading, extension_read, sheet_read, image_read, waits_read, number_read}
 use Rattle.ix_tool.specs.CommandLine.{is_command, slots_of, behind, number_within, PipelineCommand, pipeline_command, pipeline_of}
 use Rattle.ix_spawns.specs.Spawns.{first_spawning}
@@ -91,6 +91,9 @@ pipelined_of law files words before now Schedule vs text asked is read out a e =
 pipelined_of law files words before now Build vs text asked is read out a e =
     let r = schedule_is_read files (behind words) vs read in
     absurd (both (pipeline_of words) asked e (three_no_pipeline words r.name r.other Build is r.words))
+pipelined_of law files words before now Sweep vs text asked is read out a e =
+    let r = schedule_is_read files (behind words) vs read in
+    absurd (both (pipeline_of words) asked e (three_no_pipeline words r.name r.other Sweep is r.words))
 pipelined_of law files words before now RunExtension vs text asked is read out a e =
     let r = pipeline_read files (behind words) vs read in
     let there : IsPipelineOutput vs text = out in

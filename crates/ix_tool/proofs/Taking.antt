@@ -3,7 +3,7 @@ use Rattle.std.proofs.Common.{◌≡◌, ℕ, List, [], ◌∷◌, Option, Some,
 use Rattle.ix_io.specs.Shelf.{NamedFiles}
 use Rattle.ix_cert.specs.Certificates.{IsFaultless}
 use Rattle.ix_tool.specs.declared.command.Command.{Command}
-use Rattle.ix_tool.specs.declared.command.Command.TheVariants.{RunImage, Check, Certify, Schedule, Build, Seq, Assemble, RunExtension}
+use Rattle.ix_tool.specs.declared.command.Command.TheVariants.{RunImage, Check, Certify, Schedule, Build, Sweep, Seq, Assemble, RunExtension}
 use Rattle.ix_tool.specs.declared.command.FileKind.TheVariants.{Image, Report, Extension, InOrder, Sheet, PlainSheet, Source as source_kind, Waits}
 use Rattle.ix_tool.specs.Readings.{Reading, number_read, image_read, report_read, extension_read, sheet_read, source_read, waits_read}
 use Rattle.rv_asm.specs.ImageText.{IsImageText}
@@ -376,4 +376,5 @@ takes files Seq rest vs h =
     subst (λ x. Takes Seq x) (sym r.values) (is_well_formed r.bytes r.extension r.elaborates)
 takes files Schedule rest vs h = sheet_takes files rest vs h
 takes files Build rest vs h = sheet_takes files rest vs h
+takes files Sweep rest vs h = sheet_takes files rest vs h
 takes files RunExtension rest vs h = pipeline_takes files rest vs h

@@ -4,7 +4,7 @@ use Rattle.std.specs.Option.{option_and_then}
 use Rattle.std.specs.Str.{bytes_eq}
 use Rattle.std.specs.declared.alloc.Global.{Global}
 use Rattle.ix_tool.specs.declared.command.Command.{Command}
-use Rattle.ix_tool.specs.declared.command.Command.TheVariants.{RunImage, Check, Certify, Schedule, Build, Seq, Assemble, RunExtension}
+use Rattle.ix_tool.specs.declared.command.Command.TheVariants.{RunImage, Check, Certify, Schedule, Build, Sweep, Seq, Assemble, RunExtension}
 use Rattle.ix_tool.specs.declared.command.FileKind.TheVariants.{Image, Report, Extension, InOrder, Sheet, PlainSheet, Source, Waits}
 use Rattle.ix_tool.specs.declared.command.Slot.{Slot}
 use Rattle.ix_tool.specs.declared.command.Slot.TheVariants.{Number, File}
@@ -39,6 +39,7 @@ word_of Assemble = codes "asm"
 word_of Seq = codes "seq"
 word_of Schedule = codes "schedule"
 word_of Build = codes "build"
+word_of Sweep = codes "sweep"
 word_of RunExtension = codes "run"
 
 -- numbers and files, in the order of the words
@@ -50,11 +51,12 @@ slots_of Seq = File Extension ∷ File Image ∷ Number 200000 ∷ []
 slots_of Assemble = File Extension ∷ File Source ∷ []
 slots_of Schedule = File Extension ∷ File Sheet ∷ []
 slots_of Build = File Extension ∷ File Sheet ∷ []
+slots_of Sweep = File Extension ∷ File Sheet ∷ []
 slots_of RunExtension = File InOrder ∷ File PlainSheet ∷ File Image ∷ File Waits ∷ Number 200000 ∷ []
 
 -- the commands, in the order in which words are tried
 abbrev pub commands : List Command
-commands = RunImage ∷ Check ∷ Certify ∷ Seq ∷ Assemble ∷ Schedule ∷ Build ∷ RunExtension ∷ []
+commands = RunImage ∷ Check ∷ Certify ∷ Seq ∷ Assemble ∷ Schedule ∷ Build ∷ Sweep ∷ RunExtension ∷ []
 
 -- ---- which command words are
 -- any word names a file; a number is at most the given one
@@ -159,6 +161,19 @@ build_of (command ∷ []) = None
 build_of (command ∷ extension ∷ []) = None
 build_of (command ∷ extension ∷ sheet ∷ []) = if bytes_eq command (codes "build") then Some (record { extension = extension; sheet = sheet }) else None
 build_of (command ∷ extension ∷ sheet ∷ more ∷ rest) = None
+
+-- ---- sweep EXT SHEET
+-- the extension and the datasheet for which these words ask for a sweep, if they do
+pub record SweepCommand : Type 0 where
+  pub extension : List ℕ
+  pub sheet : List ℕ
+
+abbrev pub sweep_of : List (List ℕ) → Option SweepCommand
+sweep_of [] = None
+sweep_of (command ∷ []) = None
+sweep_of (command ∷ extension ∷ []) = None
+sweep_of (command ∷ extension ∷ sheet ∷ []) = if bytes_eq command (codes "sweep") then Some (record { extension = extension; sheet = sheet }) else None
+sweep_of (command ∷ extension ∷ sheet ∷ more ∷ rest) = None
 
 -- ---- seq EXT IMAGE STEPS, with 0 to 200,000 steps
 pub record SeqCommand : Type 0 where

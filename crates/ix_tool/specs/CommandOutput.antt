@@ -3,7 +3,7 @@ use Rattle.std.specs.Prelude.{◌≡◌, ◌≢◌, IfSome, ℕ, true, false, �
 use Rattle.ix_tool.specs.declared.status.Status.{Status}
 use Rattle.ix_tool.specs.declared.status.Status.TheVariants.{Ok as ok_status, Usage, ReadFault, WriteFault, TooLong, Extension as extension_status, Sheet as sheet_status, Image as image_status, NoSchedule, Certificate, Memory, Source, Waits as waits_status}
 use Rattle.ix_tool.specs.declared.command.Command.{Command}
-use Rattle.ix_tool.specs.declared.command.Command.TheVariants.{RunImage, Check, Certify, Schedule, Build, Seq, Assemble, RunExtension}
+use Rattle.ix_tool.specs.declared.command.Command.TheVariants.{RunImage, Check, Certify, Schedule, Build, Sweep, Seq, Assemble, RunExtension}
 use Rattle.ix_tool.specs.declared.command.FileKind.{FileKind}
 use Rattle.ix_tool.specs.declared.command.FileKind.TheVariants.{Image, Report, Extension, InOrder, Sheet, PlainSheet, Source as source_kind, Waits}
 use Rattle.ix_tool.specs.declared.command.Slot.{Slot}
@@ -33,7 +33,7 @@ use Rattle.ix_elab.specs.Refusing.{IsRefused as IsRefusedExtension}
 use Rattle.ix_listing.specs.Listing.{listing_text}
 use Rattle.ix_listing.specs.RefusalLine.{refusal_line}
 use Rattle.ix_tool.specs.Readings.{Reading, number_read, image_read, report_read, extension_read, sheet_read, source_read, waits_read, reading_of}
-use Rattle.ix_tool.specs.CommandLine.{RunCommand, SeqCommand, AsmCommand, ScheduleCommand, BuildCommand, PipelineCommand, run_of, report_of, command_of, slots_of, behind, number_within}
+use Rattle.ix_tool.specs.CommandLine.{RunCommand, SeqCommand, AsmCommand, ScheduleCommand, BuildCommand, SweepCommand, PipelineCommand, run_of, report_of, command_of, slots_of, behind, number_within}
 use Rattle.ix_sheet.specs.declared.sheet.Sheet.{Sheet as Datasheet}
 use Rattle.ix_sheet.specs.declared.sheet.SheetErr.{SheetErr}
 use Rattle.ix_sheet.specs.declared.sheet.SheetErr.TheVariants as S
@@ -41,9 +41,12 @@ use Rattle.ix_sheet.specs.Sheets.{IsValidSheet}
 use Rattle.ix_sheet.specs.Datasheets.{IsSheetOf, IsRefusalOf as IsRefusedSheet}
 use Rattle.ix_schedules.specs.declared.text.TextErr.{TextErr}
 use Rattle.ix_schedules.specs.declared.text.TextErr.TheVariants as T
-use Rattle.ix_schedules.specs.Scheduling.{AreNamed}
+use Rattle.ix_schedules.specs.Scheduling.{behaviours_of, AreNamed}
 use Rattle.ix_schedules.specs.ScheduleText.{IsScheduleText, IsRefusedText as IsRefusedSchedule}
 use Rattle.ix_modules.specs.Modules.{IsModulesText}
+use Rattle.ix_sweeps.specs.declared.sweeping.SweepErr.TheVariants as W
+use Rattle.ix_sweeps.specs.Sweeping.{IsFirstLarge}
+use Rattle.ix_sweeps.specs.SweepText.{IsSweepText}
 use Rattle.ix_cert.specs.declared.report.CertErr.{CertErr}
 use Rattle.ix_cert.specs.Certificates.{IsCertifiedText, IsFaultless, IsRefused as IsRefusedReport}
 use Rattle.ix_cert.specs.Words.{line_number, kind_word}
@@ -244,6 +247,7 @@ IsOutput Assemble (extension_read x ∷ source_read bytes ∷ []) text = (words 
 IsOutput Seq (extension_read x ∷ image_read image ∷ number_read steps ∷ []) text = text ≡ run_text x image steps
 IsOutput Schedule (extension_read x ∷ sheet_read sheet ∷ []) text = IsScheduleText x sheet text
 IsOutput Build (extension_read x ∷ sheet_read sheet ∷ []) text = IsModulesText x sheet text
+IsOutput Sweep (extension_read x ∷ sheet_read sheet ∷ []) text = IsSweepText x sheet text
 IsOutput RunExtension values text = IsPipelineOutput values text
 IsOutput command values text = ⊥
 
@@ -283,9 +287,18 @@ pub record IsScheduleRefusal (command : Command) (values : List Reading) (status
   pub refused : IsRefusedSchedule extension sheet error
   pub told : IsToldAs error status line
 
+-- a refusal of the first behaviour of an extension that has too many operations to be swept
+pub record IsSweepRefusal (command : Command) (values : List Reading) (status : Status) (line : List ℕ) : Type 0 where
+  pub command_is : command ≡ Sweep
+  pub extension : ExtensionTree
+  pub sheet : Datasheet
+  pub values_are : values ≡ extension_read extension ∷ sheet_read sheet ∷ []
+  pub refused : IsFirstLarge extension (behaviours_of extension) (W.TooManyOps line)
+  pub status_is : status ≡ extension_status
+
 -- a refusal of the command's own, behind those of its files
 abbrev pub IsOwnRefusal : Command → List Reading → Status → List ℕ → Type 0
-IsOwnRefusal command values status line = IsSourceRefusal command values status line ⊎ IsScheduleRefusal command values status line
+IsOwnRefusal command values status line = IsSourceRefusal command values status line ⊎ (IsScheduleRefusal command values status line ⊎ IsSweepRefusal command values status line)
 
 -- what the command answers: its own refusal, or its output
 abbrev pub IsAnswer : Command → List Reading → Status → List ℕ → Type 0
@@ -361,6 +374,7 @@ Takes Assemble (extension_read x ∷ source_read bytes ∷ []) = length bytes �
 Takes Seq (extension_read x ∷ image_read image ∷ number_read steps ∷ []) = (text : TypedTextTree) × IsOf text x
 Takes Schedule values = TakesSheet values
 Takes Build values = TakesSheet values
+Takes Sweep values = TakesSheet values
 Takes RunExtension values = TakesPipeline values
 Takes command values = ⊥
 
@@ -540,6 +554,24 @@ pub record ModulesAnswer (files : Option NamedFiles) (command : BuildCommand) (b
   pub modules : IsModulesText extension sheet text
   pub written : Appends before now text
 
+-- The files are the texts of this extension, which is well formed, and of this datasheet. Of each behaviour, the instructions first and then the always-blocks, the
+-- text that was written whole has the least period with which its own graph has a legal schedule in its widest windows, or that it has none with any; the reports with
+-- this period, with twice and with four times as much, each with the mode by the rule and the chosen schedule in it; and the report of one less, whose cycle shows that
+-- there is none. The check of a report finds no fault in any of them.
+pub record SweptAnswer (files : Option NamedFiles) (command : SweepCommand) (before now : Option (List ℕ)) : Type 0 where
+  pub bytes : List ℕ
+  pub extension : ExtensionTree
+  pub sheet_bytes : List ℕ
+  pub sheet : Datasheet
+  pub text : List ℕ
+  pub file : IsFile files command.extension bytes
+  pub elaborates : Elaborates bytes extension
+  pub well_formed : (typed : TypedTextTree) × IsOf typed extension
+  pub sheet_file : IsFile files command.sheet sheet_bytes
+  pub sheet_read : IsSheetRead sheet_bytes sheet
+  pub swept : IsSweepText extension sheet text
+  pub written : Appends before now text
+
 -- the first behaviour that is not scheduled was refused and its text written
 pub record UnscheduledAnswer (files : Option NamedFiles) (words : List (List ℕ)) (error : List ℕ → TextErr) (before now : Option (List ℕ)) : Type 0 where
   pub command : Command
@@ -560,9 +592,22 @@ pub record UnscheduledAnswer (files : Option NamedFiles) (words : List (List ℕ
 abbrev pub NoScheduleAnswer : Option NamedFiles → List (List ℕ) → Option (List ℕ) → Option (List ℕ) → Type 0
 NoScheduleAnswer files words before now = UnscheduledAnswer files words (λ text. T.NoSchedule text) before now
 
--- the text of an extension is refused, or a behaviour has more than 256 operations, and those before it have a schedule
+-- the first behaviour that has too many operations to be swept was refused and its line written
+pub record UnsweptAnswer (files : Option NamedFiles) (words : List (List ℕ)) (before now : Option (List ℕ)) : Type 0 where
+  pub values : List Reading
+  pub extension : ExtensionTree
+  pub sheet : Datasheet
+  pub line : List ℕ
+  pub command_is : command_of words ≡ Some Sweep
+  pub read : AreRead files (slots_of Sweep) (behind words) values
+  pub values_are : values ≡ extension_read extension ∷ sheet_read sheet ∷ []
+  pub refused : IsFirstLarge extension (behaviours_of extension) (W.TooManyOps line)
+  pub written : Appends before now line
+
+-- the text of an extension is refused; or a behaviour has more than 256 operations, and those before it have a schedule, or, for a sweep, no more either
 abbrev pub ExtensionAnswer : Option NamedFiles → List (List ℕ) → Option (List ℕ) → Option (List ℕ) → Type 0
-ExtensionAnswer files words before now = TextAnswer files words extension_status before now ⊎ UnscheduledAnswer files words (λ text. T.TooManyOps text) before now
+ExtensionAnswer files words before now =
+    TextAnswer files words extension_status before now ⊎ (UnscheduledAnswer files words (λ text. T.TooManyOps text) before now ⊎ UnsweptAnswer files words before now)
 
 -- the files are the texts of this extension, which is well formed, and of this image, whatever its words; and the text of the image's run on a core with
 -- the extension, one instruction at a time, was written whole

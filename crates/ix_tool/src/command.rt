@@ -18,6 +18,8 @@ pub enum Command {
     Schedule,
     /// `build EXT SHEET`.
     Build,
+    /// `sweep EXT SHEET`.
+    Sweep,
     /// `run EXT SHEET IMAGE WAITS CYCLES`, with 0 to 200,000 cycles.
     RunExtension,
 }
@@ -53,7 +55,7 @@ pub enum Slot {
 }
 
 /// The commands, in the order in which words are tried.
-const COMMANDS: [Command; 8] = [
+const COMMANDS: [Command; 9] = [
     Command::RunImage,
     Command::Check,
     Command::Certify,
@@ -61,6 +63,7 @@ const COMMANDS: [Command; 8] = [
     Command::Assemble,
     Command::Schedule,
     Command::Build,
+    Command::Sweep,
     Command::RunExtension,
 ];
 
@@ -86,7 +89,7 @@ const ASSEMBLE: [Slot; 2] = [
     Slot::File(FileKind::Source),
 ];
 
-/// What stands behind `schedule` and `build`.
+/// What stands behind `schedule`, `build` and `sweep`.
 const SCHEDULE: [Slot; 2] = [Slot::File(FileKind::Extension), Slot::File(FileKind::Sheet)];
 
 /// What stands behind `run` for an image on a core with an extension.
@@ -111,6 +114,7 @@ impl Command {
             Command::Seq => "seq",
             Command::Schedule => "schedule",
             Command::Build => "build",
+            Command::Sweep => "sweep",
             Command::RunExtension => "run",
         }
     }
@@ -126,6 +130,7 @@ impl Command {
             Command::Assemble => &ASSEMBLE,
             Command::Schedule => &SCHEDULE,
             Command::Build => &SCHEDULE,
+            Command::Sweep => &SCHEDULE,
             Command::Seq => &SEQ,
             Command::RunExtension => &RUN_EXTENSION,
         }

@@ -8,5 +8,6 @@ mod running;
 mod scheduling;
 pub mod status;
 pub mod sure;
+mod sweeping;
 pub mod tool;
 pub mod value;

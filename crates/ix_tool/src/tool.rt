@@ -1,13 +1,13 @@
 ghost use Rattle.std.specs.Prelude.{◌≡◌, ◌≢◌, ℕ, List, map, Some, None, ◌⊎◌};
 ghost use Rattle.ix_tool.specs.declared.status.Status.{Status};
 ghost use Rattle.ix_tool.specs.declared.command.Command.{Command as TheCommand};
-ghost use Rattle.ix_tool.specs.CommandLine.{SeqCommand, AsmCommand, ScheduleCommand, BuildCommand, PipelineCommand, command_of as specified_command_of, extension_of, report_of, seq_of, source_of, schedule_of, build_of, pipeline_of, bytes_of};
+ghost use Rattle.ix_tool.specs.CommandLine.{SeqCommand, AsmCommand, ScheduleCommand, BuildCommand, SweepCommand, PipelineCommand, command_of as specified_command_of, extension_of, report_of, seq_of, source_of, schedule_of, build_of, sweep_of, pipeline_of, bytes_of};
 ghost use Rattle.ix_extension.specs.Extensions.{view_extension};
 ghost use Rattle.ix_extension.specs.WellFormed.{IsWellFormed};
 ghost use Rattle.ix_listing.specs.Listing.{listing_text};
 ghost use Rattle.rv_text.specs.RunText.{run_text};
 ghost use Rattle.ix_tool.specs.Readings.{Reading, reading_of};
-ghost use Rattle.ix_tool.specs.CommandOutput.{IsRunOutput, Writes, Takes, Answered, Outcome, RoseIn, NoneRises, IsDue, UsageAnswer, ReadFaultAnswer, WriteFaultAnswer, TooLongAnswer, TextAnswer, OutputAnswer, RunAnswer, ListedAnswer, CertifiedAnswer, SteppedAnswer, AssembledAnswer, SourceAnswer, ScheduledAnswer, ModulesAnswer, NoScheduleAnswer, ExtensionAnswer, PipelineAnswer, IsStatusOr, Premises, Completes, told_of};
+ghost use Rattle.ix_tool.specs.CommandOutput.{IsRunOutput, Writes, Takes, Answered, Outcome, RoseIn, NoneRises, IsDue, UsageAnswer, ReadFaultAnswer, WriteFaultAnswer, TooLongAnswer, TextAnswer, OutputAnswer, RunAnswer, ListedAnswer, CertifiedAnswer, SteppedAnswer, AssembledAnswer, SourceAnswer, ScheduledAnswer, ModulesAnswer, SweptAnswer, NoScheduleAnswer, ExtensionAnswer, PipelineAnswer, IsStatusOr, Premises, Completes, told_of};
 
 use crate::assembling::assemble_source;
 use crate::building::build_extension;
@@ -15,6 +15,7 @@ use crate::command::{Command, command_of};
 use crate::running::{answer_run, run_design};
 use crate::scheduling::schedule_extension;
 use crate::status::Status;
+use crate::sweeping::sweep_extension;
 use crate::value::{Refusal, Value, read_words};
 use ix_io::{Shelf, Sink, write_all};
 use ix_listing::listing;
@@ -119,6 +120,19 @@ fn answer_build<S: Sink>(alloc: Global, values: &[Value], sink: &mut S) -> Statu
     }
 }
 
+/// Writes the sweep that these values ask for.
+fn answer_sweep<S: Sink>(alloc: Global, values: &[Value], sink: &mut S) -> Status
+    requires { Takes Command.Sweep (map reading_of values.now) }
+    ensures { Answered Command.Sweep (map reading_of values.now) (S.written sink.old) (S.written sink.new) (S.faults sink.old) (S.faults sink.new) result }
+{
+    match values {
+        [Value::Extension(extension), Value::Sheet(sheet)] => {
+            sweep_extension(alloc, extension, sheet, sink)
+        }
+        _ => unreachable!(),
+    }
+}
+
 /// Writes what is due of the values of a command, but of a run with an extension.
 fn answer_read<S: Sink>(alloc: Global, command: Command, values: &[Value], sink: &mut S) -> Status
     requires reads { command ≢ Command.RunExtension }
@@ -134,6 +148,7 @@ fn answer_read<S: Sink>(alloc: Global, command: Command, values: &[Value], sink:
         (Command::Seq, _) => answer_seq(alloc, values, sink),
         (Command::Schedule, _) => answer_schedule(alloc, values, sink),
         (Command::Build, _) => answer_build(alloc, values, sink),
+        (Command::Sweep, _) => answer_sweep(alloc, values, sink),
         (Command::Assemble, [Value::Extension(extension), Value::Source(source)]) => {
             assemble_source(alloc, extension, source, sink)
         }
@@ -177,7 +192,8 @@ fn run_words<F: Shelf, S: Sink>(
 /// image of at most 1,048,576 bytes and 65,536 words. `check EXT` writes the listing of an extension: its registers, tables,
 /// encodings and blocks. `certify REPORT` writes `yes` where the check of a report finds no
 /// fault. `seq EXT IMAGE STEPS` writes the run of an image one instruction at a time, at most 200,000 of them, on a core with an extension. `asm EXT SOURCE` writes the image of a source with the instructions of an extension.
-/// `schedule EXT SHEET` writes the report of an extension's behaviours on the core of a datasheet, `build EXT SHEET` the Verilog text of their modules. `run EXT SHEET IMAGE WAITS CYCLES` writes the trace
+/// `schedule EXT SHEET` writes the report of an extension's behaviours on the core of a datasheet, `build EXT SHEET` the Verilog text of their modules, `sweep EXT SHEET` the least period of each of them with the
+/// reports that show it. `run EXT SHEET IMAGE WAITS CYCLES` writes the trace
 /// and the state of a run on the core of a datasheet with an extension in which no `spawn` stands, over a memory with a list of waits of at most 65,536 numbers. The files are read whole and judged one after another, in the order of the words. A refusal writes its one line
 /// alone, but that a behaviour without a schedule is named and then reported; want of memory writes nothing, and comes before the first cycle.
 pub fn run_tool<F: Shelf, S: Sink>(
@@ -216,6 +232,12 @@ pub fn run_tool<F: Shelf, S: Sink>(
     // serves its behaviour by the chosen schedule in the mode of the rule, for all inputs and all lists of enables.
     ensures modules { result ≡ Status.Ok → (command : BuildCommand) → build_of (bytes_of words.now) ≡ Some command
         → ModulesAnswer (F.files shelf.old) command (S.written sink.old) (S.written sink.new) }
+
+    // A sweep is that of the extension on the core of the datasheet which the files are the texts of: of each behaviour its own graph, the least period with which it has a legal
+    // schedule in its widest windows, or that it has none with any; the reports with this period, with twice and with four times as much, and the report of one less, whose cycle
+    // shows that it has none. The check of a report finds no fault in any of them. The datasheet's own period changes nothing.
+    ensures swept { result ≡ Status.Ok → (command : SweepCommand) → sweep_of (bytes_of words.now) ≡ Some command
+        → SweptAnswer (F.files shelf.old) command (S.written sink.old) (S.written sink.new) }
 
     // A run with an extension is that of a design that stands for the extension and the datasheet which the files are the texts of. The bytes that were written are the text of
     // one list of rows over the image, whose memory has the waits. These are lawful, what they retire is a prefix of the run one instruction at a time with the extension, with its

@@ -2,6 +2,7 @@ use Rattle.ix_tool.specs.CommandLine.{bytes_of}
 use Rattle.ix_tool.proofs.Clauses.{usage, read_fault, too_long_answer, image, extension, sheet, no_schedule, certificate, source, output, write_fault, memory_alone, waits, no_command, due_status, complete}
 use Rattle.ix_tool.proofs.Headlines.{headline, listed, certified, stepped, assembled, scheduled}
 use Rattle.ix_tool.proofs.ModulesShown.{modules}
+use Rattle.ix_tool.proofs.SweepsShown.{swept}
 use Rattle.ix_tool.proofs.PipelinesShown.{pipelined}
 use Rattle.ix_tool.proofs.tool.run_tool.Goals as goal
 
@@ -25,6 +26,9 @@ returns-clause-scheduled g c = λ e. scheduled (g.F.Shelf.files c.args.shelf.now
 
 pub returns-clause-modules : goal.returns-clause-modules
 returns-clause-modules g c = λ e. modules (g.F.Shelf.files c.args.shelf.now) (bytes_of c.args.words.now) (g.S.Sink.written c.args.sink.now) (g.S.Sink.written c.run_words.new.sink) (output (g.F.Shelf.files c.args.shelf.now) (g.F.Shelf.faults c.args.shelf.now) (g.F.Shelf.faults c.run_words.new.shelf) (bytes_of c.args.words.now) (g.S.Sink.written c.args.sink.now) (g.S.Sink.written c.run_words.new.sink) (g.S.Sink.faults c.args.sink.now) (g.S.Sink.faults c.run_words.new.sink) c.run_words.result c.run_words.ensures e)
+
+pub returns-clause-swept : goal.returns-clause-swept
+returns-clause-swept g c = λ e. swept (g.F.Shelf.files c.args.shelf.now) (bytes_of c.args.words.now) (g.S.Sink.written c.args.sink.now) (g.S.Sink.written c.run_words.new.sink) (output (g.F.Shelf.files c.args.shelf.now) (g.F.Shelf.faults c.args.shelf.now) (g.F.Shelf.faults c.run_words.new.shelf) (bytes_of c.args.words.now) (g.S.Sink.written c.args.sink.now) (g.S.Sink.written c.run_words.new.sink) (g.S.Sink.faults c.args.sink.now) (g.S.Sink.faults c.run_words.new.sink) c.run_words.result c.run_words.ensures e)
 
 pub returns-clause-pipelined : goal.returns-clause-pipelined
 returns-clause-pipelined g c = λ e. pipelined c.rows_laws.ensures.text (g.F.Shelf.files c.args.shelf.now) (bytes_of c.args.words.now) (g.S.Sink.written c.args.sink.now) (g.S.Sink.written c.run_words.new.sink) (output (g.F.Shelf.files c.args.shelf.now) (g.F.Shelf.faults c.args.shelf.now) (g.F.Shelf.faults c.run_words.new.shelf) (bytes_of c.args.words.now) (g.S.Sink.written c.args.sink.now) (g.S.Sink.written c.run_words.new.sink) (g.S.Sink.faults c.args.sink.now) (g.S.Sink.faults c.run_words.new.sink) c.run_words.result c.run_words.ensures e)

@@ -1,0 +1,89 @@
+-- What an output of a sweep shows.
+use Rattle.std.proofs.Common.{◌≡◌, ℕ, List, [], ◌∷◌, Option, Some, None, Bool, true, false, refl, ap, sym, ◌∙◌, subst}
+use Rattle.std.specs.Prelude.{codes, if◌then◌else◌}
+use Rattle.std.specs.Str.{bytes_eq}
+use Rattle.std.proofs.lemmas.Bool.{and_parts, true≢false}
+use Rattle.ix_io.specs.Shelf.{NamedFiles}
+use Rattle.ix_io.specs.Sink.{Appends}
+use Rattle.ix_listing.proofs.OneExtension.{is_well_formed}
+use Rattle.ix_sweeps.specs.SweepText.{IsSweepText}
+use Rattle.ix_tool.specs.declared.command.Command.{Command}
+use Rattle.ix_tool.specs.declared.command.Command.TheVariants.{RunImage, Check, Certify, Schedule, Build, Sweep, Seq, Assemble, RunExtension}
+use Rattle.ix_tool.specs.Readings.{Reading}
+use Rattle.ix_tool.specs.CommandLine.{word_of, is_command, slots_of, behind, SweepCommand, sweep_of}
+use Rattle.ix_tool.specs.CommandOutput.{AreRead, IsOutput, OutputAnswer, SweptAnswer}
+use Rattle.ix_tool.proofs.Due.{both, one}
+use Rattle.ix_tool.proofs.Headlines.{is_of, pipeline_no_other, not_its_word}
+use Rattle.ix_tool.proofs.Taking.{run_read, extension_is_read, report_is_read, source_is_read, schedule_is_read, seq_read}
+
+none_sweep : (b : Bool) (o : SweepCommand) → b ≡ false → (if b then Some o else None) ≡ None
+none_sweep true o e = absurd (true≢false e)
+none_sweep false o e = refl
+
+sweep_words_are : (words : List (List ℕ)) (name other : List ℕ) (command : SweepCommand) → is_command Sweep words ≡ true → behind words ≡ name ∷ other ∷ [] → sweep_of words ≡ Some command → record { extension = name; sheet = other } ≡ command
+sweep_words_are [] name other command is e h = absurd (true≢false (sym is))
+sweep_words_are (word ∷ rest) name other command is e h =
+    let first = (and_parts _ _ is).0 in
+    let asked : SweepCommand = record { extension = name; sheet = other } in
+    let named : sweep_of (word ∷ rest) ≡ Some asked = ap (λ r. sweep_of (word ∷ r)) e ∙ ap (λ b. if b then Some asked else None) first in
+    one (sweep_of (word ∷ rest)) asked command named h
+
+two_no_sweep : (words : List (List ℕ)) (name : List ℕ) (command : Command) → is_command command words ≡ true → behind words ≡ name ∷ [] → sweep_of words ≡ None
+two_no_sweep [] name command is e = absurd (true≢false (sym is))
+two_no_sweep (word ∷ rest) name command is e = ap (λ r. sweep_of (word ∷ r)) e
+
+three_no_sweep : (words : List (List ℕ)) (a b c : List ℕ) (command : Command) → is_command command words ≡ true → behind words ≡ a ∷ b ∷ c ∷ [] → sweep_of words ≡ None
+three_no_sweep [] a b c command is e = absurd (true≢false (sym is))
+three_no_sweep (word ∷ rest) a b c command is e = ap (λ r. sweep_of (word ∷ r)) e
+
+pair_no_sweep : (command : Command) → bytes_eq (word_of command) (codes "sweep") ≡ false → (words : List (List ℕ)) (name other : List ℕ) → is_command command words ≡ true → behind words ≡ name ∷ other ∷ [] → sweep_of words ≡ None
+pair_no_sweep command unlike [] name other is e = absurd (true≢false (sym is))
+pair_no_sweep command unlike (word ∷ rest) name other is e =
+    ap (λ r. sweep_of (word ∷ r)) e
+    ∙ none_sweep (bytes_eq word (codes "sweep")) (record { extension = name; sheet = other }) (not_its_word word (word_of command) (codes "sweep") unlike (and_parts _ _ is).0)
+
+swept_of : (files : Option NamedFiles) (words : List (List ℕ)) (before now : Option (List ℕ)) (command : Command) (vs : List Reading) (text : List ℕ) (asked : SweepCommand) → is_command command words ≡ true → AreRead files (slots_of command) (behind words) vs → IsOutput command vs text → Appends before now text
+    → sweep_of words ≡ Some asked → SweptAnswer files asked before now
+swept_of files words before now RunImage vs text asked is read out a e =
+    let r = run_read files (behind words) vs read in
+    absurd (both (sweep_of words) asked e (pair_no_sweep RunImage refl words r.name r.number is r.words))
+swept_of files words before now Check vs text asked is read out a e =
+    let r = extension_is_read files (behind words) vs read in
+    absurd (both (sweep_of words) asked e (two_no_sweep words r.name Check is r.words))
+swept_of files words before now Certify vs text asked is read out a e =
+    let r = report_is_read files (behind words) vs read in
+    absurd (both (sweep_of words) asked e (two_no_sweep words r.name Certify is r.words))
+swept_of files words before now Seq vs text asked is read out a e =
+    let r = seq_read files (behind words) vs read in
+    absurd (both (sweep_of words) asked e (three_no_sweep words r.name r.other r.number Seq is r.words))
+swept_of files words before now Assemble vs text asked is read out a e =
+    let r = source_is_read files (behind words) vs read in
+    absurd (both (sweep_of words) asked e (pair_no_sweep Assemble refl words r.name r.other is r.words))
+swept_of files words before now Schedule vs text asked is read out a e =
+    let r = schedule_is_read files (behind words) vs read in
+    absurd (both (sweep_of words) asked e (pair_no_sweep Schedule refl words r.name r.other is r.words))
+swept_of files words before now Build vs text asked is read out a e =
+    let r = schedule_is_read files (behind words) vs read in
+    absurd (both (sweep_of words) asked e (pair_no_sweep Build refl words r.name r.other is r.words))
+swept_of files words before now RunExtension vs text asked is read out a e = absurd (both (sweep_of words) asked e (pipeline_no_other files words vs is read).sweep)
+swept_of files words before now Sweep vs text asked is read out a e =
+    let r = schedule_is_read files (behind words) vs read in
+    let swept : IsSweepText r.extension r.sheet text = subst (λ x. IsOutput Sweep x text) r.values out in
+    subst (λ k. SweptAnswer files k before now) (sweep_words_are words r.name r.other asked is r.words e)
+    (record {
+      bytes = r.bytes;
+      extension = r.extension;
+      sheet_bytes = r.sheet_bytes;
+      sheet = r.sheet;
+      text = text;
+      file = r.file;
+      elaborates = r.elaborates;
+      well_formed = is_well_formed r.bytes r.extension r.elaborates;
+      sheet_file = r.sheet_file;
+      sheet_read = r.sheet_is;
+      swept = swept;
+      written = a;
+    })
+
+pub swept : (files : Option NamedFiles) (words : List (List ℕ)) (before now : Option (List ℕ)) → OutputAnswer files words before now → (asked : SweepCommand) → sweep_of words ≡ Some asked → SweptAnswer files asked before now
+swept files words before now o asked e = swept_of files words before now o.command o.values o.text asked (is_of words o.command o.command_is) o.read o.output o.written e
