@@ -37,3 +37,8 @@ returns-in-Assemble-Extension g c =
     rw r.2 at c.assemble_source.ensures in
     subst (λ k. Answered k (map reading_of c.args.values.now) (g.S.Sink.written c.args.sink.now) (g.S.Sink.written c.assemble_source.new.sink) (g.S.Sink.faults c.args.sink.now) (g.S.Sink.faults c.assemble_source.new.sink) c.assemble_source.result) (sym arm.is-0)
     (subst (λ us. Answered Assemble us (g.S.Sink.written c.args.sink.now) (g.S.Sink.written c.assemble_source.new.sink) (g.S.Sink.faults c.args.sink.now) (g.S.Sink.faults c.assemble_source.new.sink) c.assemble_source.result) (sym vs) made)
+
+pub returns-in-Sweep-default : goal.returns-in-Sweep-default
+returns-in-Sweep-default g c =
+    subst (λ k. Answered k (map reading_of c.args.values.now) (g.S.Sink.written c.args.sink.now) (g.S.Sink.written c.answer_sweep.new.sink) (g.S.Sink.faults c.args.sink.now) (g.S.Sink.faults c.answer_sweep.new.sink) c.answer_sweep.result)
+    (sym c.in-Sweep-default.is-0) c.answer_sweep.ensures
