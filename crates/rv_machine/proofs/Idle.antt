@@ -37,7 +37,7 @@ least_nothing f n (suc count) h = ap (λ o. or_else (numbered n o) (least_from f
 no_board_owed : (a : Asks) → board_of [] a ≡ None
 no_board_owed a = least_nothing (holder_for [] a) 0 register_count (λ n. if_none (touches a (register_at n)))
 
-unless_board : (b : Bool) (a : Asks) → (if b then board_of [] a else None) ≡ None
+pub unless_board : (b : Bool) (a : Asks) → (if b then board_of [] a else None) ≡ None
 unless_board true a = no_board_owed a
 unless_board false a = refl
 
