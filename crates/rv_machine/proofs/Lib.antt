@@ -56,3 +56,7 @@ pub mod Untailed
 pub mod WideFuture
 mod Promised
 pub mod Worded
+pub mod UnitBound
+pub mod RankStays
+pub mod Lone
+pub mod FewEntries
