@@ -127,6 +127,7 @@ first k ready =
       timed = tt;
       distinct = tt;
       apart = idle_apart k ready (first_machine k) 0 (refl, refl) (placed_none k 0 n);
+      few_entries = omega arith;
       idle = (refl, refl);
       state = refl;
       progress = rw g (omega arith);

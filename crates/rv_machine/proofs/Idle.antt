@@ -1,7 +1,8 @@
 -- Where nothing is spawned, nothing is outstanding beside the stages, and no token meets anything there.
-use Rattle.std.proofs.Common.{◌≡◌, ℕ, zero, suc, ◌+◌, List, [], ◌∷◌, Option, Some, None, Bool, true, false, refl, sym, ap, ◌∙◌, subst, arith}
+use Rattle.std.proofs.Common.{◌≡◌, ℕ, zero, suc, List, [], ◌∷◌, Option, Some, None, Bool, true, false, refl, sym, ap, ◌∙◌, subst}
 use Rattle.std.specs.Prelude.{if◌then◌else◌, ◌&&◌, ◌==◌, is_some, is_none, IfSome}
 use Rattle.rv_asks.specs.declared.asks.Asks.{Asks}
+use Rattle.rv_seq.specs.declared.arch.Arch.{Arch}
 use Rattle.rv_unit.specs.declared.entry.Entry.{Entry}
 use Rattle.rv_unit.specs.Numbering.{lasts_of}
 use Rattle.rv_holds.specs.declared.token.Beside.{Beside}
@@ -13,10 +14,10 @@ use Rattle.rv_engine.specs.Owing.{Outstanding, outstanding_of, board_of, holder_
 use Rattle.rv_engine.specs.Settings.{Setting, Machine, shape_of, outstanding_in}
 use Rattle.rv_engine.specs.Rows.{into_unit, entering_of, owed_tried, left_by, paid_by, outstanding_by}
 use Rattle.rv_lawful.specs.Outstanding.{has_target, touches, outstanding, units_after}
-use Rattle.rv_lawful.specs.Sight.{asked, SpawnsNothing}
-use Rattle.rv_machine.specs.Placed.{IsReady, IsPlacedSlot, Placed}
+use Rattle.rv_lawful.specs.Sight.{asked}
+use Rattle.rv_machine.specs.Placed.{IsReady, Placed}
 use Rattle.rv_machine.proofs.Quiet.{no_target, outstanding_none, units_none}
-use Rattle.rv_machine.specs.Owing.{judged, Owing, Distinct, Apart}
+use Rattle.rv_machine.specs.Owing.{judged, repaid, Owing, Distinct, Apart}
 use Rattle.rv_trace.specs.declared.row.Row.{Row}
 use Rattle.rv_unit.specs.Slots.{units_of}
 use Rattle.rv_unit.specs.Timed.{IsTimed}
@@ -37,9 +38,13 @@ least_nothing f n (suc count) h = ap (λ o. or_else (numbered n o) (least_from f
 no_board_owed : (a : Asks) → board_of [] a ≡ None
 no_board_owed a = least_nothing (holder_for [] a) 0 register_count (λ n. if_none (touches a (register_at n)))
 
-unless_board : (b : Bool) (a : Asks) → (if b then board_of [] a else None) ≡ None
+pub unless_board : (b : Bool) (a : Asks) → (if b then board_of [] a else None) ≡ None
 unless_board true a = no_board_owed a
 unless_board false a = refl
+
+-- the state is the run's
+pub idle_arch : (m : Machine) (s : Arch) → (m.entries ≡ []) × (m.owed ≡ []) → repaid m.owed m.arch ≡ s → m.arch ≡ s
+idle_arch m s idle e = ap (λ (l : List Owed). repaid l m.arch) (sym idle.1) ∙ e
 
 -- what a token of an instruction without a unit meets, where these are outstanding: nothing
 alone_of : (k : Setting) (stage : ℕ) (a : Asks) → a.unit ≡ None → beside_of (shape_of k) (outstanding_of k.design [] []) stage a ≡ alone

@@ -38,6 +38,7 @@ pub mod TailsAfter
 pub mod Telling
 pub mod Trying
 pub mod Quiet
+pub mod Recorded
 pub mod Idle
 pub mod Meeting
 pub mod Agreeing
@@ -55,3 +56,7 @@ pub mod Untailed
 pub mod WideFuture
 mod Promised
 pub mod Worded
+pub mod UnitBound
+pub mod RankStays
+pub mod Lone
+pub mod FewEntries

@@ -30,7 +30,7 @@ use Rattle.rv_machine.proofs.Deciding.{same_test, test_eq, test_ne, no_waiting}
 use Rattle.rv_machine.proofs.Standing.{slice_get-drop, drop_more, stands_older, asks_at, here_of, cell_here, Has, OldestIs, oldest_is, all_three, out_drop, StayingIs, staying_is}
 use Rattle.rv_machine.proofs.Quiet.{none_unwritten}
 use Rattle.rv_machine.proofs.Idle.{alone, alone_is, quiet_unit, quiet_entering, quiet_board}
-use Rattle.rv_machine.proofs.Ordering.{operand_kind, custom_kind, late_kind, drain_kind, wait_kind, store_kind, module_kind, FirstOf, FirstFrom, joined, no_board, no_trap, no_unit, or_assoc, if_or, or_none, or_right}
+use Rattle.rv_machine.proofs.Ordering.{operand_kind, custom_kind, late_kind, drain_kind, wait_kind, store_kind, module_kind, FirstOf, FirstFrom, joined, no_board, no_trap, no_unit, or_assoc, if_or, or_none}
 use Rattle.rv_machine.proofs.Sixteen.{customs_few}
 
 -- what is waited for, of one register

@@ -28,11 +28,12 @@ use Rattle.rv_holds.specs.Holds.{oldest, is_late, writes_late}
 use Rattle.rv_engine.specs.Settings.{Setting, Machine, shape_of, tree_of}
 use Rattle.rv_engine.specs.Rows.{late_write, first_slot, owed_by}
 use Rattle.rv_lawful.specs.Settings as Lawful
-use Rattle.rv_machine.specs.Owing.{judged, Owing, RetiredAs, Distinct, Apart}
+use Rattle.rv_machine.specs.Owing.{judged, repaid, Owing, RetiredAs, Distinct, Apart}
 use Rattle.rv_lawful.specs.Outstanding.{architecture, outstanding, units_after}
 use Rattle.rv_unit.specs.Numbering.{lasts_of}
 use Rattle.rv_unit.specs.Slots.{units_of}
 use Rattle.rv_unit.specs.Timed.{IsTimed}
+use Rattle.rv_machine.specs.UnitRank.{unit_rank}
 use Rattle.rv_sight.specs.InUnits.{AreInUnits}
 use Rattle.rv_lawful.specs.LawfulTrace.{fetch_address, next_serial, IsWordOf}
 use Rattle.rv_lawful.specs.Sight.{asked, HasWords, AreWords, IsEarly, EarlyLaw, ExactLaw, KeepsLaw, TailLaw, QuietLaw}
@@ -200,10 +201,23 @@ to_go k most owed stage (s ∷ older) = first_of_two (to_go k most owed (suc sta
 abbrev pub rank : Shape → ℕ → ℕ → Slots → ℕ
 rank k most owed slots = first_of_two (to_go k most owed 0 slots) (suc (k.stages + most + 64))
 
+-- the same with the rows for which what stands in units may hold the stages back
+abbrev pub whole_rank : Setting → ℕ → Machine → ℕ
+whole_rank k most m = unit_rank (lasts_of k.design.plans) m.entries + rank (shape_of k) most (owed_by k m) m.slots
+
+-- units have no more entries than there are registers
+abbrev pub most_entries : Setting → ℕ
+most_entries k = 32 + length (tree_of k).registers
+
+-- the rank is never greater
+abbrev pub greatest_rank : Setting → ℕ
+greatest_rank k = (64 - (shape_of k).stages) + most_entries k + ((shape_of k).stages + greatest k.waits + 65)
+
 -- what ties the machine to the rows before
 pub record Inv (k : Setting) (earlier : List Row) (m : Machine) : Type 0 where
   pub stages : length m.slots ≡ (shape_of k).stages
-  pub arch : m.arch ≡ run k (retirements earlier)
+  -- with what is owed its state is the run's
+  pub arch : repaid m.owed m.arch ≡ run k (retirements earlier)
   pub next_place : place earlier m.next ≡ retirements earlier + count m.slots
   pub next_first : serial_after m.next (cell_of (first_slot m.slots)) ≡ m.next
   pub fetch : m.fetch ≡ expected k (retirements earlier) 1 (tail m.slots)
@@ -231,7 +245,8 @@ pub record Inv (k : Setting) (earlier : List Row) (m : Machine) : Type 0 where
   pub timed : IsTimed (shape_of k).stages (lasts_of k.design.plans) m.entries
   pub distinct : Distinct m.owed
   pub apart : Apart k m.owed 0 m.slots
+  pub few_entries : length m.entries ≤ most_entries k
   -- nothing is, yet
   pub idle : (m.entries ≡ []) × (m.owed ≡ [])
-  pub state : architecture (tree_of k) (judged k) earlier ≡ run k (retirements earlier)
-  pub progress : rows_without earlier + rank (shape_of k) (greatest k.waits) (owed_by k m) m.slots ≤ (shape_of k).stages + greatest k.waits + 65
+  pub state : architecture (tree_of k) (judged k) earlier ≡ m.arch
+  pub progress : rows_without earlier + whole_rank k (greatest k.waits) m ≤ greatest_rank k
