@@ -1,5 +1,5 @@
 -- Before the first row the machine is at the start of the run.
-use Rattle.std.proofs.Common.{◌≡◌, ℕ, zero, suc, ◌+◌, ◌≤◌, List, [], ◌∷◌, drop, take, length, get_or, Some, None, refl, sym, ap, ◌∙◌, arith}
+use Rattle.std.proofs.Common.{◌≡◌, ℕ, zero, suc, ◌+◌, ◌≤◌, List, [], ◌∷◌, drop, take, length, get_or, Some, None, refl, sym, ap, ◌∙◌, arith, true}
 use Rattle.std.specs.Prelude.{false, nat_lt, replicate}
 use Rattle.std.proofs.lemmas.Bool.Decides.{nat_tests}
 use Rattle.rv_core.specs.declared.Shape.{Shape}
@@ -15,7 +15,7 @@ use Rattle.rv_holds.specs.Tokens.{Slots, cell_of, cells_of}
 use Rattle.rv_engine.specs.Settings.{Setting, shape_of, first_machine}
 use Rattle.rv_engine.specs.Rows.{first_slot, owed_by}
 use Rattle.rv_lawful.specs.Settings.{Course, accesses_before}
-use Rattle.rv_lawful.specs.Outstanding.{architecture}
+use Rattle.rv_lawful.specs.Outstanding.{architecture, is_written}
 use Rattle.rv_lawful.specs.LawfulTrace.{fetch_address, next_serial}
 use Rattle.rv_machine.specs.Owing.{judged}
 use Rattle.rv_machine.specs.Placed.{run, count, tail, expected, past_ex, paid_late, to_go, Placed, Serials, IsReady, Inv}
@@ -86,6 +86,10 @@ no_accesses run (suc p) e = absurd (omega (arith, e))
 none_below : (s : ℕ) → nat_lt s 0 ≡ false
 none_below s = grind (arith, nat_tests)
 
+none_written : (s : ℕ) → is_written [] s ≡ true → is_retired [] s ≡ true
+unfolding is_written
+none_written s e = cc
+
 pub first : (k : Setting) (ready : IsReady k) → Inv k [] (first_machine k)
 unfolding retirements is_flushed is_retired place fetch_address next_serial seq_run first_state architecture rows_without
 first k ready =
@@ -123,6 +127,7 @@ first k ready =
       unflushed = λ s le. refl;
       owing = idle_owing k ready [] (first_machine k) (refl, refl);
       worded = λ s word h. absurd h;
+      paid = none_written;
       units = idle_units k ready [] (first_machine k) (refl, refl);
       timed = tt;
       distinct = tt;

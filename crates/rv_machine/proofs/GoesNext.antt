@@ -22,6 +22,7 @@ use Rattle.rv_machine.proofs.Idle.{idle_owing, idle_units, idle_timed, idle_dist
 use Rattle.rv_machine.proofs.Worded as W
 use Rattle.rv_machine.proofs.Counting as C
 use Rattle.rv_machine.proofs.FewEntries.{few_next}
+use Rattle.rv_machine.proofs.OwingNext as O
 
 -- for how many rows each module still goes on after the row
 abbrev pub TailsAfter : Setting → List Row → Slots → Type 0
@@ -60,7 +61,8 @@ module _ (k : Setting) (ready : IsReady k) (earlier : List Row) (m : Machine) (r
         fresh = F.fresh_now k ready earlier m row inv is;
         retired = λ s alive. R.told_retired k ready earlier m row inv is s alive ∙ ap (λ n. nat_lt (place (row ∷ earlier) s) n) (sym now);
         unflushed = F.unflushed_next k ready earlier m row inv is;
-        owing = idle_owing k ready (row ∷ earlier) (machine_after k m) (R.idle_next k ready earlier m row inv is);
+        owing = O.owing_next k ready earlier m row inv is;
+        paid = O.paid_next k ready earlier m row inv is;
         worded = W.worded_next k ready earlier m row inv is;
         units = idle_units k ready (row ∷ earlier) (machine_after k m) (R.idle_next k ready earlier m row inv is);
         timed = idle_timed k ready (row ∷ earlier) (machine_after k m) (R.idle_next k ready earlier m row inv is);

@@ -39,6 +39,8 @@ pub mod Telling
 pub mod Trying
 pub mod Quiet
 pub mod Recorded
+pub mod Unwritten
+pub mod OwingNext
 pub mod Idle
 pub mod Meeting
 pub mod Agreeing
