@@ -21,6 +21,7 @@ use Rattle.rv_machine.proofs.NextRow as N
 use Rattle.rv_machine.proofs.Idle.{idle_owing, idle_units, idle_timed, idle_distinct, idle_apart}
 use Rattle.rv_machine.proofs.Worded as W
 use Rattle.rv_machine.proofs.Counting as C
+use Rattle.rv_machine.proofs.Paid.{paid_next}
 
 -- for how many rows each module still goes on after the row
 abbrev pub TailsAfter : Setting → List Row → Slots → Type 0
@@ -65,6 +66,7 @@ module _ (k : Setting) (ready : IsReady k) (earlier : List Row) (m : Machine) (r
         timed = idle_timed k ready (row ∷ earlier) (machine_after k m) (R.idle_next k ready earlier m row inv is);
         distinct = idle_distinct k ready (row ∷ earlier) (machine_after k m) (R.idle_next k ready earlier m row inv is);
         apart = idle_apart k ready (machine_after k m) (retirements (row ∷ earlier)) (R.idle_next k ready earlier m row inv is) (N.placed_next k ready earlier m row inv is e);
+        paid = paid_next k earlier m row inv is;
         idle = R.idle_next k ready earlier m row inv is;
         state = R.architecture_now k ready earlier m row inv is;
         progress = progress;

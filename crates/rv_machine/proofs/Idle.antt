@@ -122,19 +122,6 @@ module _ (k : Setting) (ready : IsReady k) where
       ap (λ o. or_else o (if has_target t.asks (register_at n) then Some t.cell.serial else None)) (quiet_spawns r (suc stage) older h.1 n)
       ∙ ap (λ (b : Bool). if b then Some t.cell.serial else None) none
 
-  pub quiet_entering : (r stage : ℕ) (older : Slots) → Placed k r stage older → entering older ≡ None
-  quiet_entering r stage [] h = refl
-  quiet_entering r stage (None ∷ []) h = refl
-  quiet_entering r stage (Some t ∷ []) h =
-      let none = quiet_unit t.cell.word t.asks h.0.asks in
-      ap (λ (u : Option ℕ). if is_some u && is_none t.cell.hold then Some t.cell.serial else None) none
-  quiet_entering r stage (s ∷ u ∷ older) h = quiet_entering r (suc stage) (u ∷ older) h.1
-
-  pub quiet_board : (r stage : ℕ) (t : Token) (older : Slots) → t.beside ≡ alone → Placed k r stage older → board_hold t older ≡ None
-  quiet_board r stage t older e h =
-      ap (λ b. board (lower_of b.board (least_from (spawner older t.asks) 0 register_count))) e
-      ∙ ap board (least_nothing (spawner older t.asks) 0 register_count (λ n. ap (λ (o : Option ℕ). if touches t.asks (register_at n) then o else None) (quiet_spawns r stage older h n) ∙ if_none (touches t.asks (register_at n))))
-
   none_apart : (r stage : ℕ) (slots : Slots) → Placed k r stage slots → Apart k [] stage slots
   none_apart r stage [] h = tt
   none_apart r stage (None ∷ older) h = none_apart r (suc stage) older h.1

@@ -55,3 +55,10 @@ pub mod Untailed
 pub mod WideFuture
 mod Promised
 pub mod Worded
+pub mod Owes
+pub mod Older
+pub mod Least
+pub mod BoardHolds
+pub mod UnitHolds
+pub mod DrainHolds
+pub mod Paid

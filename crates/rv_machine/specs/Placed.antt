@@ -29,7 +29,7 @@ use Rattle.rv_engine.specs.Settings.{Setting, Machine, shape_of, tree_of}
 use Rattle.rv_engine.specs.Rows.{late_write, first_slot, owed_by}
 use Rattle.rv_lawful.specs.Settings as Lawful
 use Rattle.rv_machine.specs.Owing.{judged, Owing, RetiredAs, Distinct, Apart}
-use Rattle.rv_lawful.specs.Outstanding.{architecture, outstanding, units_after}
+use Rattle.rv_lawful.specs.Outstanding.{architecture, is_written, outstanding, units_after}
 use Rattle.rv_unit.specs.Numbering.{lasts_of}
 use Rattle.rv_unit.specs.Slots.{units_of}
 use Rattle.rv_unit.specs.Timed.{IsTimed}
@@ -231,6 +231,7 @@ pub record Inv (k : Setting) (earlier : List Row) (m : Machine) : Type 0 where
   pub timed : IsTimed (shape_of k).stages (lasts_of k.design.plans) m.entries
   pub distinct : Distinct m.owed
   pub apart : Apart k m.owed 0 m.slots
+  pub paid : (s : ℕ) → is_written earlier s ≡ true → is_retired earlier s ≡ true
   -- nothing is, yet
   pub idle : (m.entries ≡ []) × (m.owed ≡ [])
   pub state : architecture (tree_of k) (judged k) earlier ≡ run k (retirements earlier)
