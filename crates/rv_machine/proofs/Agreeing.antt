@@ -2,7 +2,7 @@
 use Rattle.std.proofs.Common.{◌≡◌, ℕ, suc, ◌+◌, ◌<◌, ◌≤◌, List, [], ◌∷◌, drop, length, Option, Some, None, Bool, true, false, refl, sym, ap, ◌∙◌, subst, arith}
 use Rattle.std.specs.Prelude.{◌&&◌, ◌||◌, if◌then◌else◌, ◌==◌, is_some, is_none}
 use Rattle.std.proofs.lemmas.List.{length-drop}
-use Rattle.ix_extension.specs.Extensions.{ExtensionTree}
+use Rattle.ix_extension.specs.Extensions.{ExtensionTree, entry}
 use Rattle.rv_seq.specs.declared.arch.Arch.{Arch}
 use Rattle.rv_seq.specs.declared.commit.Commit.{Commit}
 use Rattle.rv_seq.specs.declared.commit.Stop.{Stop}
@@ -19,15 +19,15 @@ use Rattle.rv_holds.specs.Tokens.{Slots, or_else, stop_of}
 use Rattle.rv_holds.specs.Holds.{drain, staying, drain_hold, own_hold, stops_now, waiting_hold, left_behind, entering}
 use Rattle.rv_holds.specs.Flushing.{slot_stop, remains}
 use Rattle.rv_engine.specs.Settings.{Setting, Machine, shape_of, tree_of}
-use Rattle.rv_engine.specs.Rows.{waited, advanced, with_serial, retired_of, seen_by, fetch_by, left_by}
+use Rattle.rv_engine.specs.Rows.{waited, advanced, with_serial, retired_of, seen_by, fetch_by, left_by, machine_after}
 use Rattle.rv_lawful.specs.Headline.{IsRecord, IsSpawnWrite, AgreesWithRun}
-use Rattle.rv_lawful.specs.Outstanding.{Written, Decoupled, architecture, after_owed}
+use Rattle.rv_lawful.specs.Outstanding.{Written, Decoupled, architecture, after_owed, outstanding, after_spawned}
 use Rattle.rv_lawful.specs.Sight.{asked}
 use Rattle.rv_machine.proofs.Quiet.{shown_same, record_long, outstanding_none}
 use Rattle.rv_lawful.specs.LawfulTrace.{StopsRun}
 use Rattle.rv_engine.specs.Rows.{written_of}
 use Rattle.rv_machine.proofs.Idle.{idle_paid}
-use Rattle.rv_machine.specs.Owing.{judged}
+use Rattle.rv_machine.specs.Owing.{judged, IsOwing, Owing, repaid}
 use Rattle.rv_machine.specs.Placed.{run, count, tail, expected, IsReady}
 use Rattle.rv_machine.specs.Told.{out_of}
 use Rattle.rv_machine.proofs.Deciding.{or_else_none, or_else_none_b}
@@ -39,6 +39,9 @@ use Rattle.rv_machine.specs.Left.{Left}
 use Rattle.rv_machine.proofs.Succeeding as S
 use Rattle.rv_machine.proofs.Lawful as L
 use Rattle.rv_machine.proofs.Lawful.{fetch_case}
+use Rattle.rv_unit.specs.declared.entry.Entry.{Entry}
+use Rattle.rv_engine.specs.declared.owing.Owed.{Owed}
+use Rattle.rv_tried.specs.Parts.{spawned, paid, shown}
 
 drain_none : (o : Option ℕ) → drain o ≡ None → o ≡ None
 drain_none None h = refl
@@ -92,21 +95,39 @@ no_word : (x : ExtensionTree) (image : List ℕ) (s : Arch) → word_at image s.
 unfolding step
 no_word x image s e = ap (λ o. of_word x s o) e
 
+-- what the outstanding instructions owe is what the machine keeps of them
+owed_one : (k : Setting) (rows : List Row) (o : Decoupled) (e : Entry) (w : Owed) (s : Arch) → IsOwing k rows o e w → after_spawned (judged k) (place rows o.0) ((judged k).course.answer (place rows o.0)) s ≡ paid w.writes s
+owed_one k rows o e w s h =
+    ap (λ a. after_spawned (judged k) (place rows o.0) a s) h.step
+    ∙ ap (λ c. paid (spawned (asked k.design c) ((judged k).course.own (place rows o.0)) h.commit) s) h.word
+    ∙ ap (λ a. paid (spawned a ((judged k).course.own (place rows o.0)) h.commit) s) (sym h.asks)
+    ∙ ap (λ v. paid v s) (sym h.writes)
+
+owed_repaid : (k : Setting) (rows : List Row) (outs : List Decoupled) (entries : List Entry) (owed : List Owed) (s : Arch) → Owing k rows outs entries owed → after_owed (judged k) rows outs s ≡ repaid owed s
+owed_repaid k rows [] [] [] s h = refl
+owed_repaid k rows [] [] (w ∷ owed) s h = absurd h
+owed_repaid k rows [] (e ∷ entries) owed s h = absurd h
+owed_repaid k rows (o ∷ outs) [] owed s h = absurd h
+owed_repaid k rows (o ∷ outs) (e ∷ entries) [] s h = absurd h
+owed_repaid k rows (o ∷ outs) (e ∷ entries) (w ∷ owed) s h =
+    ap (λ z. after_spawned (judged k) (place rows o.0) ((judged k).course.answer (place rows o.0)) z) (owed_repaid k rows outs entries owed s h.2)
+    ∙ owed_one k rows o e w (repaid owed s) h.0
+
 module _ (k : Setting) (ready : IsReady k) (earlier : List Row) (m : Machine) (row : Row) (made : Made k earlier m row) (left : Left k earlier m row) where
   -- what is retired
 
-  retired_at : (s : ℕ) (c : Commit) → row.retired ≡ Some (s, c) → (place (row ∷ earlier) s ≡ retirements earlier) × (answer_at (tree_of k) k.image (retirements earlier) ≡ Done c)
+  retired_at : (s : ℕ) (c : Commit) → row.retired ≡ Some (s, c) → (place (row ∷ earlier) s ≡ retirements earlier) × IsRecord (judged k) (retirements earlier) c
   retired_at s c e = by_left (left_by k m) refl where
     same_pair : (a b : ℕ × Commit) → ◌≡◌ {A = Option (ℕ × Commit)} (Some a) (Some b) → a ≡ b
     same_pair a b q = cc
 
-    by_left : (o : Option Token) → left_by k m ≡ o → (place (row ∷ earlier) s ≡ retirements earlier) × (answer_at (tree_of k) k.image (retirements earlier) ≡ Done c)
+    by_left : (o : Option Token) → left_by k m ≡ o → (place (row ∷ earlier) s ≡ retirements earlier) × IsRecord (judged k) (retirements earlier) c
     by_left None g = cc (made.is.retired ∙ ap retired_of g, e)
     by_left (Some t) g =
         let x = made.retires t g in
-        let pair = same_pair (t.cell.serial, x.0) (s, c) (sym (made.is.retired ∙ ap retired_of g ∙ x.2) ∙ e) in (
+        let pair = same_pair (t.cell.serial, shown (asked k.design t.cell.word) x.0) (s, c) (sym (made.is.retired ∙ ap retired_of g ∙ x.3) ∙ e) in (
           ap (λ (p : ℕ × Commit). place (row ∷ earlier) p.0) (sym pair) ∙ left.serial t g,
-          left.recorded t x.0 g x.1 ∙ ap (λ (p : ℕ × Commit). Done p.1) pair,
+          (x.0, left.recorded t x.0 g x.1, ap (λ (p : ℕ × Commit). p.1) (sym pair) ∙ ap (λ w. shown (asked k.design w) x.0) (sym x.2)),
         )
 
   -- at the stop every older token goes out
@@ -148,23 +169,18 @@ module _ (k : Setting) (ready : IsReady k) (earlier : List Row) (m : Machine) (r
         let at : fetch_by k m ≡ (run k (retirements (row ∷ earlier))).pc = left.fetch (no_stops k 0 (seen_by k m) q) ∙ expected_empty k (retirements (row ∷ earlier)) 1 (tail (advanced None (seen_by k m))) gone in
         no_word (tree_of k) k.image (run k (retirements (row ∷ earlier))) (ap (λ n. word_at k.image n) (sym at) ∙ f.1) ∙ ap (λ z. Stopped z) (sym f.2)
 
-  recorded_at : (s : ℕ) (c : Commit) → row.retired ≡ Some (s, c) → IsRecord (judged k) (retirements earlier) c
-  recorded_at s c e =
-      let is = (retired_at s c e).1 in
-      (c, is, sym (shown_same (asked k.design c.word) (ready.quiet.asks c.word) c (record_long (tree_of k) k.image (run k (retirements earlier)) c is)))
-
   none_written : (w : Written) → row.written ≡ Some w → IsSpawnWrite (judged k) earlier w
   none_written w e = let none : row.written ≡ None = made.is.written ∙ ap written_of (idle_paid k m made.inv.idle) in cc (none, e)
-
-  abbrev owing : List Decoupled → Arch
-  owing l = after_owed (judged k) (row ∷ earlier) l (architecture (tree_of k) (judged k) (row ∷ earlier))
 
   pub agrees : AgreesWithRun (tree_of k) (judged k) earlier row
   agrees = record {
     placed = λ s c e. (retired_at s c e).0;
-    recorded = recorded_at;
+    recorded = λ s c e. (retired_at s c e).1;
     written = none_written;
-    state = ap owing (outstanding_none (judged k) ready.quiet.asks (row ∷ earlier)) ∙ left.state;
+    state =
+        ap (λ s. after_owed (judged k) (row ∷ earlier) (outstanding (judged k) (row ∷ earlier)) s) left.state
+        ∙ owed_repaid k (row ∷ earlier) (outstanding (judged k) (row ∷ earlier)) (machine_after k m).entries (machine_after k m).owed (machine_after k m).arch left.owing
+        ∙ left.applied;
     stop = stop_agrees;
     settled = λ stop e. outstanding_none (judged k) ready.quiet.asks (row ∷ earlier);
   }

@@ -2,6 +2,7 @@
 use Rattle.std.proofs.Common.{◌≡◌, ℕ, zero, suc, ◌+◌, List, [], ◌∷◌, Option, Some, None, Bool, true, false, refl, sym, ap, ◌∙◌, subst, arith}
 use Rattle.std.specs.Prelude.{if◌then◌else◌, ◌&&◌, ◌==◌, is_some, is_none, IfSome}
 use Rattle.rv_asks.specs.declared.asks.Asks.{Asks}
+use Rattle.rv_seq.specs.declared.arch.Arch.{Arch}
 use Rattle.rv_unit.specs.declared.entry.Entry.{Entry}
 use Rattle.rv_unit.specs.Numbering.{lasts_of}
 use Rattle.rv_holds.specs.declared.token.Beside.{Beside}
@@ -16,7 +17,7 @@ use Rattle.rv_lawful.specs.Outstanding.{has_target, touches, outstanding, units_
 use Rattle.rv_lawful.specs.Sight.{asked, SpawnsNothing}
 use Rattle.rv_machine.specs.Placed.{IsReady, IsPlacedSlot, Placed}
 use Rattle.rv_machine.proofs.Quiet.{no_target, outstanding_none, units_none}
-use Rattle.rv_machine.specs.Owing.{judged, Owing, Distinct, Apart}
+use Rattle.rv_machine.specs.Owing.{judged, repaid, Owing, Distinct, Apart}
 use Rattle.rv_trace.specs.declared.row.Row.{Row}
 use Rattle.rv_unit.specs.Slots.{units_of}
 use Rattle.rv_unit.specs.Timed.{IsTimed}
@@ -40,6 +41,10 @@ no_board_owed a = least_nothing (holder_for [] a) 0 register_count (λ n. if_non
 unless_board : (b : Bool) (a : Asks) → (if b then board_of [] a else None) ≡ None
 unless_board true a = no_board_owed a
 unless_board false a = refl
+
+-- the state is the run's
+pub idle_arch : (m : Machine) (s : Arch) → (m.entries ≡ []) × (m.owed ≡ []) → repaid m.owed m.arch ≡ s → m.arch ≡ s
+idle_arch m s idle e = ap (λ (l : List Owed). repaid l m.arch) (sym idle.1) ∙ e
 
 -- what a token of an instruction without a unit meets, where these are outstanding: nothing
 alone_of : (k : Setting) (stage : ℕ) (a : Asks) → a.unit ≡ None → beside_of (shape_of k) (outstanding_of k.design [] []) stage a ≡ alone

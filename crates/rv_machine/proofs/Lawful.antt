@@ -39,6 +39,8 @@ use Rattle.rv_machine.proofs.Moving.{token_name, fill_moves, new_name, last_slot
 use Rattle.rv_machine.proofs.Clearing.{cleared_length, unheld_names, shown_as}
 use Rattle.rv_machine.proofs.Turns.{Turner, turner, settles_parts, settles_where, struck_inside}
 use Rattle.rv_machine.proofs.Succeeding as S
+use Rattle.rv_lawful.specs.Sight.{asked}
+use Rattle.rv_tried.specs.Parts.{shown}
 
 -- a cell of these is a token's
 token_here : (l : Slots) (n : ℕ) (c : Cell) → slice_get (cells_of l) n ≡ Some (Some c) → (t : Token) × (slice_get l n ≡ Some (Some t)) × (t.cell ≡ c)
@@ -154,10 +156,11 @@ module _ (k : Setting) (ready : IsReady k) (earlier : List Row) (m : Machine) (r
               }
           by_hold false q g =
               let x = made.retires t g in
-              let is_retired : row.retired ≡ Some (t.cell.serial, x.0) = made.is.retired ∙ ap retired_of g ∙ x.2 in
+              let c = shown (asked k.design t.cell.word) x.0 in
+              let is_retired : row.retired ≡ Some (t.cell.serial, c) = made.is.retired ∙ ap retired_of g ∙ x.3 in
               record {
-                leaver = λ s commit p. (t.cell, stands_t, unheld_leaves stage t at (is_none_of t.cell.hold q), ap serial_in (same_pair (t.cell.serial, x.0) (s, commit) (sym is_retired ∙ p)));
-                retired = λ c stands p. (x.0, is_retired ∙ ap (λ (d : Cell). Some (d.serial, x.0)) (same_cell c stands p));
+                leaver = λ s commit p. (t.cell, stands_t, unheld_leaves stage t at (is_none_of t.cell.hold q), ap serial_in (same_pair (t.cell.serial, c) (s, commit) (sym is_retired ∙ p)));
+                retired = λ d stands p. (c, is_retired ∙ ap (λ (z : Cell). Some (z.serial, c)) (same_cell d stands p));
               } where
                 same_pair : (a b : ℕ × Commit) → ◌≡◌ {A = Option (ℕ × Commit)} (Some a) (Some b) → a ≡ b
                 same_pair a b q = cc

@@ -38,6 +38,7 @@ pub mod TailsAfter
 pub mod Telling
 pub mod Trying
 pub mod Quiet
+pub mod Recorded
 pub mod Idle
 pub mod Meeting
 pub mod Agreeing

@@ -13,6 +13,8 @@ use Rattle.rv_machine.proofs.Reading.{Alike, IsAlike}
 use Rattle.rv_machine.proofs.Before as B
 use Rattle.rv_machine.proofs.Flushing as F
 use Rattle.rv_machine.proofs.Retiring as R
+use Rattle.rv_tried.specs.Parts.{shown}
+use Rattle.rv_lawful.specs.Sight.{asked}
 
 named : ℕ → ℕ → ℕ → Option Name
 named serial at word = name_of (Some (record { serial = serial; at = at; word = word; hold = None }))
@@ -48,14 +50,15 @@ made k ready earlier m row inv is =
       stop_is = R.stop_now k ready earlier m row inv is;
       retires = retires;
     } where
-      retires : (t : Token) → left_by k m ≡ Some t → (c : Commit) × (commit_of t ≡ Some c) × (retired_of (Some t) ≡ Some (t.cell.serial, c))
+      retires : (t : Token) → left_by k m ≡ Some t → (c : Commit) × (commit_of t ≡ Some c) × (c.word ≡ t.cell.word) × (retired_of (Some t) ≡ Some (t.cell.serial, shown (asked k.design t.cell.word) c))
       retires t e = elim (R.goes_out k ready earlier m row inv is) [
         | inl n ↦ cc (n.0, e)
         | inr y ↦
             let same = same_token t y.0.token (sym e ∙ y.0.is_left) in (
               y.0.commit,
               ap commit_of same ∙ y.0.comes_to,
-              ap retired_of (sym e) ∙ sym is.retired ∙ y.0.is_retired ∙ ap (λ (u : Token). Some (u.cell.serial, y.0.commit)) (sym same),
+              y.0.word ∙ ap (λ (u : Token). u.cell.word) (sym same),
+              ap retired_of (sym e) ∙ sym is.retired ∙ y.0.is_retired ∙ ap (λ (u : Token). Some (u.cell.serial, shown (asked k.design u.cell.word) y.0.commit)) (sym same),
             )
       ] where
         same_token : (t u : Token) → ◌≡◌ {A = Option Token} (Some t) (Some u) → t ≡ u

@@ -263,7 +263,7 @@ module _ (k : Setting) (ready : IsReady k) (earlier : List Row) (m : Machine) (r
     by_left : (o : Option Token) → left_by k m ≡ o → (if is_some row.retired then 0 else suc (rows_without earlier)) + rank (shape_of k) (greatest k.waits) (owed_by k after) after.slots ≤ (shape_of k).stages + greatest k.waits + 65
     by_left (Some t) g =
         let x = made.retires t g in
-        let is_retired : is_some row.retired ≡ true = ap (λ p. is_some p) (made.is.retired ∙ ap retired_of g ∙ x.2) in
+        let is_retired : is_some row.retired ≡ true = ap (λ p. is_some p) (made.is.retired ∙ ap retired_of g ∙ x.3) in
         let a = to_go-le (shape_of k) (greatest k.waits) (owed_by k after) 0 after.slots owed_most_after (advanced_short None (seen_by k m) tt shorts) in
         let b = next_stages in
         let c = first_le (to_go (shape_of k) (greatest k.waits) (owed_by k after) 0 after.slots) (suc ((shape_of k).stages + greatest k.waits + 64)) ((shape_of k).stages + greatest k.waits + 65) (omega (arith, a, b)) (omega arith) in

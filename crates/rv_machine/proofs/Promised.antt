@@ -98,8 +98,7 @@ arch_is k ready [] are = refl
 arch_is k ready (row ∷ earlier) are =
     let m = machine_at k earlier in
     let inv = (known k ready earlier are.2).going are.1 in
-    R.state_now k ready earlier m row inv are.0
-    ∙ sym (R.architecture_now k ready earlier m row inv are.0)
+    sym (R.architecture_now k ready earlier m row inv are.0)
 
 pub text_law : Sights → TextLaw
 text_law sights d image waits cycles text h t =

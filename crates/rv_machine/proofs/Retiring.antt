@@ -13,14 +13,14 @@ use Rattle.rv_holds.specs.declared.token.Token.{Token}
 use Rattle.rv_holds.specs.Tokens.{Slots, stop_in, commit_in, tried_commit, commit_of, or_else}
 use Rattle.rv_holds.specs.Flushing.{next_of, settles, struck, cleared, slot_stop, remains}
 use Rattle.rv_engine.specs.Settings.{Setting, Machine, shape_of, tree_of, outstanding_in}
-use Rattle.rv_engine.specs.Rows.{going, leaving, with_serial, retired_of, owed_by, turn_by, seen_by, left_by, IsRowOf, native_of, outstanding_by, arch_retired, arch_paid, written_of, paid_by, fetch_by, native_in, native_tried, is_owing}
+use Rattle.rv_engine.specs.Rows.{going, leaving, with_serial, retired_of, owed_by, turn_by, seen_by, left_by, IsRowOf, native_of, outstanding_by, arch_retired, arch_paid, written_of, paid_by, fetch_by, native_in, native_tried, is_owing, entering_of, machine_after, into_unit, owed_tried, owed_in}
 use Rattle.rv_lawful.specs.Outstanding.{architecture, after_retired, after_written}
-use Rattle.rv_machine.specs.Owing.{judged}
+use Rattle.rv_machine.specs.Owing.{judged, repaid}
 use Rattle.rv_machine.specs.Placed.{run, one_more, count, settling_stage, Serials, IsPlaced, IsPlacedSlot, IsReady, Inv}
 use Rattle.rv_machine.specs.Told.{NoStops, out_of, Told, IsBeside}
 use Rattle.rv_machine.proofs.Places.{serials_drop, one_place}
 use Rattle.rv_machine.proofs.Moving.{last_slot, out_going}
-use Rattle.rv_machine.proofs.Runs.{answer, run_suc}
+use Rattle.rv_machine.proofs.Runs.{answer, run_suc, kept_word}
 use Rattle.rv_machine.proofs.Reading.{cleared_read}
 use Rattle.rv_machine.proofs.Ripe.{cleared_ripe}
 use Rattle.rv_machine.proofs.Going.{AreSeen}
@@ -28,16 +28,20 @@ use Rattle.rv_machine.proofs.Moves.{leaving_placed, past_ex}
 use Rattle.rv_machine.proofs.Clearing.{cleared_drop, cleared_placed, cleared_decided, cleared_loaded}
 use Rattle.rv_machine.proofs.Settling.{settles_parts, settled_next, seen_rest}
 use Rattle.rv_machine.proofs.Quiet.{arch_after, shown_same, native_same, record_long, retired_whole}
-use Rattle.rv_machine.proofs.Idle.{idle_outstanding, idle_paid, idle_after, quiet_unit}
+use Rattle.rv_machine.proofs.Idle.{idle_outstanding, idle_paid, idle_after, quiet_unit, idle_arch}
 use Rattle.rv_machine.proofs.Meeting.{seen_meets, meets_at}
 use Rattle.rv_machine.proofs.Before as B
 use Rattle.rv_machine.proofs.Flushing as F
 use Rattle.rv_machine.proofs.Telling as T
-use Rattle.rv_tried.specs.Parts.{shown, native}
+use Rattle.rv_tried.specs.Parts.{shown, native, spawned}
 use Rattle.ix_bits.specs.declared.number.Bits.{Bits}
 use Rattle.rv_tried.specs.declared.trial.Trial.{Trial}
 use Rattle.rv_lawful.specs.Sight.{asked}
 use Rattle.rv_seq.specs.declared.commit.Stop.TheVariants.{Fetch}
+use Rattle.rv_engine.specs.declared.owing.Owed.{Owed}
+use Rattle.rv_asks.specs.declared.asks.Asks.{Asks}
+use Rattle.rv_seq.specs.declared.arch.Arch.{Arch}
+use Rattle.rv_machine.proofs.Recorded.{shown_word, native_shown}
 
 cleared_stops : (k : Setting) (stage n : ℕ) (slots : Slots) → n ≤ length slots → NoStops k (stage + n) (drop n slots) → NoStops k stage (cleared n slots)
 cleared_stops k stage zero slots le h = subst (λ b. NoStops k b slots) (add-zero stage) h
@@ -147,35 +151,39 @@ module _ (k : Setting) (ready : IsReady k) (earlier : List Row) (m : Machine) (r
   pub left_is : (t : Token) → left_by k m ≡ Some t → IsPlaced k r (run k r).pc (shape_of k).stages [] t
   left_is t e = subst (λ o. IsPlacedSlot k r (run k r).pc (shape_of k).stages [] o) e left_placed
 
+  -- the token has the word of its step
+  pub step_word_is : (t : Token) (c : Commit) → IsPlaced k r (run k r).pc (shape_of k).stages [] t → answer k r ≡ Done c → c.word ≡ t.cell.word
+  step_word_is t c h done = (kept_word k ready r t.cell.word c (ap (λ a. word_at k.image a) (sym h.at) ∙ h.word) done).word
+
+  -- what a step owes that a unit writes later
+  abbrev pub owed_at : ℕ → ℕ → Commit → Owed
+  owed_at s word c = record { serial = s; asks = asked k.design word; writes = spawned (asked k.design word) ((judged k).course.own r) c }
+
   -- what is retired, where something goes out
   pub record Retirement (o : Option Token) (p : Option (ℕ × Commit)) : Type 0 where
     pub token : Token
     pub is_left : o ≡ Some token
     pub commit : Commit
     pub comes_to : commit_of token ≡ Some commit
-    pub is_retired : p ≡ Some (token.cell.serial, commit)
+    pub asks : token.asks ≡ asked k.design token.cell.word
+    pub word : commit.word ≡ token.cell.word
+    pub is_retired : p ≡ Some (token.cell.serial, shown (asked k.design token.cell.word) commit)
     pub recorded : answer k (retirements earlier) ≡ Done commit
-    pub writes : native_of o ≡ Some commit
+    pub writes : native_of o ≡ Some (native (asked k.design token.cell.word) ((judged k).course.blocks r) commit)
+    pub enters : entering_of o ≡ into_unit (asked k.design token.cell.word).unit (Some (owed_at token.cell.serial token.cell.word commit))
 
-  -- where nothing is spawned it is shown whole
-  shown_is : (t : Token) → IsPlaced k r (run k r).pc (shape_of k).stages [] t → (c : Commit) → answer k r ≡ Done c → shown t.asks c ≡ c
-  shown_is t h c done =
-      ap (λ a. shown a c) h.asks ∙ shown_same (asked k.design t.cell.word) (ready.quiet.asks t.cell.word) c (record_long (tree_of k) k.image (run k r) c done)
+  -- what a token of these writes and owes that was tried to its step
+  tried_native : (a b : Asks) (o : Option Trial) (trial : Trial) (c : Commit) → a ≡ b → o ≡ Some trial → trial.answer ≡ Done c → trial.blocks ≡ (judged k).course.blocks r → native_tried a o ≡ Some (native b ((judged k).course.blocks r) c)
+  tried_native a b o trial c same e done blocks =
+      ap (λ x. native_tried x o) same ∙ ap (λ x. native_tried b x) e ∙ ap (λ y. native_in b trial.blocks y) done ∙ ap (λ l. Some (native b l c)) blocks
 
-  -- and written whole
-  native_is : (t : Token) → IsPlaced k r (run k r).pc (shape_of k).stages [] t → (c : Commit) → commit_of t ≡ Some c → answer k r ≡ Done c → native_of (Some t) ≡ Some c
-  native_is t h c comes done = by_trial t.trial comes where
-    by_answer : (blocks : List (Option Bits)) (y : StepAnswer) → commit_in y ≡ Some c → native_in t.asks blocks y ≡ Some c
-    by_answer blocks (Done d) e =
-        let same : d ≡ c = cc in
-        ap (λ x. Some (native t.asks blocks x)) same
-        ∙ ap (λ a. Some (native a blocks c)) h.asks
-        ∙ ap (λ x. Some x) (native_same (asked k.design t.cell.word) (ready.quiet.asks t.cell.word) c (record_long (tree_of k) k.image (run k r) c done) blocks)
-    by_answer blocks (Stopped stop) e = cc
-
-    by_trial : (o : Option Trial) → tried_commit o ≡ Some c → native_tried t.asks o ≡ Some c
-    by_trial None e = cc
-    by_trial (Some trial) e = by_answer trial.blocks trial.answer e
+  tried_owed : (s word : ℕ) (a : Asks) (o : Option Trial) (trial : Trial) (c : Commit) → a ≡ asked k.design word → o ≡ Some trial → trial.answer ≡ Done c → trial.own ≡ (judged k).course.own r
+      → into_unit a.unit (owed_tried s a o) ≡ into_unit (asked k.design word).unit (Some (owed_at s word c))
+  tried_owed s word a o trial c same e done own =
+      ap (λ (x : Asks). into_unit x.unit (owed_tried s x o)) same
+      ∙ ap (λ x. into_unit (asked k.design word).unit (owed_tried s (asked k.design word) x)) e
+      ∙ ap (λ y. into_unit (asked k.design word).unit (owed_in s (asked k.design word) trial.own y)) done
+      ∙ ap (λ l. into_unit (asked k.design word).unit (Some (record { serial = s; asks = asked k.design word; writes = spawned (asked k.design word) l c }))) own
 
   retirement : (t : Token) → IsPlaced k r (run k r).pc (shape_of k).stages [] t → Retirement (Some t) (retired_of (Some t))
   retirement t h =
@@ -185,14 +193,18 @@ module _ (k : Setting) (ready : IsReady k) (earlier : List Row) (m : Machine) (r
       let exact = h.exact g.0 g.1 (λ l. past) in
       let c = done_of g.0.answer g.2 in
       let e : commit_of t ≡ Some c.0 = ap (λ o. tried_commit o) g.1 ∙ ap (λ x. commit_in x) c.1 in
+      let done : answer k r ≡ Done c.0 = sym exact.answer ∙ c.1 in
       record {
         token = t;
         is_left = refl;
         commit = c.0;
         comes_to = e;
-        is_retired = ap (λ o. with_serial t.cell.serial t.asks o) e ∙ ap (λ x. Some (t.cell.serial, x)) (shown_is t h c.0 (sym exact.answer ∙ c.1));
-        recorded = sym exact.answer ∙ c.1;
-        writes = native_is t h c.0 e (sym exact.answer ∙ c.1);
+        asks = h.asks;
+        word = step_word_is t c.0 h done;
+        is_retired = ap (λ o. with_serial t.cell.serial t.asks o) e ∙ ap (λ x. Some (t.cell.serial, shown x c.0)) h.asks;
+        recorded = done;
+        writes = tried_native t.asks (asked k.design t.cell.word) t.trial g.0 c.0 h.asks g.1 c.1 (h.tried g.0 g.1).blocks;
+        enters = tried_owed t.cell.serial t.cell.word t.asks t.trial g.0 c.0 h.asks g.1 c.1 exact.own;
       }
 
   -- either nothing goes out, or a token that retires
@@ -203,7 +215,18 @@ module _ (k : Setting) (ready : IsReady k) (earlier : List Row) (m : Machine) (r
     by_case (Some t) e h =
         let x = retirement t h in
         inr (
-          record { token = x.token; is_left = e ∙ x.is_left; commit = x.commit; comes_to = x.comes_to; is_retired = is.retired ∙ ap retired_of e ∙ x.is_retired; recorded = x.recorded; writes = ap native_of e ∙ x.writes },
+          record {
+            token = x.token;
+            is_left = e ∙ x.is_left;
+            commit = x.commit;
+            comes_to = x.comes_to;
+            asks = x.asks;
+            word = x.word;
+            is_retired = is.retired ∙ ap retired_of e ∙ x.is_retired;
+            recorded = x.recorded;
+            writes = ap native_of e ∙ x.writes;
+            enters = ap entering_of e ∙ x.enters;
+          },
           sym left_out ∙ ap (λ s. one_more s 0) e,
         )
 
@@ -305,46 +328,52 @@ module _ (k : Setting) (ready : IsReady k) (earlier : List Row) (m : Machine) (r
 
   -- ---- the state after the row
 
+  -- what a row retires is written as it shows
+  retired_shown : (s : Arch) → after_retired (judged k) r row.retired s ≡ arch_retired (native_of (left_by k m)) s
+  retired_shown s = elim goes_out [
+    | inl n ↦ ap (λ o. after_retired (judged k) r o s) n.1 ∙ ap (λ o. arch_retired (native_of o) s) (sym n.0)
+    | inr y ↦
+        let a = asked k.design y.0.token.cell.word in
+        let c = y.0.commit in
+        ap (λ o. after_retired (judged k) r o s) y.0.is_retired
+        ∙ ap (λ w. applied (native (asked k.design w) ((judged k).course.blocks r) (shown a c)) s) (shown_word a c ∙ y.0.word)
+        ∙ ap (λ d. applied d s) (native_shown a ((judged k).course.blocks r) c)
+        ∙ ap (λ o. arch_retired o s) (sym y.0.writes)
+  ]
+
+  written_shown : (o : Option Owed) (s : Arch) → after_written (written_of o) s ≡ arch_paid o s
+  written_shown None s = refl
+  written_shown (Some o) s = refl
+
+  pub architecture_now : architecture (tree_of k) (judged k) (row ∷ earlier) ≡ (machine_after k m).arch
+  unfolding architecture
+  architecture_now =
+      ap (λ w. after_written w (after_retired (judged k) r row.retired (architecture (tree_of k) (judged k) earlier))) is.written
+      ∙ written_shown (paid_by k m) (after_retired (judged k) r row.retired (architecture (tree_of k) (judged k) earlier))
+      ∙ ap (λ s. arch_paid (paid_by k m) (after_retired (judged k) r row.retired s)) inv.state
+      ∙ ap (λ s. arch_paid (paid_by k m) s) (retired_shown m.arch)
+
+  -- where nothing is spawned it is written whole
+  native_whole : (word : ℕ) (c : Commit) → answer k r ≡ Done c → native (asked k.design word) ((judged k).course.blocks r) c ≡ c
+  native_whole word c done = native_same (asked k.design word) (ready.quiet.asks word) c (record_long (tree_of k) k.image (run k r) c done) ((judged k).course.blocks r)
+
   retired_state : arch_retired (native_of (left_by k m)) m.arch ≡ run k (retirements (row ∷ earlier))
   retired_state = elim goes_out [
     | inl n ↦
         let z : retirements earlier + 0 ≡ retirements earlier = omega arith in
         let e = retired_now ∙ ap (λ o. retirements earlier + o) n.2 ∙ z in
-        ap (λ o. arch_retired (native_of o) m.arch) n.0 ∙ inv.arch ∙ ap (λ j. run k j) (sym e)
+        ap (λ o. arch_retired (native_of o) m.arch) n.0 ∙ idle_arch m (run k r) inv.idle inv.arch ∙ ap (λ j. run k j) (sym e)
     | inr y ↦
         let z : retirements earlier + 1 ≡ suc (retirements earlier) = omega arith in
         let e = retired_now ∙ ap (λ o. retirements earlier + o) y.1 ∙ z in
-        ap (λ o. arch_retired o m.arch) y.0.writes ∙ ap (λ s. applied y.0.commit s) inv.arch ∙ sym (run_suc k (retirements earlier) ∙ ap (λ a. after (run k (retirements earlier)) a) y.0.recorded) ∙ ap (λ j. run k j) (sym e)
+        ap (λ o. arch_retired o m.arch) (y.0.writes ∙ ap (λ d. Some d) (native_whole y.0.token.cell.word y.0.commit y.0.recorded))
+        ∙ ap (λ s. applied y.0.commit s) (idle_arch m (run k r) inv.idle inv.arch)
+        ∙ sym (run_suc k (retirements earlier) ∙ ap (λ a. after (run k (retirements earlier)) a) y.0.recorded)
+        ∙ ap (λ j. run k j) (sym e)
   ]
 
-  pub state_now : arch_paid (paid_by k m) (arch_retired (native_of (left_by k m)) m.arch) ≡ run k (retirements (row ∷ earlier))
-  state_now = ap (λ w. arch_paid w (arch_retired (native_of (left_by k m)) m.arch)) (idle_paid k m inv.idle) ∙ retired_state
-
-  -- what the row retires is what is written
-  retired_written : arch_after m.arch row.retired ≡ run k (retirements (row ∷ earlier))
-  retired_written = elim goes_out [
-    | inl n ↦
-        let z : retirements earlier + 0 ≡ retirements earlier = omega arith in
-        let e = retired_now ∙ ap (λ o. retirements earlier + o) n.2 ∙ z in
-        ap (λ o. arch_after m.arch o) n.1 ∙ inv.arch ∙ ap (λ j. run k j) (sym e)
-    | inr y ↦ ap (λ o. arch_after m.arch o) y.0.is_retired ∙ sym (ap (λ o. arch_retired o m.arch) y.0.writes) ∙ retired_state
-  ]
-
-  -- what retires has a record of the run
-  retired_long : (r : ℕ × Commit) → row.retired ≡ Some r → length r.1.custom ≡ 16
-  retired_long r e = elim goes_out [
-    | inl n ↦ cc (n.1, e)
-    | inr y ↦
-        let same : (y.0.token.cell.serial, y.0.commit) ≡ r = one_pair (y.0.token.cell.serial, y.0.commit) r (sym y.0.is_retired ∙ e) in
-        ap (λ (p : ℕ × Commit). length p.1.custom) (sym same) ∙ record_long (tree_of k) k.image (run k (retirements earlier)) y.0.commit y.0.recorded
-  ] where
-    one_pair : (a b : ℕ × Commit) → ◌≡◌ {A = Option (ℕ × Commit)} (Some a) (Some b) → a ≡ b
-    one_pair a b q = cc
-
-  pub architecture_now : architecture (tree_of k) (judged k) (row ∷ earlier) ≡ run k (retirements (row ∷ earlier))
-  unfolding architecture
-  architecture_now =
-      ap (λ w. after_written w (after_retired (judged k) (retirements earlier) row.retired (architecture (tree_of k) (judged k) earlier))) (is.written ∙ ap written_of (idle_paid k m inv.idle))
-      ∙ ap (λ s. after_retired (judged k) (retirements earlier) row.retired s) (inv.state ∙ sym inv.arch)
-      ∙ retired_whole (judged k) ready.quiet.asks (retirements earlier) row.retired m.arch retired_long
-      ∙ retired_written
+  pub state_now : repaid (machine_after k m).owed (machine_after k m).arch ≡ run k (retirements (row ∷ earlier))
+  state_now =
+      ap (λ (l : List Owed). repaid l (machine_after k m).arch) idle_next.1
+      ∙ ap (λ w. arch_paid w (arch_retired (native_of (left_by k m)) m.arch)) (idle_paid k m inv.idle)
+      ∙ retired_state

@@ -21,6 +21,9 @@ use Rattle.rv_machine.proofs.Flushing as F
 use Rattle.rv_machine.proofs.Retiring as R
 use Rattle.rv_seq.specs.Steps.{word_at}
 use Rattle.rv_seq.specs.declared.answer.StepAnswer.TheVariants.{Done}
+use Rattle.rv_tried.specs.Parts.{shown}
+use Rattle.rv_lawful.specs.Sight.{asked}
+use Rattle.rv_machine.proofs.Recorded.{shown_word}
 
 below : (a b : ℕ) → nat_lt a b ≡ true → a < b
 below a b h = grind (arith, nat_tests)
@@ -37,10 +40,6 @@ left_there n slots o (Some u) t rest g e = by_hold (is_some u.cell.hold) g where
   by_hold false q = let same : u ≡ t = cc (e, q) in here_of slots [] u n rest ∙ ap (λ (v : Token). Some (Some v)) same
 
 module _ (k : Setting) (ready : IsReady k) (earlier : List Row) (m : Machine) (row : Row) (inv : Inv k earlier m) (is : IsRowOf k m row) where
-  -- its word is that of its step
-  left_word : (t : Token) (c : Commit) → IsPlaced k (retirements earlier) (run k (retirements earlier)).pc (shape_of k).stages [] t → answer k (retirements earlier) ≡ Done c → c.word ≡ t.cell.word
-  left_word t c h done = (kept_word k ready (retirements earlier) t.cell.word c (ap (λ a. word_at k.image a) (sym h.at) ∙ h.word) done).word
-
   left_here : (t : Token) → left_by k m ≡ Some t → slice_get (seen_by k m) ((shape_of k).stages - 1) ≡ Some (Some t)
   left_here t e =
       let a = ready.ex_last in
@@ -73,8 +72,8 @@ module _ (k : Setting) (ready : IsReady k) (earlier : List Row) (m : Machine) (r
               let same : y.0.token.cell.serial ≡ s = one_place (row ∷ earlier) y.0.token.cell.serial s x.1 alive (x.0 ∙ sym there) in
               let code = F.words_now k ready earlier m row inv is s word known ((shape_of k).stages - 1) y.0.token (left_here y.0.token y.0.is_left) same in
               inl (
-                y.0.commit,
-                y.0.is_retired ∙ ap (λ n. Some (n, y.0.commit)) same,
-                left_word y.0.token y.0.commit (R.left_is k ready earlier m row inv is y.0.token y.0.is_left) y.0.recorded ∙ code,
+                shown (asked k.design y.0.token.cell.word) y.0.commit,
+                y.0.is_retired ∙ ap (λ n. Some (n, shown (asked k.design y.0.token.cell.word) y.0.commit)) same,
+                shown_word (asked k.design y.0.token.cell.word) y.0.commit ∙ y.0.word ∙ code,
               )
         ]

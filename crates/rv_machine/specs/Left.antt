@@ -8,9 +8,9 @@ use Rattle.rv_trace.specs.Trace.{place, retirements}
 use Rattle.rv_holds.specs.declared.token.Token.{Token}
 use Rattle.rv_holds.specs.Tokens.{commit_of}
 use Rattle.rv_engine.specs.Settings.{Setting, Machine, tree_of}
-use Rattle.rv_engine.specs.Rows.{advanced, seen_by, fetch_by, left_by}
-use Rattle.rv_lawful.specs.Outstanding.{architecture}
-use Rattle.rv_machine.specs.Owing.{judged}
+use Rattle.rv_engine.specs.Rows.{advanced, seen_by, fetch_by, left_by, machine_after}
+use Rattle.rv_lawful.specs.Outstanding.{architecture, outstanding}
+use Rattle.rv_machine.specs.Owing.{judged, repaid, Owing}
 use Rattle.rv_machine.specs.Placed.{run, tail, expected}
 use Rattle.rv_machine.specs.Told.{NoStops, out_of}
 
@@ -18,6 +18,9 @@ pub record Left (k : Setting) (earlier : List Row) (m : Machine) (row : Row) : T
   pub serial : (t : Token) → left_by k m ≡ Some t → place (row ∷ earlier) t.cell.serial ≡ retirements earlier
   pub recorded : (t : Token) (c : Commit) → left_by k m ≡ Some t → commit_of t ≡ Some c → answer_at (tree_of k) k.image (retirements earlier) ≡ Done c
   pub now : retirements (row ∷ earlier) ≡ retirements earlier + out_of (seen_by k m)
-  pub state : architecture (tree_of k) (judged k) (row ∷ earlier) ≡ run k (retirements (row ∷ earlier))
+  -- with what is owed the state is the run's
+  pub state : architecture (tree_of k) (judged k) (row ∷ earlier) ≡ (machine_after k m).arch
+  pub applied : repaid (machine_after k m).owed (machine_after k m).arch ≡ run k (retirements (row ∷ earlier))
+  pub owing : Owing k (row ∷ earlier) (outstanding (judged k) (row ∷ earlier)) (machine_after k m).entries (machine_after k m).owed
   -- where no token stops the run, the next fetch is from behind the tokens that are left
   pub fetch : NoStops k 0 (seen_by k m) → fetch_by k m ≡ expected k (retirements (row ∷ earlier)) 1 (tail (advanced None (seen_by k m)))

@@ -13,6 +13,8 @@ use Rattle.rv_engine.specs.Settings.{Setting, Machine, shape_of}
 use Rattle.rv_engine.specs.Rows.{fill_first, new_by, loaded_by, turn_by, seen_by, fetch_by, left_by, retired_of, IsRowOf}
 use Rattle.rv_machine.specs.Placed.{run, count, Serials, Inv}
 use Rattle.rv_machine.specs.Told.{Decided, Told}
+use Rattle.rv_tried.specs.Parts.{shown}
+use Rattle.rv_lawful.specs.Sight.{asked}
 
 pub record Made (k : Setting) (earlier : List Row) (m : Machine) (row : Row) : Type 0 where
   pub inv : Inv k earlier m
@@ -32,5 +34,5 @@ pub record Made (k : Setting) (earlier : List Row) (m : Machine) (row : Row) : T
   pub ascends : AscendFrom None row.flushed
   -- a token that settles its successor names the pc of the run behind it
   pub names_pc : (stage : ℕ) (t : Token) (older : Slots) → drop stage (seen_by k m) ≡ Some t ∷ older → settles (shape_of k) stage t older ≡ true → next_of t ≡ (run k (suc (retirements earlier + count older))).pc
-  -- what goes out retires, and is shown whole
-  pub retires : (t : Token) → left_by k m ≡ Some t → (c : Commit) × (commit_of t ≡ Some c) × (retired_of (Some t) ≡ Some (t.cell.serial, c))
+  -- what goes out retires
+  pub retires : (t : Token) → left_by k m ≡ Some t → (c : Commit) × (commit_of t ≡ Some c) × (c.word ≡ t.cell.word) × (retired_of (Some t) ≡ Some (t.cell.serial, shown (asked k.design t.cell.word) c))

@@ -28,7 +28,7 @@ use Rattle.rv_holds.specs.Holds.{oldest, is_late, writes_late}
 use Rattle.rv_engine.specs.Settings.{Setting, Machine, shape_of, tree_of}
 use Rattle.rv_engine.specs.Rows.{late_write, first_slot, owed_by}
 use Rattle.rv_lawful.specs.Settings as Lawful
-use Rattle.rv_machine.specs.Owing.{judged, Owing, RetiredAs, Distinct, Apart}
+use Rattle.rv_machine.specs.Owing.{judged, repaid, Owing, RetiredAs, Distinct, Apart}
 use Rattle.rv_lawful.specs.Outstanding.{architecture, is_written, outstanding, units_after}
 use Rattle.rv_unit.specs.Numbering.{lasts_of}
 use Rattle.rv_unit.specs.Slots.{units_of}
@@ -203,7 +203,8 @@ rank k most owed slots = first_of_two (to_go k most owed 0 slots) (suc (k.stages
 -- what ties the machine to the rows before
 pub record Inv (k : Setting) (earlier : List Row) (m : Machine) : Type 0 where
   pub stages : length m.slots ≡ (shape_of k).stages
-  pub arch : m.arch ≡ run k (retirements earlier)
+  -- with what is owed its state is the run's
+  pub arch : repaid m.owed m.arch ≡ run k (retirements earlier)
   pub next_place : place earlier m.next ≡ retirements earlier + count m.slots
   pub next_first : serial_after m.next (cell_of (first_slot m.slots)) ≡ m.next
   pub fetch : m.fetch ≡ expected k (retirements earlier) 1 (tail m.slots)
@@ -234,5 +235,5 @@ pub record Inv (k : Setting) (earlier : List Row) (m : Machine) : Type 0 where
   pub paid : (s : ℕ) → is_written earlier s ≡ true → is_retired earlier s ≡ true
   -- nothing is, yet
   pub idle : (m.entries ≡ []) × (m.owed ≡ [])
-  pub state : architecture (tree_of k) (judged k) earlier ≡ run k (retirements earlier)
+  pub state : architecture (tree_of k) (judged k) earlier ≡ m.arch
   pub progress : rows_without earlier + rank (shape_of k) (greatest k.waits) (owed_by k m) m.slots ≤ (shape_of k).stages + greatest k.waits + 65
