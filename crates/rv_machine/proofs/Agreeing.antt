@@ -2,12 +2,12 @@
 use Rattle.std.proofs.Common.{◌≡◌, ℕ, suc, ◌+◌, ◌<◌, ◌≤◌, List, [], ◌∷◌, drop, length, Option, Some, None, Bool, true, false, refl, sym, ap, ◌∙◌, subst, arith}
 use Rattle.std.specs.Prelude.{◌&&◌, ◌||◌, if◌then◌else◌, ◌==◌, is_some, is_none}
 use Rattle.std.proofs.lemmas.List.{length-drop}
-use Rattle.ix_extension.specs.Extensions.{ExtensionTree, entry}
+use Rattle.ix_extension.specs.Extensions.{ExtensionTree}
 use Rattle.rv_seq.specs.declared.arch.Arch.{Arch}
 use Rattle.rv_seq.specs.declared.commit.Commit.{Commit}
 use Rattle.rv_seq.specs.declared.commit.Stop.{Stop}
 use Rattle.rv_seq.specs.declared.commit.Stop.TheVariants.{Fetch}
-use Rattle.rv_seq.specs.declared.answer.StepAnswer.TheVariants.{Done, Stopped}
+use Rattle.rv_seq.specs.declared.answer.StepAnswer.TheVariants.{Stopped}
 use Rattle.rv_seq.specs.Steps.{word_at, of_word, step}
 use Rattle.rv_seq.specs.Runs.{answer_at}
 use Rattle.rv_trace.specs.declared.row.Cell.{Cell}
@@ -19,11 +19,11 @@ use Rattle.rv_holds.specs.Tokens.{Slots, or_else, stop_of}
 use Rattle.rv_holds.specs.Holds.{drain, staying, drain_hold, own_hold, stops_now, waiting_hold, left_behind, entering}
 use Rattle.rv_holds.specs.Flushing.{slot_stop, remains}
 use Rattle.rv_engine.specs.Settings.{Setting, Machine, shape_of, tree_of}
-use Rattle.rv_engine.specs.Rows.{waited, advanced, with_serial, retired_of, seen_by, fetch_by, left_by, machine_after}
+use Rattle.rv_engine.specs.Rows.{waited, advanced, retired_of, seen_by, fetch_by, left_by, machine_after}
 use Rattle.rv_lawful.specs.Headline.{IsRecord, IsSpawnWrite, AgreesWithRun}
-use Rattle.rv_lawful.specs.Outstanding.{Written, Decoupled, architecture, after_owed, outstanding, after_spawned}
+use Rattle.rv_lawful.specs.Outstanding.{Written, Decoupled, after_owed, outstanding, after_spawned}
 use Rattle.rv_lawful.specs.Sight.{asked}
-use Rattle.rv_machine.proofs.Quiet.{shown_same, record_long, outstanding_none}
+use Rattle.rv_machine.proofs.Quiet.{outstanding_none}
 use Rattle.rv_lawful.specs.LawfulTrace.{StopsRun}
 use Rattle.rv_engine.specs.Rows.{written_of}
 use Rattle.rv_machine.proofs.Idle.{idle_paid}

@@ -188,19 +188,19 @@ empty_advanced (None ∷ older) e = empty_advanced older e
 empty_advanced (Some t ∷ older) e = absurd (omega (arith, e))
 
 -- a token that comes into empty stages is then the oldest, or leaves
-come_advanced : (k : Shape) (most owed stage : ℕ) (t : Token) (older : Slots) → count older ≡ 0 → leaving (Some t) older ≡ None → to_go k most owed stage (advanced (Some t) older) ≡ length older + may_wait k most owed stage + t.tail
+pub come_advanced : (k : Shape) (most owed stage : ℕ) (t : Token) (older : Slots) → count older ≡ 0 → leaving (Some t) older ≡ None → to_go k most owed stage (advanced (Some t) older) ≡ length older + may_wait k most owed stage + t.tail
 come_advanced k most owed stage t [] e l = cc
 come_advanced k most owed stage t (None ∷ older) e l =
     let z = zero_to_go k most owed (suc stage) (advanced None older) (empty_advanced older e) in
     rw (z, advanced_length None older) (omega arith)
 come_advanced k most owed stage t (Some u ∷ older) e l = absurd (omega (arith, e))
 
-some_stage : (t : Token) (older : Slots) → leaving (Some t) older ≡ None → 0 < length older
+pub some_stage : (t : Token) (older : Slots) → leaving (Some t) older ≡ None → 0 < length older
 some_stage t [] l = cc
 some_stage t (u ∷ older) l = omega arith
 
 -- the rows of waiting become fewer as a token goes on
-wait_falls : (k : Shape) (most owed owed' stage : ℕ) → owed' ≤ most → may_wait k most owed' (suc stage) ≤ may_wait k most owed stage
+pub wait_falls : (k : Shape) (most owed owed' stage : ℕ) → owed' ≤ most → may_wait k most owed' (suc stage) ≤ may_wait k most owed stage
 wait_falls k most owed owed' stage le = by_case (nat_lt (suc stage) k.mem) (suc stage == k.mem) (nat_lt stage k.mem) (stage == k.mem) refl refl refl where
   by_case : (a b c d : Bool) → nat_lt (suc stage) k.mem ≡ a → (suc stage == k.mem) ≡ b → nat_lt stage k.mem ≡ c → (if a then most else if b then owed' else 0) ≤ (if c then most else if d then owed else 0)
   by_case true b true d p q r = omega arith
@@ -234,7 +234,7 @@ wait_at-mem k most owed stage e = by_case (nat_lt stage k.mem) (stage == k.mem) 
   by_case false false p q = cc
 
 -- and do not grow as it is held
-wait_stays : (k : Shape) (most owed owed' stage : ℕ) → (stage ≡ k.mem → owed' ≤ owed) → may_wait k most owed' stage ≤ may_wait k most owed stage
+pub wait_stays : (k : Shape) (most owed owed' stage : ℕ) → (stage ≡ k.mem → owed' ≤ owed) → may_wait k most owed' stage ≤ may_wait k most owed stage
 wait_stays k most owed owed' stage f = by_case (nat_lt stage k.mem) (stage == k.mem) refl where
   by_case : (a b : Bool) → (stage == k.mem) ≡ b → (if a then most else if b then owed' else 0) ≤ (if a then most else if b then owed else 0)
   by_case true b e = omega arith
@@ -250,7 +250,7 @@ Falls k owed owed' stage [] = Unit {0}
 Falls k owed owed' stage (None ∷ older) = Falls k owed owed' (suc stage) older
 Falls k owed owed' stage (Some t ∷ older) = Falling k owed owed' stage t × Falls k owed owed' (suc stage) older
 
-falls_tail : (k : Setting) (owed owed' stage : ℕ) (s : Option Token) (older : Slots) → Falls k owed owed' stage (s ∷ older) → Falls k owed owed' (suc stage) older
+pub falls_tail : (k : Setting) (owed owed' stage : ℕ) (s : Option Token) (older : Slots) → Falls k owed owed' stage (s ∷ older) → Falls k owed owed' (suc stage) older
 falls_tail k owed owed' stage None older f = f
 falls_tail k owed owed' stage (Some t) older f = f.1
 
@@ -263,7 +263,7 @@ falls k owed owed' base (Some t ∷ older) f = (
 )
 
 -- the first of two, where it is one
-first_is : (m b : ℕ) → 0 < m → first_of_two m b ≡ m
+pub first_is : (m b : ℕ) → 0 < m → first_of_two m b ≡ m
 first_is zero b lt = absurd (omega arith)
 first_is (suc m) b lt = refl
 
@@ -273,7 +273,7 @@ pub record Nearer (left now : ℕ) : Type 0 where
   pub some : 0 < left
 
 -- the oldest token stays where it is held
-stays_here : (k : Shape) (most owed stage : ℕ) (come : Option Token) (t : Token) (older : Slots) → is_some t.cell.hold ≡ true → count older ≡ 0 → to_go k most owed stage (advanced come (Some t ∷ older)) ≡ suc (length older + may_wait k most owed stage + tail_after t.cell.hold t.tail)
+pub stays_here : (k : Shape) (most owed stage : ℕ) (come : Option Token) (t : Token) (older : Slots) → is_some t.cell.hold ≡ true → count older ≡ 0 → to_go k most owed stage (advanced come (Some t ∷ older)) ≡ suc (length older + may_wait k most owed stage + tail_after t.cell.hold t.tail)
 stays_here k most owed stage come t older h e =
     let z = zero_to_go k most owed (suc stage) (advanced None older) (empty_advanced older e) in
     ap (λ (b : Bool). first_of_two (to_go k most owed (suc stage) (advanced (if b then None else Some t) older)) (here k most owed stage (if b then Some (waited t) else come) (length (advanced (if b then None else Some t) older)))) h

@@ -8,12 +8,12 @@ use Rattle.rv_trace.specs.declared.row.Row.{Row}
 use Rattle.rv_trace.specs.Trace.{retirements, rows_without}
 use Rattle.rv_holds.specs.declared.token.Token.{Token}
 use Rattle.rv_holds.specs.Tokens.{Slots, commit_of}
-use Rattle.rv_engine.specs.Settings.{Setting, Machine, shape_of, tree_of}
-use Rattle.rv_engine.specs.Rows.{fill_first, owed_by, new_by, loaded_by, seen_by, left_by, advanced, IsRowOf, machine_after}
+use Rattle.rv_engine.specs.Settings.{Setting, Machine, tree_of}
+use Rattle.rv_engine.specs.Rows.{fill_first, new_by, loaded_by, seen_by, left_by, advanced, IsRowOf, machine_after}
 use Rattle.rv_lawful.specs.LawfulTrace.{LawfulRow}
 use Rattle.rv_lawful.specs.Headline.{AgreesWithRun}
 use Rattle.rv_machine.specs.Owing.{judged}
-use Rattle.rv_machine.specs.Placed.{one_more, tail, expected, rank, IsReady, Inv}
+use Rattle.rv_machine.specs.Placed.{one_more, tail, expected, whole_rank, greatest_rank, IsReady, Inv}
 use Rattle.rv_machine.specs.Made.{Made}
 use Rattle.rv_machine.proofs.Bound.{tails_of}
 use Rattle.rv_machine.proofs.Reading.{Alike}
@@ -27,6 +27,7 @@ use Rattle.rv_machine.proofs.Lawful as L
 use Rattle.rv_machine.proofs.Agreeing as A
 use Rattle.rv_machine.proofs.NextCounts as C
 use Rattle.rv_machine.proofs.Idle.{idle_owing}
+use Rattle.rv_machine.proofs.FewEntries.{few_next}
 
 same_tails : (a b : Slots) → Alike a b → tails_of b ≡ tails_of a
 same_tails [] [] h = refl
@@ -73,5 +74,5 @@ module _ (k : Setting) (ready : IsReady k) (earlier : List Row) (m : Machine) (r
   pub agrees : AgreesWithRun (tree_of k) (judged k) earlier row
   agrees = A.agrees k ready earlier m row made left
 
-  pub progress : row.stop ≡ None → rows_without (row ∷ earlier) + rank (shape_of k) (greatest k.waits) (owed_by k (machine_after k m)) (machine_after k m).slots ≤ (shape_of k).stages + greatest k.waits + 65
-  progress = C.progress_next k ready earlier m row made (T.awaits_told k ready earlier m row inv is) (same_tails (fill_first (new_by k m) m.slots) (loaded_by k m) (B.loaded_alike k ready earlier m inv))
+  pub progress : row.stop ≡ None → rows_without (row ∷ earlier) + whole_rank k (greatest k.waits) (machine_after k m) ≤ greatest_rank k
+  progress = C.progress_next k ready earlier m row made (T.awaits_told k ready earlier m row inv is) (same_tails (fill_first (new_by k m) m.slots) (loaded_by k m) (B.loaded_alike k ready earlier m inv)) (few_next k ready earlier m row inv is)

@@ -128,6 +128,7 @@ first k ready =
       distinct = tt;
       apart = idle_apart k ready (first_machine k) 0 (refl, refl) (placed_none k 0 n);
       paid = λ s e. cc e;
+      few_entries = omega arith;
       idle = (refl, refl);
       state = refl;
       progress = rw g (omega arith);

@@ -7,11 +7,11 @@ use Rattle.rv_trace.specs.Trace.{place, retirements, rows_without}
 use Rattle.rv_waits.specs.Waits.{greatest}
 use Rattle.rv_holds.specs.declared.token.Token.{Token}
 use Rattle.rv_holds.specs.Tokens.{Slots}
-use Rattle.rv_engine.specs.Settings.{Setting, Machine, shape_of, tree_of}
-use Rattle.rv_engine.specs.Rows.{advanced, owed_by, new_by, memory_by, seen_by, IsRowOf, machine_after}
+use Rattle.rv_engine.specs.Settings.{Setting, Machine, tree_of}
+use Rattle.rv_engine.specs.Rows.{advanced, new_by, memory_by, seen_by, IsRowOf, machine_after}
 use Rattle.rv_lawful.specs.Settings as Lawful
 use Rattle.rv_machine.specs.Owing.{judged}
-use Rattle.rv_machine.specs.Placed.{rank, IsReady, Inv}
+use Rattle.rv_machine.specs.Placed.{whole_rank, greatest_rank, IsReady, Inv}
 use Rattle.rv_machine.proofs.Filling.{next_within}
 use Rattle.rv_machine.proofs.Moves.{advanced_length}
 use Rattle.rv_machine.proofs.Before as B
@@ -22,6 +22,7 @@ use Rattle.rv_machine.proofs.Idle.{idle_owing, idle_units, idle_timed, idle_dist
 use Rattle.rv_machine.proofs.Worded as W
 use Rattle.rv_machine.proofs.Counting as C
 use Rattle.rv_machine.proofs.Paid.{paid_next}
+use Rattle.rv_machine.proofs.FewEntries.{few_next}
 
 -- for how many rows each module still goes on after the row
 abbrev pub TailsAfter : Setting → List Row → Slots → Type 0
@@ -29,7 +30,7 @@ TailsAfter k rows slots = (n : ℕ) (t : Token) (older : Slots) → drop n slots
 
 -- the bound after the row
 abbrev pub ProgressAfter : Setting → List Row → Machine → Type 0
-ProgressAfter k rows m = rows_without rows + rank (shape_of k) (greatest k.waits) (owed_by k m) m.slots ≤ (shape_of k).stages + greatest k.waits + 65
+ProgressAfter k rows m = rows_without rows + whole_rank k (greatest k.waits) m ≤ greatest_rank k
 
 module _ (k : Setting) (ready : IsReady k) (earlier : List Row) (m : Machine) (row : Row) (inv : Inv k earlier m) (is : IsRowOf k m row) where
   -- what the code promises of widths, the modules and the bound are premises here
@@ -67,6 +68,7 @@ module _ (k : Setting) (ready : IsReady k) (earlier : List Row) (m : Machine) (r
         distinct = idle_distinct k ready (row ∷ earlier) (machine_after k m) (R.idle_next k ready earlier m row inv is);
         apart = idle_apart k ready (machine_after k m) (retirements (row ∷ earlier)) (R.idle_next k ready earlier m row inv is) (N.placed_next k ready earlier m row inv is e);
         paid = paid_next k earlier m row inv is;
+        few_entries = few_next k ready earlier m row inv is;
         idle = R.idle_next k ready earlier m row inv is;
         state = R.architecture_now k ready earlier m row inv is;
         progress = progress;

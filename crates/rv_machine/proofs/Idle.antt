@@ -1,6 +1,6 @@
 -- Where nothing is spawned, nothing is outstanding beside the stages, and no token meets anything there.
-use Rattle.std.proofs.Common.{◌≡◌, ℕ, zero, suc, ◌+◌, List, [], ◌∷◌, Option, Some, None, Bool, true, false, refl, sym, ap, ◌∙◌, subst, arith}
-use Rattle.std.specs.Prelude.{if◌then◌else◌, ◌&&◌, ◌==◌, is_some, is_none, IfSome}
+use Rattle.std.proofs.Common.{◌≡◌, ℕ, zero, suc, List, [], ◌∷◌, Option, Some, None, Bool, true, false, refl, sym, ap, ◌∙◌, subst}
+use Rattle.std.specs.Prelude.{if◌then◌else◌, ◌==◌, IfSome}
 use Rattle.rv_asks.specs.declared.asks.Asks.{Asks}
 use Rattle.rv_seq.specs.declared.arch.Arch.{Arch}
 use Rattle.rv_unit.specs.declared.entry.Entry.{Entry}
@@ -8,14 +8,14 @@ use Rattle.rv_unit.specs.Numbering.{lasts_of}
 use Rattle.rv_holds.specs.declared.token.Beside.{Beside}
 use Rattle.rv_holds.specs.declared.token.Token.{Token}
 use Rattle.rv_holds.specs.Tokens.{Slots, or_else}
-use Rattle.rv_holds.specs.Holds.{oldest, register_at, spawns_at, spawner, numbered, least_from, lower_of, board, board_hold, entering, register_count}
+use Rattle.rv_holds.specs.Holds.{oldest, register_at, spawns_at, numbered, least_from, register_count}
 use Rattle.rv_engine.specs.declared.owing.Owed.{Owed}
 use Rattle.rv_engine.specs.Owing.{Outstanding, outstanding_of, board_of, holder_for, paying, unit_hold, port_serial, port_hold, retiring_hold, beside_of, outstanding_after}
 use Rattle.rv_engine.specs.Settings.{Setting, Machine, shape_of, outstanding_in}
 use Rattle.rv_engine.specs.Rows.{into_unit, entering_of, owed_tried, left_by, paid_by, outstanding_by}
 use Rattle.rv_lawful.specs.Outstanding.{has_target, touches, outstanding, units_after}
-use Rattle.rv_lawful.specs.Sight.{asked, SpawnsNothing}
-use Rattle.rv_machine.specs.Placed.{IsReady, IsPlacedSlot, Placed}
+use Rattle.rv_lawful.specs.Sight.{asked}
+use Rattle.rv_machine.specs.Placed.{IsReady, Placed}
 use Rattle.rv_machine.proofs.Quiet.{no_target, outstanding_none, units_none}
 use Rattle.rv_machine.specs.Owing.{judged, repaid, Owing, Distinct, Apart}
 use Rattle.rv_trace.specs.declared.row.Row.{Row}
@@ -38,7 +38,7 @@ least_nothing f n (suc count) h = ap (λ o. or_else (numbered n o) (least_from f
 no_board_owed : (a : Asks) → board_of [] a ≡ None
 no_board_owed a = least_nothing (holder_for [] a) 0 register_count (λ n. if_none (touches a (register_at n)))
 
-unless_board : (b : Bool) (a : Asks) → (if b then board_of [] a else None) ≡ None
+pub unless_board : (b : Bool) (a : Asks) → (if b then board_of [] a else None) ≡ None
 unless_board true a = no_board_owed a
 unless_board false a = refl
 

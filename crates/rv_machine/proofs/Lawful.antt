@@ -20,7 +20,7 @@ use Rattle.rv_holds.specs.Tokens.{Slots, or_else, stop_of, cell_of, cells_of}
 use Rattle.rv_holds.specs.Holds.{is_late, stops_now}
 use Rattle.rv_holds.specs.Flushing.{struck, slot_stop, remains}
 use Rattle.rv_engine.specs.Settings.{Setting, Machine, shape_of}
-use Rattle.rv_engine.specs.Rows.{fill_first, going, with_serial, retired_of, new_by, loaded_by, turn_by, seen_by, fetch_by, left_by, written_of}
+use Rattle.rv_engine.specs.Rows.{fill_first, going, retired_of, new_by, loaded_by, turn_by, seen_by, fetch_by, left_by, written_of}
 use Rattle.rv_lawful.specs.Settings as Lawful
 use Rattle.rv_lawful.specs.LawfulTrace.{fetch_address, next_serial, new_cell, Moves, Retires, WaitsForJump, StopsRun, IsEmptyAfter, StopsRightly, IsInForm, LawfulRow}
 use Rattle.rv_lawful.specs.Outstanding.{serial_written, outstanding}

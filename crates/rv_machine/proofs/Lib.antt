@@ -63,3 +63,7 @@ pub mod BoardHolds
 pub mod UnitHolds
 pub mod DrainHolds
 pub mod Paid
+pub mod UnitBound
+pub mod RankStays
+pub mod Lone
+pub mod FewEntries

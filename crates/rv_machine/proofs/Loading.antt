@@ -15,7 +15,7 @@ use Rattle.rv_tried.specs.declared.trial.Trial.{Trial}
 use Rattle.rv_tried.specs.Tried.{tried}
 use Rattle.rv_holds.specs.declared.token.Token.{Token}
 use Rattle.rv_holds.specs.Tokens.{Slots, or_else, stop_in, stop_of}
-use Rattle.rv_holds.specs.Holds.{oldest, is_late, does_store, operand, waits_for, operand_hold, custom, waits_for_custom, first_from, custom_hold, late, late_hold, waiting_hold, staying, drain, drain_hold, store_ahead, store_hold, memory_hold, tail_hold, own_hold, stops_now, is_blocked, shown, least_from, board_hold, reading_hold, ending_hold, left_behind, entering, numbered, board, lower_of, spawner, register_count, register_at}
+use Rattle.rv_holds.specs.Holds.{oldest, is_late, does_store, operand, waits_for, operand_hold, custom, waits_for_custom, first_from, custom_hold, late, late_hold, waiting_hold, staying, drain, drain_hold, store_ahead, store_hold, memory_hold, own_hold, stops_now, is_blocked, shown, least_from, board_hold, reading_hold, ending_hold, left_behind, entering, numbered, board, lower_of, spawner, register_count, register_at}
 use Rattle.rv_engine.specs.Settings.{Setting, shape_of, tree_of}
 use Rattle.rv_engine.specs.Rows.{tried_with, is_loading, loading}
 use Rattle.rv_lawful.specs.Sight.{asked, IsSeen, IsEarly}

@@ -1,6 +1,6 @@
 -- What the machine counts after a row: serials, accesses, waits, and how many rows may pass without a retirement.
 use Rattle.std.proofs.Common.{◌≡◌, ℕ, zero, suc, ◌+◌, ◌-◌, ◌<◌, ◌≤◌, List, [], ◌∷◌, drop, length, Option, Some, None, Bool, true, false, refl, sym, ap, ◌∙◌, subst, arith, inl, inr}
-use Rattle.std.specs.Prelude.{◌||◌, if◌then◌else◌, ◌==◌, is_some}
+use Rattle.std.specs.Prelude.{if◌then◌else◌, ◌==◌, is_some}
 use Rattle.std.proofs.lemmas.Bool.Decides.{nat_tests}
 use Rattle.ix_bits.specs.declared.number.Bits.{Bits}
 use Rattle.ix_plan.specs.declared.design.Design.{Design}
@@ -8,22 +8,21 @@ use Rattle.rv_asks.specs.declared.asks.Asks.{Asks}
 use Rattle.rv_seq.specs.declared.commit.Stop.TheVariants.{Fetch}
 use Rattle.rv_seq.specs.Steps.{word_at}
 use Rattle.rv_waits.specs.Waits.{wait_at, greatest}
-use Rattle.rv_trace.specs.declared.row.Hold.{Hold}
-use Rattle.rv_trace.specs.declared.row.Hold.TheVariants.{Operand, Board, Custom, Late, Trap, Drain, Wait, StoreAhead, Tail, UnitFull, Port, Behind}
 use Rattle.rv_trace.specs.declared.row.Row.{Row}
 use Rattle.rv_trace.specs.Trace.{retirements, rows_without}
 use Rattle.rv_trace.specs.RowParts.{names_of, serial_after, front, MovesInto}
 use Rattle.rv_holds.specs.declared.token.Token.{Token}
 use Rattle.rv_holds.specs.declared.flushing.Turn.{Turn}
-use Rattle.rv_holds.specs.Tokens.{Slots, or_else, makes_access, cell_of, cells_of}
+use Rattle.rv_holds.specs.Tokens.{Slots, makes_access, cell_of, cells_of}
 use Rattle.rv_holds.specs.Flushing.{struck, unheld, cleared, slot_stop, remains, fetch_after, redirect_of}
-use Rattle.rv_engine.specs.Settings.{Setting, Machine, shape_of}
+use Rattle.rv_engine.specs.Settings.{Setting, Machine, shape_of, outstanding_in}
+use Rattle.rv_engine.specs.Owing.{unit_entered}
 use Rattle.rv_engine.specs.Rows as Rows
-use Rattle.rv_engine.specs.Rows.{fetched, fill_first, first_slot, next_after, tail_after, waited, going, advanced, leaving, with_serial, retired_of, owed_by, new_by, loaded_by, turn_by, seen_by, fetch_by, left_by, memory_by, accesses_after, stood_after, machine_after}
+use Rattle.rv_engine.specs.Rows.{stop_after, entering_of, fetched, fill_first, first_slot, next_after, tail_after, waited, going, advanced, leaving, with_serial, retired_of, owed_by, new_by, loaded_by, turn_by, seen_by, fetch_by, left_by, memory_by, accesses_after, stood_after, machine_after}
 use Rattle.rv_lawful.specs.Settings as Lawful
 use Rattle.rv_lawful.specs.LawfulTrace.{next_serial}
 use Rattle.rv_machine.specs.Owing.{judged}
-use Rattle.rv_machine.specs.Placed.{IsReady, to_go, rank}
+use Rattle.rv_machine.specs.Placed.{IsReady, to_go, rank, whole_rank, most_entries, greatest_rank}
 use Rattle.rv_machine.specs.Told.{NoStops}
 use Rattle.rv_machine.proofs.Places.{HasSerial, first_fetched, first_named, first_kept}
 use Rattle.rv_machine.proofs.Deciding.{or_else_none}
@@ -32,9 +31,19 @@ use Rattle.rv_machine.proofs.Standing.{asks_at, here_of}
 use Rattle.rv_machine.proofs.Stopping.{no_stops}
 use Rattle.rv_machine.proofs.Moving.{FlushesFirst, advanced_length, keeps_all, clears}
 use Rattle.rv_machine.proofs.Filling.{next_within, front_cells}
-use Rattle.rv_machine.proofs.Idle.{alone, alone_is, quiet_unit}
+use Rattle.rv_machine.proofs.Idle.{IsIdle, idle_outstanding}
+use Rattle.rv_machine.proofs.Lone.{owing_empty, are_lone, nothing_owed}
+use Rattle.rv_machine.proofs.Meeting.{meets_at, seen_meets}
+use Rattle.rv_machine.proofs.UnitBound.{units_fall, next_left}
+use Rattle.rv_machine.proofs.RankStays.{tail_less, rank_top, rank_stays}
+use Rattle.rv_machine.specs.UnitRank.{unit_rank}
+use Rattle.rv_unit.specs.declared.entry.Entry.{Entry}
+use Rattle.rv_unit.specs.Entries.{stepped, next_entries}
+use Rattle.rv_unit.specs.Numbering.{lasts_of}
+use Rattle.rv_unit.specs.Timed.{IsTimed}
+use Rattle.rv_lawful.specs.Outstanding.{outstanding}
 use Rattle.rv_machine.proofs.Standing.{asks_at, here_of}
-use Rattle.rv_machine.proofs.Bound.{AreLone, Waits, Falls, falls, rank_falls, to_go-zero, tails_of, to_go-tails, IsShort, AreShort, to_go-le, first_le, fill_rank, nothing_there}
+use Rattle.rv_machine.proofs.Bound.{AreLone, Waits, Falls, falls, rank_falls, to_go-zero, tails_of, to_go-tails, IsShort, AreShort, fill_rank, nothing_there}
 use Rattle.rv_machine.proofs.Clearing.{cleared_to_go, cleared_first, unheld_first}
 use Rattle.rv_machine.proofs.Turns.{turner, struck_inside}
 use Rattle.rv_machine.proofs.Lawful as L
@@ -46,21 +55,6 @@ bounded (rows ∷ waits) zero = omega arith
 bounded (rows ∷ waits) (suc access) = let ih = bounded waits access in omega (arith, ih)
 
 -- Modules go on for few cycles
-
-tail_less : (h : Option Hold) (n : ℕ) → tail_after h n ≤ n
-tail_less None n = omega arith
-tail_less (Some (Operand r j)) n = omega arith
-tail_less (Some (Board t j)) n = omega arith
-tail_less (Some (Custom r j)) n = omega arith
-tail_less (Some (Late j)) n = omega arith
-tail_less (Some Trap) n = omega arith
-tail_less (Some (Drain j)) n = omega arith
-tail_less (Some (Wait left)) n = omega arith
-tail_less (Some (StoreAhead j)) n = omega arith
-tail_less (Some (Tail left)) n = omega arith
-tail_less (Some (UnitFull u)) n = omega arith
-tail_less (Some (Port j)) n = omega arith
-tail_less (Some Behind) n = omega arith
 
 all_short : (l : Slots) → ((n : ℕ) (t : Token) (older : Slots) → drop n l ≡ Some t ∷ older → t.tail ≤ 64) → AreShort l
 all_short [] f = tt
@@ -127,7 +121,7 @@ module _ (k : Setting) (ready : IsReady k) (earlier : List Row) (m : Machine) (r
   after = machine_after k m
 
   pub no_stop : row.stop ≡ None → NoStops k 0 (seen_by k m)
-  no_stop e = no_stops k 0 (seen_by k m) (or_else_none (slot_stop (shape_of k) 0 (seen_by k m)) _ (sym made.stop_is ∙ e))
+  no_stop e = no_stops k 0 (seen_by k m) (or_else_none (slot_stop (shape_of k) 0 (seen_by k m)) _ (sym made.is.stop ∙ e))
 
   seen_length : length (seen_by k m) ≡ (shape_of k).stages
   seen_length = L.seen_length k ready earlier m row made
@@ -246,41 +240,86 @@ module _ (k : Setting) (ready : IsReady k) (earlier : List Row) (m : Machine) (r
         let lt = (cleared_to_go (shape_of k) (greatest k.waits) (owed_by k m) 0 turn.stage (loaded_by k m) x.older x.token x.rest).1 in
         absurd (omega (arith, lt, z))
 
-  -- no token meets anything beside the stages
-  lone : AreLone (seen_by k m)
-  lone = lone_from (seen_by k m) (λ n t older e. alone_is k made.told.outstanding n t made.told.idle (quiet_unit k ready t.cell.word t.asks (asks_at k (retirements earlier) 0 n (seen_by k m) t made.told.placed (here_of (seen_by k m) older t n e))) (made.told.beside.meets n t older e)) where
-    lone_from : (l : Slots) → ((n : ℕ) (t : Token) (older : Slots) → drop n l ≡ Some t ∷ older → t.beside ≡ alone) → AreLone l
-    lone_from [] f = tt
-    lone_from (None ∷ l) f = lone_from l (λ n t older e. f (suc n) t older e)
-    lone_from (Some u ∷ l) f = (f 0 u l refl, lone_from l (λ n t older e. f (suc n) t older e))
+  after_shorts : AreShort after.slots
+  after_shorts = advanced_short None (seen_by k m) tt shorts
 
-  pub progress_next : Awaiting → tails_of (loaded_by k m) ≡ tails_of (fill_first (new_by k m) m.slots) → row.stop ≡ None → rows_without (row ∷ earlier) + rank (shape_of k) (greatest k.waits) (owed_by k after) after.slots ≤ (shape_of k).stages + greatest k.waits + 65
+  -- where nothing stands in units no token meets anything beside the stages
+  lone : IsIdle m → AreLone (seen_by k m)
+  lone idle =
+      are_lone k (outstanding_in k m) (seen_by k m) (idle_outstanding k m idle)
+      (λ n t older d. (n, meets_at (shape_of k) (outstanding_in k m) n (seen_by k m) older t (seen_meets k m (struck_inside (shape_of k) m.fetch (loaded_by k m))) d))
+
+  abbrev lasts : List ℕ
+  lasts = lasts_of k.design.plans
+
+  abbrev most : ℕ
+  most = greatest k.waits
+
+  -- where nothing retires, nothing enters a unit
+  entries_same : left_by k m ≡ None → after.entries ≡ stepped lasts m.entries m.entries
+  entries_same g = ap (λ s. next_entries (shape_of k).stages lasts (unit_entered (entering_of s)) m.entries) g
+
+  pub progress_next : Awaiting → tails_of (loaded_by k m) ≡ tails_of (fill_first (new_by k m) m.slots) → length after.entries ≤ most_entries k → row.stop ≡ None → rows_without (row ∷ earlier) + whole_rank k (greatest k.waits) after ≤ greatest_rank k
   unfolding rows_without
-  progress_next owed tails stop = by_left (left_by k m) refl where
-    fetch_stop : remains (seen_by k m) ≡ false → word_at k.image (fetch_by k m) ≡ None → or_else (slot_stop (shape_of k) 0 (seen_by k m)) (if remains (seen_by k m) || is_some (word_at k.image (fetch_by k m)) then None else Some Fetch) ≡ Some Fetch
-    fetch_stop r w = let n = or_else_none (slot_stop (shape_of k) 0 (seen_by k m)) _ (sym made.stop_is ∙ stop) in rw (n, r, w)
+  progress_next owed tails few stop = by_left (left_by k m) refl where
+    same : to_go (shape_of k) most (owed_by k m) 0 (seen_by k m) ≡ to_go (shape_of k) most (owed_by k m) 0 (fill_first (new_by k m) m.slots)
+    same = go_same ∙ to_go-tails (shape_of k) most (owed_by k m) 0 (loaded_by k m) (fill_first (new_by k m) m.slots) tails
 
-    by_left : (o : Option Token) → left_by k m ≡ o → (if is_some row.retired then 0 else suc (rows_without earlier)) + rank (shape_of k) (greatest k.waits) (owed_by k after) after.slots ≤ (shape_of k).stages + greatest k.waits + 65
+    short : IsShort (new_by k m)
+    short = fetched_short k ready m.future m.next m.fetch (word_at k.image m.fetch)
+
+    some : 0 < (shape_of k).stages
+    some = let a = ready.ex_last in omega (arith, a)
+
+    fetch_stop : IsIdle m → left_by k m ≡ None → remains (seen_by k m) ≡ false → word_at k.image (fetch_by k m) ≡ None → stop_after k m ≡ Some Fetch
+    fetch_stop idle g r w =
+        let n = or_else_none (slot_stop (shape_of k) 0 (seen_by k m)) _ (sym made.is.stop ∙ stop) in
+        let z = nothing_owed k m idle g in
+        rw (n, r, z, w)
+
+    -- the rank of the stages falls where nothing stands in units
+    stages_fall : IsIdle m → left_by k m ≡ None → suc (rank (shape_of k) most (owed_by k after) after.slots) ≤ rank (shape_of k) most (owed_by k m) m.slots
+    stages_fall idle g = elim (fill_rank (shape_of k) most (owed_by k m) (new_by k m) m.slots made.inv.stages some owed_most short) [
+      | inl x ↦
+          let f = rank_falls k most (owed_by k m) (owed_by k after) x.0 (seen_by k m) owed_most_after (owed_falls owed) made.told.decided (no_stop stop) (lone idle) g (same ∙ x.1) in
+          let p = x.2 in
+          omega (arith, f, p)
+      | inr x ↦
+          let z = nothing_there (seen_by k m) m.fetch (to_go-zero (shape_of k) most (owed_by k m) 0 (seen_by k m) (same ∙ x.1)) in
+          let plain : fetch_by k m ≡ m.fetch = ap (λ o. Rows.unless (redirect_of o) (fetch_after m.fetch (seen_by k m))) (none_turned (sym go_same ∙ same ∙ x.1)) ∙ z.1 in
+          let none = no_fetch k.design m.future m.next m.fetch (word_at k.image m.fetch) x.0 in
+          let now : row.stop ≡ Some Fetch = made.is.stop ∙ fetch_stop idle g z.0 (ap (λ n. word_at k.image n) plain ∙ none) in
+          cc (stop, now)
+    ]
+
+    -- and does not grow where something does
+    stages_stay : left_by k m ≡ None → rank (shape_of k) most (owed_by k after) after.slots ≤ rank (shape_of k) most (owed_by k m) m.slots
+    stages_stay g = rank_stays k most (owed_by k m) (owed_by k after) (new_by k m) m.slots (seen_by k m) made.inv.stages some owed_most owed_most_after short (owed_falls owed) g same next_stages after_shorts
+
+    -- the whole rank falls in a row without a retirement
+    falling : (l : List Entry) → m.entries ≡ l → left_by k m ≡ None → suc (whole_rank k most after) ≤ whole_rank k most m
+    falling [] e g =
+        let a = stages_fall (e, owing_empty k earlier (outstanding (judged k) earlier) m.entries m.owed made.inv.owing e) g in
+        let same_entries : after.entries ≡ [] = entries_same g ∙ ap (λ (z : List Entry). stepped lasts z z) e in
+        let u = ap (λ (z : List Entry). unit_rank lasts z) same_entries in
+        omega (arith, a, u)
+    falling (x ∷ l) e g =
+        let a = stages_stay g in
+        let timed = subst (λ (z : List Entry). IsTimed (shape_of k).stages lasts z) e made.inv.timed in
+        let f = units_fall (shape_of k).stages lasts x l ready.in_units.units timed in
+        let before = ap (λ (z : List Entry). unit_rank lasts z) e in
+        let u = ap (λ (z : List Entry). unit_rank lasts z) (entries_same g ∙ ap (λ (z : List Entry). stepped lasts z z) e) in
+        omega (arith, a, f, before, u)
+
+    by_left : (o : Option Token) → left_by k m ≡ o → (if is_some row.retired then 0 else suc (rows_without earlier)) + whole_rank k most after ≤ greatest_rank k
     by_left (Some t) g =
         let x = made.retires t g in
         let is_retired : is_some row.retired ≡ true = ap (λ p. is_some p) (made.is.retired ∙ ap retired_of g ∙ x.3) in
-        let a = to_go-le (shape_of k) (greatest k.waits) (owed_by k after) 0 after.slots owed_most_after (advanced_short None (seen_by k m) tt shorts) in
-        let b = next_stages in
-        let c = first_le (to_go (shape_of k) (greatest k.waits) (owed_by k after) 0 after.slots) (suc ((shape_of k).stages + greatest k.waits + 64)) ((shape_of k).stages + greatest k.waits + 65) (omega (arith, a, b)) (omega arith) in
-        rw is_retired (omega (arith, c))
+        let a = rank_top (shape_of k) most (owed_by k after) after.slots next_stages owed_most_after after_shorts in
+        let b = next_left (shape_of k).stages lasts (unit_entered (entering_of (left_by k m))) m.entries ready.in_units.units made.inv.timed in
+        rw is_retired (omega (arith, a, b, few))
     by_left None g =
         let q : is_some row.retired ≡ false = ap (λ p. is_some p) (made.is.retired ∙ ap retired_of g) in
-        let a = ready.ex_last in
-        let d = to_go-tails (shape_of k) (greatest k.waits) (owed_by k m) 0 (loaded_by k m) (fill_first (new_by k m) m.slots) tails in
-        elim (fill_rank (shape_of k) (greatest k.waits) (owed_by k m) (new_by k m) m.slots made.inv.stages (omega (arith, a)) owed_most (fetched_short k ready m.future m.next m.fetch (word_at k.image m.fetch))) [
-          | inl x ↦
-              let f = rank_falls k (greatest k.waits) (owed_by k m) (owed_by k after) x.0 (seen_by k m) owed_most_after (owed_falls owed) made.told.decided (no_stop stop) lone g (go_same ∙ d ∙ x.1) in
-              let p = made.inv.progress in
-              rw q (omega (arith, f, x.2, p))
-          | inr x ↦
-              let z = nothing_there (seen_by k m) m.fetch (to_go-zero (shape_of k) (greatest k.waits) (owed_by k m) 0 (seen_by k m) (go_same ∙ d ∙ x.1)) in
-              let plain : fetch_by k m ≡ m.fetch = ap (λ o. Rows.unless (redirect_of o) (fetch_after m.fetch (seen_by k m))) (none_turned (d ∙ x.1)) ∙ z.1 in
-              let none = no_fetch k.design m.future m.next m.fetch (word_at k.image m.fetch) x.0 in
-              let now : row.stop ≡ Some Fetch = made.stop_is ∙ fetch_stop z.0 (ap (λ n. word_at k.image n) plain ∙ none) in
-              cc (stop, now)
-        ]
+        let f = falling m.entries refl g in
+        let p = made.inv.progress in
+        rw q (omega (arith, f, p))

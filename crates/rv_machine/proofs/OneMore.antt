@@ -1,5 +1,5 @@
 -- One more row keeps the headline.
-use Rattle.std.proofs.Common.{◌≡◌, suc, ◌+◌, ◌≤◌, List, ◌∷◌, length, Bool, true, false, None, arith}
+use Rattle.std.proofs.Common.{◌≡◌, suc, ◌≤◌, List, ◌∷◌, length, Bool, true, false, None, arith}
 use Rattle.std.specs.Prelude.{if◌then◌else◌, is_some}
 use Rattle.rv_waits.specs.Waits.{greatest}
 use Rattle.rv_trace.specs.declared.row.Row.{Row}
@@ -17,10 +17,6 @@ without_more row earlier = by_case (is_some row.retired) where
   by_case : (b : Bool) → (if b then 0 else suc (rows_without earlier)) ≤ suc (rows_without earlier)
   by_case true = omega arith
   by_case false = omega arith
-
--- few rows have passed without a retirement
-pub bounded_row : (k : Setting) (earlier : List Row) (m : Machine) (row : Row) → Inv k earlier m → rows_without (row ∷ earlier) ≤ (shape_of k).stages + greatest k.waits + 66
-bounded_row k earlier m row inv = let a = inv.progress in let b = without_more row earlier in omega (arith, a, b)
 
 pub one_more_row : (k : Setting) (ready : IsReady k) (earlier : List Row) (m : Machine) (row : Row) → Inv k earlier m → IsRowOf k m row → (newest earlier).stop ≡ None → Headline k.design k.image k.waits earlier → Headline k.design k.image k.waits (row ∷ earlier)
 one_more_row k ready earlier m row inv is none h =

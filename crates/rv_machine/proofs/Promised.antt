@@ -1,5 +1,5 @@
 -- The rows of a machine keep what is promised of them, where its design stands.
-use Rattle.std.proofs.Common.{◌≡◌, ℕ, List, [], ◌∷◌, ◌++◌, Option, None, refl, ap, ◌∙◌, arith, sym}
+use Rattle.std.proofs.Common.{◌≡◌, ℕ, List, [], ◌∷◌, ◌++◌, None, refl, ap, ◌∙◌, arith, sym}
 use Rattle.std.specs.Prelude.{reverse}
 use Rattle.std.specs.List.{flat_map}
 use Rattle.ix_extension.specs.Extensions.{view_extension}
@@ -8,7 +8,6 @@ use Rattle.ix_spawns.specs.Spawns.{first_spawning}
 use Rattle.ix_standing.specs.Standing.{Stands}
 use Rattle.rv_seq.specs.declared.arch.Arch.{Arch}
 use Rattle.rv_trace.specs.declared.row.Row.{Row}
-use Rattle.rv_seq.specs.declared.commit.Commit.{Commit}
 use Rattle.rv_trace.specs.Trace.{newest}
 use Rattle.rv_trace.specs.TraceText.{trace_text}
 use Rattle.rv_text.specs.RunText.{state_text}

@@ -1,5 +1,5 @@
 -- What a retirement shows, writes and owes, of the record of its step.
-use Rattle.std.proofs.Common.{◌≡◌, ◌∙◌, refl, sym, ap, ℕ, ◌<◌, List, get_or, Option, Some, None, Bool, true, false}
+use Rattle.std.proofs.Common.{◌≡◌, ◌∙◌, refl, ap, ℕ, List, get_or, Option, Some, None, Bool, true, false}
 use Rattle.std.specs.Prelude.{if◌then◌else◌}
 use Rattle.ix_bits.specs.declared.number.Bits.{Bits}
 use Rattle.ix_eval.specs.Tables.{table}

@@ -1,5 +1,5 @@
 -- What goes out of the last stage retires the next record of the run; and what is told of a row that the machine makes.
-use Rattle.std.proofs.Common.{◌≡◌, ◌≢◌, ℕ, zero, suc, ◌+◌, ◌-◌, ◌<◌, ◌≤◌, List, [], ◌∷◌, drop, length, Option, Some, None, Bool, true, false, refl, sym, ap, ◌∙◌, subst, arith, add-zero, ◌⊎◌, inl, inr, IfSome, Fits}
+use Rattle.std.proofs.Common.{◌≡◌, ◌≢◌, ℕ, zero, suc, ◌+◌, ◌-◌, ◌<◌, ◌≤◌, List, [], ◌∷◌, drop, length, Option, Some, None, Bool, true, false, refl, sym, ap, ◌∙◌, subst, arith, add-zero, ◌⊎◌, inl, inr, IfSome}
 use Rattle.std.specs.Prelude.{◌||◌, if◌then◌else◌, ◌==◌, is_some, nat_lt, IfSome}
 use Rattle.std.proofs.lemmas.Bool.Decides.{nat_tests}
 use Rattle.rv_seq.specs.declared.answer.StepAnswer.{StepAnswer}
@@ -27,14 +27,13 @@ use Rattle.rv_machine.proofs.Going.{AreSeen}
 use Rattle.rv_machine.proofs.Moves.{leaving_placed, past_ex}
 use Rattle.rv_machine.proofs.Clearing.{cleared_drop, cleared_placed, cleared_decided, cleared_loaded}
 use Rattle.rv_machine.proofs.Settling.{settles_parts, settled_next, seen_rest}
-use Rattle.rv_machine.proofs.Quiet.{arch_after, shown_same, native_same, record_long, retired_whole}
+use Rattle.rv_machine.proofs.Quiet.{native_same, record_long}
 use Rattle.rv_machine.proofs.Idle.{idle_outstanding, idle_paid, idle_after, quiet_unit, idle_arch}
 use Rattle.rv_machine.proofs.Meeting.{seen_meets, meets_at}
 use Rattle.rv_machine.proofs.Before as B
 use Rattle.rv_machine.proofs.Flushing as F
 use Rattle.rv_machine.proofs.Telling as T
 use Rattle.rv_tried.specs.Parts.{shown, native, spawned}
-use Rattle.ix_bits.specs.declared.number.Bits.{Bits}
 use Rattle.rv_tried.specs.declared.trial.Trial.{Trial}
 use Rattle.rv_lawful.specs.Sight.{asked}
 use Rattle.rv_seq.specs.declared.commit.Stop.TheVariants.{Fetch}

@@ -9,7 +9,7 @@ use Rattle.rv_trace.specs.declared.row.Hold.TheVariants.{Tail, Wait}
 use Rattle.rv_holds.specs.declared.token.Token.{Token}
 use Rattle.rv_asks.specs.declared.asks.Asks.{Asks}
 use Rattle.rv_holds.specs.Tokens.{Slots, or_else, stop_of, cells_of}
-use Rattle.rv_holds.specs.Holds.{operand_hold, custom_hold, late_hold, drain_hold, store_ahead, store_hold, memory_hold, tail_hold, shown, reading_hold, ending_hold}
+use Rattle.rv_holds.specs.Holds.{custom_hold, late_hold, drain_hold, store_ahead, store_hold, memory_hold, tail_hold, shown, reading_hold, ending_hold}
 use Rattle.rv_engine.specs.Rows.{tail_after, waited, going, advanced, first_slot, fill_first, new_by, loaded_by, seen_by, IsRowOf}
 use Rattle.rv_lawful.specs.Settings as Lawful
 use Rattle.rv_machine.proofs.Deciding.{same_test}

@@ -8,7 +8,7 @@ use Rattle.rv_trace.specs.declared.row.Hold.{Hold}
 use Rattle.rv_trace.specs.declared.row.Hold.TheVariants as H
 use Rattle.rv_holds.specs.declared.token.Token.{Token}
 use Rattle.rv_holds.specs.Tokens.{Slots, or_else, stop_of}
-use Rattle.rv_holds.specs.Holds.{oldest, operand, does_write, waits_for, operand_hold, custom, writes_late, waits_for_custom, first_from, custom_hold, late, is_late, late_hold, waiting_hold, drain, staying, drain_hold, store_ahead, does_store, store_hold, memory_hold, tail_hold, own_hold, stops_now, is_blocked, shown, board, reading_hold, left_behind, board_hold, ending_hold, lower_of, least_from, spawner, register_count}
+use Rattle.rv_holds.specs.Holds.{oldest, operand, does_write, waits_for, operand_hold, custom, writes_late, waits_for_custom, first_from, custom_hold, late, is_late, late_hold, waiting_hold, drain, drain_hold, store_ahead, does_store, store_hold, memory_hold, own_hold, stops_now, is_blocked, shown, board, reading_hold, left_behind, board_hold, ending_hold, lower_of, least_from, spawner, register_count}
 use Rattle.rv_engine.specs.Settings.{Setting, Machine, shape_of, outstanding_in}
 use Rattle.rv_engine.specs.Rows.{tail_after, advanced, seen_by, IsRowOf}
 use Rattle.rv_lawful.specs.Settings as Lawful

@@ -1,8 +1,7 @@
 -- What a row retires has the word of its cell.
-use Rattle.std.proofs.Common.{◌≡◌, ℕ, suc, ◌+◌, ◌-◌, ◌<◌, ◌≤◌, List, [], ◌∷◌, drop, length, Option, Some, None, Bool, true, false, refl, sym, ap, ◌∙◌, arith, ◌⊎◌, inl, inr}
+use Rattle.std.proofs.Common.{◌≡◌, ℕ, ◌+◌, ◌-◌, ◌<◌, ◌≤◌, List, [], ◌∷◌, drop, Option, Some, None, Bool, true, false, refl, sym, ap, ◌∙◌, arith, inl, inr}
 use Rattle.std.specs.Prelude.{nat_lt, slice_get, is_some, if◌then◌else◌}
 use Rattle.std.proofs.lemmas.Bool.Decides.{nat_tests}
-use Rattle.rv_seq.specs.declared.commit.Commit.{Commit}
 use Rattle.rv_trace.specs.declared.row.Row.{Row}
 use Rattle.rv_trace.specs.Trace.{place, is_flushed, is_retired, retirements}
 use Rattle.rv_holds.specs.declared.token.Token.{Token}
@@ -11,16 +10,13 @@ use Rattle.rv_engine.specs.Settings.{Setting, Machine, shape_of}
 use Rattle.rv_engine.specs.Rows.{going, loaded_by, seen_by, left_by, IsRowOf}
 use Rattle.rv_lawful.specs.LawfulTrace.{IsWordOf}
 use Rattle.rv_machine.specs.Owing.{judged, RetiredAs}
-use Rattle.rv_machine.specs.Placed.{run, IsPlaced, IsPlacedSlot, IsReady, Inv}
+use Rattle.rv_machine.specs.Placed.{IsReady, Inv}
 use Rattle.rv_machine.specs.Told.{out_of}
 use Rattle.rv_machine.proofs.Places.{stood, one_place, unflushed_before}
 use Rattle.rv_machine.proofs.Moving.{last_slot}
-use Rattle.rv_machine.proofs.Runs.{answer, kept_word}
 use Rattle.rv_machine.proofs.Standing.{here_of}
 use Rattle.rv_machine.proofs.Flushing as F
 use Rattle.rv_machine.proofs.Retiring as R
-use Rattle.rv_seq.specs.Steps.{word_at}
-use Rattle.rv_seq.specs.declared.answer.StepAnswer.TheVariants.{Done}
 use Rattle.rv_tried.specs.Parts.{shown}
 use Rattle.rv_lawful.specs.Sight.{asked}
 use Rattle.rv_machine.proofs.Recorded.{shown_word}

@@ -1,6 +1,7 @@
 pub mod Running
 pub mod DesignText
 pub mod Owing
+pub mod UnitRank
 pub mod Placed
 pub mod Told
 pub mod Made

@@ -1,7 +1,6 @@
 -- What is outstanding beside the stages of a machine, against the rows before (this project's choice).
-use Rattle.std.specs.Prelude.{◌≡◌, ℕ, suc, ◌+◌, ◌<◌, List, [], ◌∷◌, get_or, Option, Some, None, Bool, true, false, ◌&&◌, if◌then◌else◌, is_some, ◌⊎◌}
+use Rattle.std.specs.Prelude.{◌≡◌, ℕ, suc, ◌<◌, List, [], ◌∷◌, get_or, Some, None, true, false, ◌⊎◌}
 use Rattle.ix_bits.specs.declared.number.Bits.{Bits}
-use Rattle.ix_plan.specs.declared.design.Target.{Target}
 use Rattle.rv_seq.specs.declared.arch.Arch.{Arch}
 use Rattle.rv_seq.specs.declared.answer.StepAnswer.TheVariants.{Done}
 use Rattle.rv_seq.specs.declared.commit.Commit.{Commit}

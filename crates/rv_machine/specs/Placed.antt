@@ -33,6 +33,7 @@ use Rattle.rv_lawful.specs.Outstanding.{architecture, is_written, outstanding, u
 use Rattle.rv_unit.specs.Numbering.{lasts_of}
 use Rattle.rv_unit.specs.Slots.{units_of}
 use Rattle.rv_unit.specs.Timed.{IsTimed}
+use Rattle.rv_machine.specs.UnitRank.{unit_rank}
 use Rattle.rv_sight.specs.InUnits.{AreInUnits}
 use Rattle.rv_lawful.specs.LawfulTrace.{fetch_address, next_serial, IsWordOf}
 use Rattle.rv_lawful.specs.Sight.{asked, HasWords, AreWords, IsEarly, EarlyLaw, ExactLaw, KeepsLaw, TailLaw, QuietLaw}
@@ -200,6 +201,18 @@ to_go k most owed stage (s ∷ older) = first_of_two (to_go k most owed (suc sta
 abbrev pub rank : Shape → ℕ → ℕ → Slots → ℕ
 rank k most owed slots = first_of_two (to_go k most owed 0 slots) (suc (k.stages + most + 64))
 
+-- the same with the rows for which what stands in units may hold the stages back
+abbrev pub whole_rank : Setting → ℕ → Machine → ℕ
+whole_rank k most m = unit_rank (lasts_of k.design.plans) m.entries + rank (shape_of k) most (owed_by k m) m.slots
+
+-- units have no more entries than there are registers
+abbrev pub most_entries : Setting → ℕ
+most_entries k = 32 + length (tree_of k).registers
+
+-- the rank is never greater
+abbrev pub greatest_rank : Setting → ℕ
+greatest_rank k = (64 - (shape_of k).stages) + most_entries k + ((shape_of k).stages + greatest k.waits + 65)
+
 -- what ties the machine to the rows before
 pub record Inv (k : Setting) (earlier : List Row) (m : Machine) : Type 0 where
   pub stages : length m.slots ≡ (shape_of k).stages
@@ -233,7 +246,8 @@ pub record Inv (k : Setting) (earlier : List Row) (m : Machine) : Type 0 where
   pub distinct : Distinct m.owed
   pub apart : Apart k m.owed 0 m.slots
   pub paid : (s : ℕ) → is_written earlier s ≡ true → is_retired earlier s ≡ true
+  pub few_entries : length m.entries ≤ most_entries k
   -- nothing is, yet
   pub idle : (m.entries ≡ []) × (m.owed ≡ [])
   pub state : architecture (tree_of k) (judged k) earlier ≡ m.arch
-  pub progress : rows_without earlier + rank (shape_of k) (greatest k.waits) (owed_by k m) m.slots ≤ (shape_of k).stages + greatest k.waits + 65
+  pub progress : rows_without earlier + whole_rank k (greatest k.waits) m ≤ greatest_rank k
