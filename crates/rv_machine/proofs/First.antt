@@ -86,12 +86,8 @@ no_accesses run (suc p) e = absurd (omega (arith, e))
 none_below : (s : ℕ) → nat_lt s 0 ≡ false
 none_below s = grind (arith, nat_tests)
 
-none_written : (s : ℕ) → is_written [] s ≡ true → is_retired [] s ≡ true
-unfolding is_written
-none_written s e = cc
-
 pub first : (k : Setting) (ready : IsReady k) → Inv k [] (first_machine k)
-unfolding retirements is_flushed is_retired place fetch_address next_serial seq_run first_state architecture rows_without
+unfolding retirements is_flushed is_retired is_written place fetch_address next_serial seq_run first_state architecture rows_without
 first k ready =
     let n = (shape_of k).stages in
     let most = ready.most in
@@ -127,11 +123,11 @@ first k ready =
       unflushed = λ s le. refl;
       owing = idle_owing k ready [] (first_machine k) (refl, refl);
       worded = λ s word h. absurd h;
-      paid = none_written;
       units = idle_units k ready [] (first_machine k) (refl, refl);
       timed = tt;
       distinct = tt;
       apart = idle_apart k ready (first_machine k) 0 (refl, refl) (placed_none k 0 n);
+      paid = λ s e. cc e;
       few_entries = omega arith;
       idle = (refl, refl);
       state = refl;

@@ -58,6 +58,12 @@ pub mod Untailed
 pub mod WideFuture
 mod Promised
 pub mod Worded
+pub mod Owes
+pub mod Older
+pub mod Least
+pub mod BoardHolds
+pub mod UnitHolds
+pub mod DrainHolds
 pub mod UnitBound
 pub mod RankStays
 pub mod Lone

@@ -278,6 +278,7 @@ module _ (k : Setting) (ready : IsReady k) (earlier : List Row) (m : Machine) (r
         timed = inv.timed;
         distinct = inv.distinct;
         written = is.written;
+        paid = inv.paid;
         alive = F.kept_alive k ready earlier m row inv is;
         meets = λ stage t older e. meets_at (shape_of k) (outstanding_in k m) stage (seen_by k m) older t (seen_meets k m (B.struck_inside k ready earlier m inv)) e;
       }
