@@ -140,6 +140,7 @@ base_stop b e f l t p =
 -- ---- what a record keeps
 pub record IsUnasked (a : Asks) (code : ℕ) (e b : Effect) : Type 0 where
   pub rd : (v : ℕ) → e.rd ≡ Some v → (a.destination ≡ rd_of code) ⊎ (a.spawned ≡ Some (rd_of code))
+  pub target : (r : ℕ) → a.spawned ≡ Some r → rd_of code ≡ r
   pub own : (r : ℕ) → r < 16 → get_or a.customs r false ≡ false → get_or e.custom r None ≡ None
   pub blocks : (r : ℕ) → r < 16 → get_or a.customs r false ≡ false → get_or b.custom r None ≡ None
   pub store : a.stores ≡ false → e.store ≡ None
@@ -176,9 +177,13 @@ x_own : (a : Asks) (rd : ℕ) (o : Option ℕ) (v : ℕ) → ((u : ℕ) → o �
 x_own a rd None v h e = cc
 x_own a rd (Some u) v h e = elim (h u refl) [ inl d ↦ inl (sym d) | inr d ↦ inr d ]
 
+x_target : (rd : ℕ) (o : Option ℕ) (v r : ℕ) → rd ≡ r → x_slot rd o ≡ Now v → x_index rd o ≡ r
+x_target rd None v r h e = cc
+x_target rd (Some u) v r h e = h
+
 asked_from : (a : Asks) (s : Arch) (code : ℕ) (e b : Effect) → IsUnasked a code e b → IsAskedFor a (commit_of s.pc code (over e b))
 unfolding over commit_of
-asked_from a s code e b h = record { some = λ v is. x_some (rd_of code) e.rd v is; own = λ v is. x_own a (rd_of code) e.rd v h.rd is }
+asked_from a s code e b h = record { some = λ v is. x_some (rd_of code) e.rd v is; own = λ v is. x_own a (rd_of code) e.rd v h.rd is; spawned = λ v r is target. x_target (rd_of code) e.rd v r (h.target r target) is }
 
 kept_from : (a : Asks) (s : Arch) (code : ℕ) (e b : Effect) → IsUnasked a code e b → IsKept a s code (commit_of s.pc code (over e b))
 unfolding over commit_of applied

@@ -146,6 +146,10 @@ module _ (laws : Laws) (d : Design) (stands : Stands d) where
         table_none (λ q. option_or (get_or (effect_at x (W.Block m) there).custom q None) (get_or (blocks_effect x there m).custom q None)) 16 r None
         (λ less. ap (λ (z : Option Bits). option_or z (get_or (blocks_effect x there m).custom r None)) here ∙ rest)
 
+    named_target : (b : Bool) (n r : ℕ) → some_so b n ≡ Some r → n ≡ r
+    named_target true n r e = cc
+    named_target false n r e = cc
+
     pub keeps_own : (n : ℕ) (l : n < length x.instructions)
         → IsHeld (asks_of d code (unit_of d.plans n) (plan_of d stands n l).plan) s code (commit_of s.pc code (over (effect_at x (W.Instruction n) there) (blocks_effect x there (length x.blocks))))
     keeps_own n l =
@@ -156,6 +160,7 @@ module _ (laws : Laws) (d : Design) (stands : Stands d) where
         held_from a s code (effect_at x w there) (blocks_effect x there (length x.blocks))
         (record {
           rd = λ v is. by v is (list_any acts.writes_own (acts.acts_of p.plan)) (list_any acts.spawns_x (acts.acts_of p.plan)) refl refl;
+          target = λ r e. named_target (list_any acts.spawns_x (acts.acts_of p.plan)) (rd_of code) r e;
           own = λ r few none. custom_none x w there r (unwritten (3 + r)
               (λ m o e t. not_any (get_or a.customs r false) none (asks_customs d code (unit_of d.plans n) p.plan r few m o e (ap (acts.is_custom r) (target_is_custom o.kind r t) ∙ eq-eqb r r refl))));
           blocks = λ r few none. blocks_none a (own_blocks code (unit_of d.plans n) p.plan) r few none (length x.blocks) (omega arith);
@@ -189,6 +194,7 @@ module _ (laws : Laws) (d : Design) (stands : Stands d) where
         held_from a s code (base_effect b there) (blocks_effect x there (length x.blocks))
         (record {
           rd = λ v e. inl ((names b code is).target (base_rd_writes b there v e));
+          target = λ r e. cc e;
           own = λ r few none. none_repeated 16 r;
           blocks = λ r few none. blocks_none a (base_blocks b) r few none (length x.blocks) (omega arith);
           store = λ none. store_absent b there.rs1 there.rs2 (store_at b) none;

@@ -12,10 +12,11 @@ use Rattle.rv_seq.specs.declared.commit.Slot.TheVariants.{Now}
 use Rattle.rv_seq.specs.Steps.{of_decoded}
 use Rattle.rv_lawful.specs.Sight.{asked, HasWords}
 
--- where a record writes an x register, that is not x0, and it is one that the instruction asks to write, itself or by `spawn`
+-- where a record writes an x register, that is not x0, and it is one that the instruction asks to write, itself or by `spawn`, and the spawn target where there is one
 pub record IsAskedFor (a : Asks) (c : Commit) : Type 0 where
   pub some : (v : ℕ) → c.rd ≡ Now v → c.rd_index ≢ 0
   pub own : (v : ℕ) → c.rd ≡ Now v → (c.rd_index ≡ a.destination) ⊎ (a.spawned ≡ Some c.rd_index)
+  pub spawned : (v r : ℕ) → c.rd ≡ Now v → a.spawned ≡ Some r → c.rd_index ≡ r
 
 -- so does the record of each step
 abbrev pub WrittenLaw : Design → Type 0
