@@ -8,7 +8,6 @@ use Rattle.ix_bits.specs.declared.number.Bits.{Bits}
 use Rattle.ix_graph.specs.declared.kind.Kind.{Kind}
 use Rattle.ix_graph.specs.declared.kind.Kind.TheVariants as k
 use Rattle.ix_graph.specs.declared.graph.Op.{Op}
-use Rattle.ix_sheet.specs.Behaviours.{IsSpawning}
 use Rattle.ix_extension.specs.Extensions.{ExtensionTree, view_extension}
 use Rattle.ix_mean.specs.declared.evaluate.State.{State}
 use Rattle.ix_mean.specs.Given.{inputs_of, raw_seen}
