@@ -41,6 +41,8 @@ pub mod Quiet
 pub mod Recorded
 pub mod Unwritten
 pub mod OwingNext
+pub mod Swaps
+pub mod Repaying
 pub mod Idle
 pub mod Meeting
 pub mod Agreeing

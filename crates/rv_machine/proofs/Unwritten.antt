@@ -79,7 +79,7 @@ other_paid k rows lasts all s (o ∷ outs) (e ∷ entries) (w ∷ owed) h below 
   by_case false rest = rest
 
 -- where none of some entries writes, the first does not, and none of the rest
-none_first : (lasts : List ℕ) (all : List Entry) (e : Entry) (entries : List Entry) → written_among lasts all (e ∷ entries) ≡ None → (does_write lasts all e ≡ false) × (written_among lasts all entries ≡ None)
+pub none_first : (lasts : List ℕ) (all : List Entry) (e : Entry) (entries : List Entry) → written_among lasts all (e ∷ entries) ≡ None → (does_write lasts all e ≡ false) × (written_among lasts all entries ≡ None)
 none_first lasts all e entries h = by_case (does_write lasts all e) h where
   by_case : (c : Bool) → (if c then Some e else written_among lasts all entries) ≡ None → (c ≡ false) × (written_among lasts all entries ≡ None)
   by_case true q = cc
