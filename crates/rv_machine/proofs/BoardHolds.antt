@@ -47,12 +47,12 @@ number_at n = by_case (nat_lt n 32) refl where
     above : (n : ℕ) → nat_lt n 32 ≡ false → 32 + (n - 32) ≡ n
     above n e = grind (arith, nat_tests)
 
-x_at : (r : ℕ) → r < 32 → X r ≡ register_at r
+pub x_at : (r : ℕ) → r < 32 → X r ≡ register_at r
 x_at r lt = ap (λ (b : Bool). if b then X r else target.Custom (r - 32)) (low r lt) where
   low : (r : ℕ) → r < 32 → true ≡ nat_lt r 32
   low r lt = grind (arith, nat_tests)
 
-custom_at : (c : ℕ) → target.Custom c ≡ register_at (32 + c)
+pub custom_at : (c : ℕ) → target.Custom c ≡ register_at (32 + c)
 custom_at c = ap (λ n. target.Custom n) same ∙ ap (λ (b : Bool). if b then X (32 + c) else target.Custom (32 + c - 32)) (high c) where
   same : c ≡ 32 + c - 32
   same = omega arith
@@ -74,7 +74,7 @@ spawned_in d word r None e = some_few (blank_in d).spawned word r e
 spawned_in d word r (Some (D.Base b)) e = cc
 spawned_in d word r (Some (D.Own n)) e = some_few (slice_index_or (outlines_in d) n (blank_in d)).spawned word r e
 
-spawned_few : (d : Design) (word r : ℕ) → is_register (asked d word).spawned r ≡ true → r < 32
+pub spawned_few : (d : Design) (word r : ℕ) → is_register (asked d word).spawned r ≡ true → r < 32
 spawned_few d word r e = spawned_in d word r (decoded_in (view_extension d.extension) word) e
 
 -- a token in a stage, with what is told of the row

@@ -29,6 +29,7 @@ use Rattle.rv_machine.proofs.NextCounts as C
 use Rattle.rv_machine.proofs.Idle.{idle_owing}
 use Rattle.rv_machine.proofs.FewEntries.{few_next}
 use Rattle.rv_machine.proofs.OwingNext as O
+use Rattle.rv_machine.proofs.RepaidNext as P
 
 same_tails : (a b : Slots) → Alike a b → tails_of b ≡ tails_of a
 same_tails [] [] h = refl
@@ -64,7 +65,7 @@ module _ (k : Setting) (ready : IsReady k) (earlier : List Row) (m : Machine) (r
         recorded = recorded;
         now = R.retired_now k ready earlier m row inv is;
         state = R.architecture_now k ready earlier m row inv is;
-        applied = R.state_now k ready earlier m row inv is;
+        applied = P.repaid_next k ready earlier m row inv is;
         owing = O.owing_next k ready earlier m row inv is;
         fetch = λ none. N.next_fetch k ready earlier m inv none ∙ ap (λ n. expected k n 1 (tail (advanced None (seen_by k m)))) retired_is;
       }

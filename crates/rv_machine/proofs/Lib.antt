@@ -43,6 +43,7 @@ pub mod Unwritten
 pub mod OwingNext
 pub mod Swaps
 pub mod Repaying
+pub mod RepaidNext
 pub mod Idle
 pub mod Meeting
 pub mod Agreeing

@@ -37,7 +37,7 @@ pub run_suc : (k : Setting) (p : ℕ) → run k (suc p) ≡ after (run k p) (ans
 unfolding seq_run
 run_suc k p = refl
 
-step_at : (x : ExtensionTree) (image : List ℕ) (s : Arch) (o : Option ℕ) → word_at image s.pc ≡ o → step x image s ≡ of_word x s o
+pub step_at : (x : ExtensionTree) (image : List ℕ) (s : Arch) (o : Option ℕ) → word_at image s.pc ≡ o → step x image s ≡ of_word x s o
 unfolding step
 step_at x image s o w = ap (λ q. of_word x s q) w
 

@@ -38,6 +38,7 @@ use Rattle.rv_sight.specs.InUnits.{AreInUnits}
 use Rattle.rv_lawful.specs.LawfulTrace.{fetch_address, next_serial, IsWordOf}
 use Rattle.rv_lawful.specs.Sight.{asked, HasWords, AreWords, IsEarly, EarlyLaw, ExactLaw, KeepsLaw, TailLaw, QuietLaw}
 use Rattle.rv_effect.specs.WordEffects.{AreWide}
+use Rattle.rv_sight.specs.Written.{WrittenLaw}
 
 -- the state after so many steps of the run
 abbrev pub run : Setting → ℕ → Arch
@@ -62,6 +63,7 @@ pub record IsReady (k : Setting) : Type 0 where
   pub tails : TailLaw k.design
   pub quiet : QuietLaw k.design
   pub in_units : AreInUnits k.design
+  pub written : WrittenLaw k.design
   pub whole : WholeLaw
   pub blocks_wide : WideLaw
   pub answers : AnswerLaw
