@@ -24,6 +24,7 @@ use Rattle.rv_machine.proofs.Counting as C
 use Rattle.rv_machine.proofs.FewEntries.{few_next}
 use Rattle.rv_machine.proofs.OwingNext as O
 use Rattle.rv_machine.proofs.RepaidNext as P
+use Rattle.rv_machine.proofs.ApartNext as A
 
 -- for how many rows each module still goes on after the row
 abbrev pub TailsAfter : Setting → List Row → Slots → Type 0
@@ -67,8 +68,8 @@ module _ (k : Setting) (ready : IsReady k) (earlier : List Row) (m : Machine) (r
         worded = W.worded_next k ready earlier m row inv is;
         units = idle_units k ready (row ∷ earlier) (machine_after k m) (R.idle_next k ready earlier m row inv is);
         timed = idle_timed k ready (row ∷ earlier) (machine_after k m) (R.idle_next k ready earlier m row inv is);
-        distinct = idle_distinct k ready (row ∷ earlier) (machine_after k m) (R.idle_next k ready earlier m row inv is);
-        apart = idle_apart k ready (machine_after k m) (retirements (row ∷ earlier)) (R.idle_next k ready earlier m row inv is) (N.placed_next k ready earlier m row inv is e);
+        distinct = A.distinct_next k ready earlier m row inv is;
+        apart = A.apart_next k ready earlier m row inv is (N.no_stop k ready earlier m row inv is e);
         few_entries = few_next k ready earlier m row inv is;
         idle = R.idle_next k ready earlier m row inv is;
         state = R.architecture_now k ready earlier m row inv is;

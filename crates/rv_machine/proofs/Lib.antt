@@ -44,6 +44,7 @@ pub mod OwingNext
 pub mod Swaps
 pub mod Repaying
 pub mod RepaidNext
+pub mod ApartNext
 pub mod Idle
 pub mod Meeting
 pub mod Agreeing

@@ -108,7 +108,7 @@ touched_custom a b h r few e f =
     false≢true (sym (h (32 + r) (omega (arith, few)) (ap (λ t. touches a t) (sym at) ∙ e)) ∙ ap (λ t. has_target b t) (sym at) ∙ f)
 
 -- where none of these owes a register, the first does not, and none of the rest
-holder_parts : (n : ℕ) (o : Owed) (older : List Owed) → holder n (o ∷ older) ≡ None → (has_target o.asks (register_at n) ≡ false) × (holder n older ≡ None)
+pub holder_parts : (n : ℕ) (o : Owed) (older : List Owed) → holder n (o ∷ older) ≡ None → (has_target o.asks (register_at n) ≡ false) × (holder n older ≡ None)
 holder_parts n o older h = by_case (holder n older) refl (has_target o.asks (register_at n)) refl h where
   by_case : (p : Option ℕ) → holder n older ≡ p → (b : Bool) → has_target o.asks (register_at n) ≡ b → or_else p (if b then Some o.serial else None) ≡ None → (has_target o.asks (register_at n) ≡ false) × (holder n older ≡ None)
   by_case (Some j) p b q e = cc
