@@ -68,3 +68,6 @@ pub mod UnitBound
 pub mod RankStays
 pub mod Lone
 pub mod FewEntries
+pub mod Repaid
+pub mod WrittenWords
+pub mod Ranged
