@@ -71,3 +71,4 @@ pub mod FewEntries
 pub mod Repaid
 pub mod WrittenWords
 pub mod Ranged
+pub mod Unowed
