@@ -20,13 +20,15 @@ use Rattle.rv_machine.specs.Told.{Decided, NoStops}
 use Rattle.rv_machine.proofs.Deciding.{decided_is}
 use Rattle.rv_machine.proofs.Moving.{fill_length}
 use Rattle.rv_machine.proofs.Filling.{fill_placed}
-use Rattle.rv_machine.proofs.Reading.{AlikeSlot, Alike, IsAlike, alike_length, alike_count, reading_alike, trying_alike, decided_alike, loading_alike, Read, reading_placed, reading_read, trying_read, decided_read, loading_read, cleared_read, all_decided}
+use Rattle.rv_machine.proofs.Reading.{AlikeSlot, Alike, IsAlike, alike_length, alike_count, reading_alike, trying_alike, decided_alike, loading_alike, Read, AreUnowed, reading_placed, reading_read, trying_read, decided_read, loading_read, cleared_read, all_decided}
 use Rattle.rv_machine.proofs.Trying.{at_ex, trying_placed}
 use Rattle.rv_machine.proofs.Loading.{Loaded, loading_decided, loading_placed, loading_loaded}
 use Rattle.rv_machine.proofs.Ripe.{Ripe, trying_ripe, decided_ripe, loading_ripe, cleared_ripe}
 use Rattle.rv_machine.proofs.Clearing.{cleared_drop, cleared_length, cleared_placed, cleared_decided, cleared_loaded}
 use Rattle.rv_machine.proofs.Going.{AreSeen}
-use Rattle.rv_machine.proofs.Idle.{idle_arch}
+use Rattle.rv_machine.proofs.Unboarded.{operand_unowed}
+use Rattle.rv_lawful.specs.Outstanding.{outstanding}
+use Rattle.rv_machine.specs.Owing.{judged}
 use Rattle.rv_machine.proofs.Repaid.{repaid_memory}
 
 -- ---- slots that are alike
@@ -198,8 +200,13 @@ module _ (k : Setting) (ready : IsReady k) (earlier : List Row) (m : Machine) (i
   read_placed : Placed k r 0 (read_by k m)
   read_placed = reading_placed k ready m.arch.x (owed_by k m) (outstanding_in k m) r 0 filled inv.ranged filled_placed
 
+  -- what nothing that is outstanding owes is the run's
+  are_unowed : AreUnowed m.arch.x (run k r).x (outstanding_in k m)
+  are_unowed a reg lt none is =
+      operand_unowed k earlier (outstanding (judged k) earlier) m.entries m.owed m.arch a reg inv.owing lt none is ∙ ap (λ (s : Arch). slice_index s.x reg) inv.arch
+
   read_read : Read k (run k r).x 0 (read_by k m)
-  read_read = subst (λ (s : Arch). Read k s.x 0 (read_by k m)) (idle_arch m (run k r) inv.idle inv.arch) (reading_read k m.arch.x (owed_by k m) (outstanding_in k m) 0 filled)
+  read_read = reading_read k m.arch.x (run k r).x (owed_by k m) (outstanding_in k m) 0 filled are_unowed
 
   -- past stage 0 the slots are those from before the row
   read_from : (n : ℕ) → Alike (drop (suc n) m.slots) (drop (suc n) (read_by k m))

@@ -14,9 +14,10 @@ use Rattle.rv_engine.specs.Settings.{Setting, shape_of}
 use Rattle.rv_engine.specs.Rows.{going, first_slot}
 use Rattle.rv_machine.specs.Placed.{run, count, expected, IsPlaced, IsPlacedSlot, Placed, IsReady, IsExact}
 use Rattle.rv_machine.specs.Told.{Decided, NoStops}
-use Rattle.rv_machine.proofs.Deciding.{or_else_none_b, is_none_of, if_none, test_eq, test_past, own_none, not_due, no_waiting, waits_operand, waits_late, decided_tail, no_stops_tail}
+use Rattle.rv_machine.proofs.Deciding.{or_else_none_b, is_none_of, if_none, test_eq, test_past, own_none, not_due, no_waiting, waits_operand, waits_board, waits_late, decided_tail, no_stops_tail}
 use Rattle.rv_machine.proofs.Reading.{Read}
 use Rattle.rv_machine.proofs.Operands.{OnPath, on_path, operands_ready}
+use Rattle.rv_machine.proofs.Unboarded.{board_parts}
 use Rattle.rv_machine.proofs.Trying.{late_clear}
 use Rattle.rv_machine.proofs.Loading.{Loaded}
 use Rattle.rv_machine.proofs.Ripe.{Ripe}
@@ -88,11 +89,15 @@ module _ (k : Setting) (ready : IsReady k) (r stage : ℕ) (t : Token) (older : 
       operands_ready k ready r (suc stage) older t.asks (omega (arith, near, e)) h.placed.1
       (path_ahead k r (suc stage) older (omega (arith, near, e)) h.placed.1 h.decided.1 (not_blocked (shape_of k) stage t older h.decided.0 free stops)) (waits_operand (shape_of k) stage t older waiting e)
 
+  -- nothing outstanding owes it a register
+  free_board : stage ≡ (shape_of k).rd → t.beside.board ≡ None
+  free_board e = (board_parts t older (waits_board (shape_of k) stage t older waiting e)).0
+
   first_case : (b : Bool) → (stage == (shape_of k).rd) ≡ b → (shape_of k).rd < suc stage → rs1_of t.cell.word ≡ t.asks.first → t.inputs.rs1 ≡ slice_index (run k (r + count older)).x (rs1_of t.cell.word)
   first_case false e lt q = here.first (test_past (shape_of k).rd stage e lt) q
   first_case true e lt q =
       let at = test_eq stage (shape_of k).rd e in
-      (h.read.0 at).0
+      (h.read.0 at (free_board at)).0 (ap rs1_of here.input_word ∙ q)
       ∙ ap (λ w. slice_index (run k r).x (rs1_of w)) here.input_word
       ∙ ap (λ n. slice_index (run k r).x n) q
       ∙ (operands at).0
@@ -102,7 +107,7 @@ module _ (k : Setting) (ready : IsReady k) (r stage : ℕ) (t : Token) (older : 
   second_case false e lt q = here.second (test_past (shape_of k).rd stage e lt) q
   second_case true e lt q =
       let at = test_eq stage (shape_of k).rd e in
-      (h.read.0 at).1
+      (h.read.0 at (free_board at)).1 (ap rs2_of here.input_word ∙ q)
       ∙ ap (λ w. slice_index (run k r).x (rs2_of w)) here.input_word
       ∙ ap (λ n. slice_index (run k r).x n) q
       ∙ (operands at).1

@@ -72,3 +72,4 @@ pub mod Repaid
 pub mod WrittenWords
 pub mod Ranged
 pub mod Unowed
+pub mod Unboarded

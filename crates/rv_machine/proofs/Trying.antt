@@ -26,11 +26,12 @@ use Rattle.rv_engine.specs.Rows.{tried_with, seeing, is_ripe, trying}
 use Rattle.rv_lawful.specs.Sight.{asked, IsSeen, IsEarly, AreWords}
 use Rattle.rv_machine.specs.Owing.{judged}
 use Rattle.rv_machine.specs.Placed.{run, count, expected, late_in_answer, paid_late, IsFuture, IsTried, IsExact, IsPlaced, IsPlacedSlot, Placed, IsReady}
-use Rattle.rv_machine.proofs.Deciding.{or_else_none, or_else_none_b, test_eq, waits_operand, waits_custom, waits_late, address_of_run}
+use Rattle.rv_machine.proofs.Deciding.{or_else_none, or_else_none_b, test_eq, waits_operand, waits_board, waits_custom, waits_late, address_of_run}
 use Rattle.rv_machine.proofs.Asking.{used_few}
 use Rattle.rv_machine.proofs.Runs.{answer, step_word, access_word, trial_word}
 use Rattle.rv_machine.proofs.Reading.{ReadSlot, Read, placed_alike, trying_alike}
 use Rattle.rv_machine.proofs.Operands.{on_path, operands_ready}
+use Rattle.rv_machine.proofs.Unboarded.{board_parts}
 
 -- ---- what a word is tried to with what agrees with the run
 
@@ -134,13 +135,17 @@ module _ (k : Setting) (ready : IsReady k) (r stage : ℕ) (older : Slots) (t : 
   ready_operands e =
       operands_ready k ready r (suc stage) older t.asks (omega (arith, at_ex)) behind (on_path k r (suc stage) older (omega (arith, at_ex)) behind) (waits_operand (shape_of k) stage t older free e)
 
+  -- nothing outstanding owes it a register
+  free_board : stage ≡ (shape_of k).rd → t.beside.board ≡ None
+  free_board e = (board_parts t older (waits_board (shape_of k) stage t older free e)).0
+
   first_is : rs1_of t.cell.word ≡ t.asks.first → t.inputs.rs1 ≡ slice_index (run k (r + count older)).x (rs1_of t.cell.word)
   first_is e = by_case (stage == (shape_of k).rd) refl where
     by_case : (b : Bool) → (stage == (shape_of k).rd) ≡ b → t.inputs.rs1 ≡ slice_index (run k (r + count older)).x (rs1_of t.cell.word)
     by_case false q = here.first (past_rd stage (shape_of k).rd (shape_of k).ex q ready.rd_ex at_ex) e
     by_case true q =
         let same = test_eq stage (shape_of k).rd q in
-        (read same).0
+        (read same (free_board same)).0 (ap rs1_of here.input_word ∙ e)
         ∙ ap (λ w. slice_index (run k r).x (rs1_of w)) here.input_word
         ∙ ap (λ n. slice_index (run k r).x n) e
         ∙ (ready_operands same).0
@@ -152,7 +157,7 @@ module _ (k : Setting) (ready : IsReady k) (r stage : ℕ) (older : Slots) (t : 
     by_case false q = here.second (past_rd stage (shape_of k).rd (shape_of k).ex q ready.rd_ex at_ex) e
     by_case true q =
         let same = test_eq stage (shape_of k).rd q in
-        (read same).1
+        (read same (free_board same)).1 (ap rs2_of here.input_word ∙ e)
         ∙ ap (λ w. slice_index (run k r).x (rs2_of w)) here.input_word
         ∙ ap (λ n. slice_index (run k r).x n) e
         ∙ (ready_operands same).1
