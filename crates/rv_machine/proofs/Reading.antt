@@ -253,10 +253,10 @@ Read k x stage (s ∷ older) = ReadSlot k x stage s × Read k x (suc stage) olde
 abbrev pub AreUnowed : List ℕ → List ℕ → Outstanding → Type 0
 AreUnowed x y o = (a : Asks) (reg : ℕ) → reg < 32 → board_of o.owed a ≡ None → (reg ≡ a.first) ⊎ (reg ≡ a.second) → slice_index x reg ≡ slice_index y reg
 
-first_few : (word : ℕ) → rs1_of word < 32
+pub first_few : (word : ℕ) → rs1_of word < 32
 first_few word = omega arith
 
-second_few : (word : ℕ) → rs2_of word < 32
+pub second_few : (word : ℕ) → rs2_of word < 32
 second_few word = omega arith
 
 read_slot : (k : Setting) (x y : List ℕ) (owed : ℕ) (o : Outstanding) (stage : ℕ) (s : Option Token) → AreUnowed x y o → ReadSlot k y stage (with_operands (shape_of k) x owed o stage s)
