@@ -1,5 +1,5 @@
 -- The x registers of the machine have words after a row.
-use Rattle.std.proofs.Common.{◌≡◌, ℕ, ◌<◌, ◌^◌, List, ◌∷◌, Option, Some, None, Bool, refl, sym, subst, inl, inr}
+use Rattle.std.proofs.Common.{◌≡◌, ℕ, ◌<◌, ◌^◌, List, Option, Some, None, Bool, refl, sym, subst, inl, inr}
 use Rattle.std.specs.Prelude.{slice_index}
 use Rattle.ix_bits.specs.declared.number.Bits.{Bits}
 use Rattle.rv_asks.specs.declared.asks.Asks.{Asks}
@@ -9,7 +9,6 @@ use Rattle.rv_seq.specs.declared.commit.Slot.{Slot}
 use Rattle.rv_seq.specs.declared.commit.Slot.TheVariants.{Absent, Now, Later}
 use Rattle.rv_seq.specs.declared.answer.StepAnswer.TheVariants.{Done}
 use Rattle.rv_seq.specs.Commits.{with_x, applied}
-use Rattle.rv_tried.specs.declared.parts.Spawned.{Spawned}
 use Rattle.rv_tried.specs.Parts.{native_index, native_x, native, spawned_index, spawned_x, spawned, paid}
 use Rattle.rv_trace.specs.declared.row.Row.{Row}
 use Rattle.rv_trace.specs.Trace.{place, retirements}

@@ -1,5 +1,5 @@
 -- What is owed beside the stages changes registers alone.
-use Rattle.std.proofs.Common.{◌≡◌, ℕ, List, [], ◌∷◌, refl, sym, ap, ◌∙◌}
+use Rattle.std.proofs.Common.{◌≡◌, List, [], ◌∷◌, refl}
 use Rattle.rv_seq.specs.declared.arch.Arch.{Arch}
 use Rattle.rv_tried.specs.Parts.{paid}
 use Rattle.rv_engine.specs.declared.owing.Owed.{Owed}

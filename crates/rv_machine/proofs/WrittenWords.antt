@@ -1,5 +1,5 @@
 -- What a step writes to an x register is a word, and the register is that of the word's field, but x0.
-use Rattle.std.proofs.Common.{◌≡◌, ℕ, ◌<◌, ◌^◌, List, length, Option, Some, None, Bool, true, false, if◌then◌else◌, nat_eq, refl, sym, ap, ◌∙◌, subst}
+use Rattle.std.proofs.Common.{◌≡◌, ℕ, ◌<◌, ◌^◌, List, length, Option, Some, None, Bool, true, false, if◌then◌else◌, nat_eq, refl, subst}
 use Rattle.ix_extension.specs.Extensions.{ExtensionTree}
 use Rattle.rv_isa.specs.Fields.{rd_of, rs1_of, rs2_of}
 use Rattle.ix_eval.specs.declared.effect.Effect.{Effect}
