@@ -20,13 +20,16 @@ use Rattle.rv_machine.specs.Told.{Decided, NoStops}
 use Rattle.rv_machine.proofs.Deciding.{decided_is}
 use Rattle.rv_machine.proofs.Moving.{fill_length}
 use Rattle.rv_machine.proofs.Filling.{fill_placed}
-use Rattle.rv_machine.proofs.Reading.{AlikeSlot, Alike, IsAlike, alike_length, alike_count, reading_alike, trying_alike, decided_alike, loading_alike, Read, reading_placed, reading_read, trying_read, decided_read, loading_read, cleared_read, all_decided}
+use Rattle.rv_machine.proofs.Reading.{AlikeSlot, Alike, IsAlike, alike_length, alike_count, reading_alike, trying_alike, decided_alike, loading_alike, Read, AreUnowed, reading_placed, reading_read, trying_read, decided_read, loading_read, cleared_read, all_decided}
 use Rattle.rv_machine.proofs.Trying.{at_ex, trying_placed}
 use Rattle.rv_machine.proofs.Loading.{Loaded, loading_decided, loading_placed, loading_loaded}
 use Rattle.rv_machine.proofs.Ripe.{Ripe, trying_ripe, decided_ripe, loading_ripe, cleared_ripe}
 use Rattle.rv_machine.proofs.Clearing.{cleared_drop, cleared_length, cleared_placed, cleared_decided, cleared_loaded}
 use Rattle.rv_machine.proofs.Going.{AreSeen}
-use Rattle.rv_machine.proofs.Idle.{idle_arch}
+use Rattle.rv_machine.proofs.Unboarded.{operand_unowed}
+use Rattle.rv_lawful.specs.Outstanding.{outstanding}
+use Rattle.rv_machine.specs.Owing.{judged}
+use Rattle.rv_machine.proofs.Repaid.{repaid_memory}
 
 -- ---- slots that are alike
 
@@ -191,17 +194,19 @@ module _ (k : Setting) (ready : IsReady k) (earlier : List Row) (m : Machine) (i
   pub filled_placed : Placed k r 0 filled
   filled_placed = fill_placed k ready r m.next m.fetch m.future m.slots (word_at k.image m.fetch) inv.placed inv.fetch fetch_word refl inv.future_wide
 
-  arch_is : m.arch ≡ run k r
-  arch_is = idle_arch m (run k r) inv.idle inv.arch
-
-  ranged : (reg : ℕ) → slice_index m.arch.x reg < 2 ^ 32
-  ranged = subst (λ (s : Arch). (reg : ℕ) → slice_index s.x reg < 2 ^ 32) (sym arch_is) (ready.words r)
+  mem_is : m.arch.mem ≡ (run k r).mem
+  mem_is = sym (repaid_memory m.owed m.arch) ∙ ap (λ (s : Arch). s.mem) inv.arch
 
   read_placed : Placed k r 0 (read_by k m)
-  read_placed = reading_placed k ready m.arch.x (owed_by k m) (outstanding_in k m) r 0 filled ranged filled_placed
+  read_placed = reading_placed k ready m.arch.x (owed_by k m) (outstanding_in k m) r 0 filled inv.ranged filled_placed
+
+  -- what nothing that is outstanding owes is the run's
+  are_unowed : AreUnowed m.arch.x (run k r).x (outstanding_in k m)
+  are_unowed a reg lt none is =
+      operand_unowed k earlier (outstanding (judged k) earlier) m.entries m.owed m.arch a reg inv.owing lt none is ∙ ap (λ (s : Arch). slice_index s.x reg) inv.arch
 
   read_read : Read k (run k r).x 0 (read_by k m)
-  read_read = subst (λ (s : Arch). Read k s.x 0 (read_by k m)) arch_is (reading_read k m.arch.x (owed_by k m) (outstanding_in k m) 0 filled)
+  read_read = reading_read k m.arch.x (run k r).x (owed_by k m) (outstanding_in k m) 0 filled are_unowed
 
   -- past stage 0 the slots are those from before the row
   read_from : (n : ℕ) → Alike (drop (suc n) m.slots) (drop (suc n) (read_by k m))
@@ -224,7 +229,7 @@ module _ (k : Setting) (ready : IsReady k) (earlier : List Row) (m : Machine) (i
   held_decided = decided_is k 0 tried_slots
 
   loaded_same : (P : Slots → Type 0) → P (loading (tree_of k) (shape_of k) (run k r).mem 0 (held_by k m)) → P (loaded_by k m)
-  loaded_same P h = subst (λ (s : Arch). P (loading (tree_of k) (shape_of k) s.mem 0 (held_by k m))) (sym arch_is) h
+  loaded_same P h = subst (λ memory. P (loading (tree_of k) (shape_of k) memory 0 (held_by k m))) (sym mem_is) h
 
   pub loaded_placed : Placed k r 0 (loaded_by k m)
   loaded_placed = loaded_same (λ l. Placed k r 0 l) (loading_placed k ready r 0 (held_by k m) held_placed held_decided)

@@ -98,6 +98,7 @@ first k ready =
     record {
       stages = long_none n;
       arch = refl;
+      ranged = ready.words 0;
       next_place = omega (arith, c);
       next_first = first_none n;
       fetch = sym t;

@@ -25,6 +25,7 @@ use Rattle.rv_machine.proofs.FewEntries.{few_next}
 use Rattle.rv_machine.proofs.OwingNext as O
 use Rattle.rv_machine.proofs.RepaidNext as P
 use Rattle.rv_machine.proofs.ApartNext as A
+use Rattle.rv_machine.proofs.Ranged.{ranged_next}
 
 -- for how many rows each module still goes on after the row
 abbrev pub TailsAfter : Setting → List Row → Slots → Type 0
@@ -43,6 +44,7 @@ module _ (k : Setting) (ready : IsReady k) (earlier : List Row) (m : Machine) (r
       record {
         stages = advanced_length None (seen_by k m) ∙ B.seen_length k ready earlier m inv;
         arch = P.repaid_next k ready earlier m row inv is;
+        ranged = ranged_next k ready earlier m row inv is;
         next_place = F.seen_count k ready earlier m row inv is ∙ omega (arith, c, now);
         next_first = N.next_first k ready earlier m row inv is;
         fetch = N.fetch_next k ready earlier m row inv is e;

@@ -72,3 +72,8 @@ pub mod UnitBound
 pub mod RankStays
 pub mod Lone
 pub mod FewEntries
+pub mod Repaid
+pub mod WrittenWords
+pub mod Ranged
+pub mod Unowed
+pub mod Unboarded

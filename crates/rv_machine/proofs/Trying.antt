@@ -20,17 +20,18 @@ use Rattle.rv_tried.specs.declared.trial.Trial.{Trial}
 use Rattle.rv_tried.specs.Tried.{tried}
 use Rattle.rv_holds.specs.declared.token.Token.{Token}
 use Rattle.rv_holds.specs.Tokens.{Slots, or_else}
-use Rattle.rv_holds.specs.Holds.{oldest, is_late, writes_late, custom, waits_for_custom, first_from, custom_hold, late, late_hold, waiting_hold}
+use Rattle.rv_holds.specs.Holds.{oldest, is_late, writes_late, custom, waits_for_custom, first_from, custom_hold, late, late_hold, waiting_hold, register_count, spawner, least_from}
 use Rattle.rv_engine.specs.Settings.{Setting, shape_of, tree_of}
 use Rattle.rv_engine.specs.Rows.{tried_with, seeing, is_ripe, trying}
 use Rattle.rv_lawful.specs.Sight.{asked, IsSeen, IsEarly, AreWords}
 use Rattle.rv_machine.specs.Owing.{judged}
 use Rattle.rv_machine.specs.Placed.{run, count, expected, late_in_answer, paid_late, IsFuture, IsTried, IsExact, IsPlaced, IsPlacedSlot, Placed, IsReady}
-use Rattle.rv_machine.proofs.Deciding.{or_else_none, or_else_none_b, test_eq, waits_operand, waits_custom, waits_late, address_of_run}
+use Rattle.rv_machine.proofs.Deciding.{or_else_none, or_else_none_b, test_eq, waits_operand, waits_board, waits_custom, waits_late, address_of_run}
 use Rattle.rv_machine.proofs.Asking.{used_few}
 use Rattle.rv_machine.proofs.Runs.{answer, step_word, access_word, trial_word}
-use Rattle.rv_machine.proofs.Reading.{ReadSlot, Read, placed_alike, trying_alike}
+use Rattle.rv_machine.proofs.Reading.{ReadSlot, Read, first_few, second_few, placed_alike, trying_alike}
 use Rattle.rv_machine.proofs.Operands.{on_path, operands_ready}
+use Rattle.rv_machine.proofs.Unboarded.{board_parts}
 
 -- ---- what a word is tried to with what agrees with the run
 
@@ -130,9 +131,17 @@ module _ (k : Setting) (ready : IsReady k) (r stage : ℕ) (older : Slots) (t : 
   word_there : word_at k.image (run k (r + count older)).pc ≡ Some t.cell.word
   word_there = ap (λ a. word_at k.image a) (sym address) ∙ here.word
 
-  ready_operands : stage ≡ (shape_of k).rd → (slice_index (run k r).x t.asks.first ≡ slice_index (run k (r + count older)).x t.asks.first) × (slice_index (run k r).x t.asks.second ≡ slice_index (run k (r + count older)).x t.asks.second)
+  -- nothing outstanding owes it a register, and no older token spawns one
+  unboarded : stage ≡ (shape_of k).rd → (t.beside.board ≡ None) × (least_from (spawner older t.asks) 0 register_count ≡ None)
+  unboarded e = board_parts t older (waits_board (shape_of k) stage t older free e)
+
+  free_board : stage ≡ (shape_of k).rd → t.beside.board ≡ None
+  free_board e = (unboarded e).0
+
+  ready_operands : stage ≡ (shape_of k).rd
+      → (t.asks.first < 32 → slice_index (run k r).x t.asks.first ≡ slice_index (run k (r + count older)).x t.asks.first) × (t.asks.second < 32 → slice_index (run k r).x t.asks.second ≡ slice_index (run k (r + count older)).x t.asks.second)
   ready_operands e =
-      operands_ready k ready r (suc stage) older t.asks (omega (arith, at_ex)) behind (on_path k r (suc stage) older (omega (arith, at_ex)) behind) (waits_operand (shape_of k) stage t older free e)
+      operands_ready k ready r (suc stage) older t.asks (omega (arith, at_ex)) behind (on_path k r (suc stage) older (omega (arith, at_ex)) behind) (waits_operand (shape_of k) stage t older free e) (unboarded e).1
 
   first_is : rs1_of t.cell.word ≡ t.asks.first → t.inputs.rs1 ≡ slice_index (run k (r + count older)).x (rs1_of t.cell.word)
   first_is e = by_case (stage == (shape_of k).rd) refl where
@@ -140,10 +149,10 @@ module _ (k : Setting) (ready : IsReady k) (r stage : ℕ) (older : Slots) (t : 
     by_case false q = here.first (past_rd stage (shape_of k).rd (shape_of k).ex q ready.rd_ex at_ex) e
     by_case true q =
         let same = test_eq stage (shape_of k).rd q in
-        (read same).0
+        (read same (free_board same)).0 (ap rs1_of here.input_word ∙ e)
         ∙ ap (λ w. slice_index (run k r).x (rs1_of w)) here.input_word
         ∙ ap (λ n. slice_index (run k r).x n) e
-        ∙ (ready_operands same).0
+        ∙ (ready_operands same).0 (subst (λ n. n < 32) e (first_few t.cell.word))
         ∙ ap (λ n. slice_index (run k (r + count older)).x n) (sym e)
 
   second_is : rs2_of t.cell.word ≡ t.asks.second → t.inputs.rs2 ≡ slice_index (run k (r + count older)).x (rs2_of t.cell.word)
@@ -152,10 +161,10 @@ module _ (k : Setting) (ready : IsReady k) (r stage : ℕ) (older : Slots) (t : 
     by_case false q = here.second (past_rd stage (shape_of k).rd (shape_of k).ex q ready.rd_ex at_ex) e
     by_case true q =
         let same = test_eq stage (shape_of k).rd q in
-        (read same).1
+        (read same (free_board same)).1 (ap rs2_of here.input_word ∙ e)
         ∙ ap (λ w. slice_index (run k r).x (rs2_of w)) here.input_word
         ∙ ap (λ n. slice_index (run k r).x n) e
-        ∙ (ready_operands same).1
+        ∙ (ready_operands same).1 (subst (λ n. n < 32) e (second_few t.cell.word))
         ∙ ap (λ n. slice_index (run k (r + count older)).x n) (sym e)
 
   customs_are : (reg : ℕ) → get_or t.asks.customs reg false ≡ true → get_or future reg zero_bit ≡ get_or (run k (r + count older)).custom reg zero_bit

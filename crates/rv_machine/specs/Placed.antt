@@ -220,6 +220,8 @@ pub record Inv (k : Setting) (earlier : List Row) (m : Machine) : Type 0 where
   pub stages : length m.slots ≡ (shape_of k).stages
   -- with what is owed its state is the run's
   pub arch : repaid m.owed m.arch ≡ run k (retirements earlier)
+  -- and each of its x registers has a word
+  pub ranged : (reg : ℕ) → slice_index m.arch.x reg < 2 ^ 32
   pub next_place : place earlier m.next ≡ retirements earlier + count m.slots
   pub next_first : serial_after m.next (cell_of (first_slot m.slots)) ≡ m.next
   pub fetch : m.fetch ≡ expected k (retirements earlier) 1 (tail m.slots)
