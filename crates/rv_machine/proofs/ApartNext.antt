@@ -27,17 +27,15 @@ use Rattle.rv_machine.proofs.Deciding.{or_else_none, or_else_none_b, own_none, n
 use Rattle.rv_machine.proofs.Reading.{Alike, IsAlike, alike_oldest}
 use Rattle.rv_machine.proofs.Moves.{SilentSlot, silent_parts, silent_going, silent_advanced, silent_behind}
 use Rattle.rv_machine.proofs.Meeting.{MeetsSlot, Meets, seen_meets}
-use Rattle.rv_machine.proofs.RepaidNext.{holder_parts, left_apart}
+use Rattle.rv_machine.proofs.Apart.{holder_parts, holder_join, alike_apart, filled_apart, cleared_apart, leaves_reading}
+use Rattle.rv_machine.proofs.RepaidNext.{left_apart}
 use Rattle.rv_machine.proofs.Before as B
 use Rattle.rv_machine.proofs.Retiring as R
 use Rattle.std.proofs.lemmas.Bool.Decides.{nat_tests}
 
 -- ---- what is left of what is owed
 
-holder_join : (n : ℕ) (o : Owed) (older : List Owed) → has_target o.asks (register_at n) ≡ false → holder n older ≡ None → holder n (o ∷ older) ≡ None
-holder_join n o older e h = ap (λ p. or_else p (if has_target o.asks (register_at n) then Some o.serial else None)) h ∙ ap (λ (b : Bool). if b then Some o.serial else None) e
-
-unpaid_holder : (n : ℕ) (lasts : List ℕ) (all entries : List Entry) (owed : List Owed) → holder n owed ≡ None → holder n (unpaid_among lasts all entries owed) ≡ None
+pub unpaid_holder : (n : ℕ) (lasts : List ℕ) (all entries : List Entry) (owed : List Owed) → holder n owed ≡ None → holder n (unpaid_among lasts all entries owed) ≡ None
 unpaid_holder n lasts all [] owed h = refl
 unpaid_holder n lasts all (e ∷ entries) [] h = refl
 unpaid_holder n lasts all (e ∷ entries) (w ∷ owed) h =
@@ -75,111 +73,29 @@ with_new n t rest e h = by_case (entering_of (Some t)) (into_as t.asks t.asks.un
   by_case (Some enter) x = holder_join n enter.1 rest (ap (λ (a : Asks). has_target a (register_at n)) x ∙ e) h
 
 -- where what goes out spawns no such register
-after_out : (n : ℕ) (o : Option Token) (rest : List Owed) → SilentSlot (λ a. has_target a (register_at n)) o → holder n rest ≡ None → holder n (owed_by_entering (entering_of o) ++ rest) ≡ None
+pub after_out : (n : ℕ) (o : Option Token) (rest : List Owed) → SilentSlot (λ a. has_target a (register_at n)) o → holder n rest ≡ None → holder n (owed_by_entering (entering_of o) ++ rest) ≡ None
 after_out n None rest q h = h
 after_out n (Some t) rest q h = with_new n t rest q h
 
-silent_leaving : (g : Asks → Bool) (come : Option Token) (seen : Slots) → SilentSlot g come → oldest (λ t. g t.asks) seen ≡ None → SilentSlot g (leaving come seen)
+pub silent_leaving : (g : Asks → Bool) (come : Option Token) (seen : Slots) → SilentSlot g come → oldest (λ t. g t.asks) seen ≡ None → SilentSlot g (leaving come seen)
 silent_leaving g come [] c h = c
 silent_leaving g come (s ∷ older) c h = let x = silent_parts g s older h in silent_leaving g (going s) older (silent_going g s x.0) x.1
-
--- ---- tokens that are apart from what is owed
-
-alike_apart : (k : Setting) (owed : List Owed) (stage : ℕ) (a b : Slots) → Alike a b → Apart k owed stage a → Apart k owed stage b
-alike_apart k owed stage [] [] l h = tt
-alike_apart k owed stage [] (u ∷ b) l h = absurd l
-alike_apart k owed stage (s ∷ a) [] l h = absurd l
-alike_apart k owed stage (None ∷ a) (None ∷ b) l h = alike_apart k owed (suc stage) a b l.1 h
-alike_apart k owed stage (None ∷ a) (Some u ∷ b) l h = absurd l.0
-alike_apart k owed stage (Some t ∷ a) (None ∷ b) l h = absurd l.0
-alike_apart k owed stage (Some t ∷ a) (Some u ∷ b) l h = (
-  λ lt. let x = h.0 lt in
-  record {
-    tokens = λ n few touched. alike_oldest (λ c. has_target c (register_at n)) a b l.1 ∙ x.tokens n few (ap (λ (c : Asks). touches c (register_at n)) (sym l.0.asks) ∙ touched);
-    entries = λ n few touched. x.entries n few (ap (λ (c : Asks). touches c (register_at n)) (sym l.0.asks) ∙ touched);
-  },
-  alike_apart k owed (suc stage) a b l.1 h.1,
-)
-
-filled_apart : (k : Setting) (owed : List Owed) (new : Option Token) (slots : Slots) → 0 < (shape_of k).rd → Apart k owed 0 slots → Apart k owed 0 (fill_first new slots)
-filled_apart k owed new [] pos h = tt
-filled_apart k owed new (Some t ∷ older) pos h = h
-filled_apart k owed None (None ∷ older) pos h = h
-filled_apart k owed (Some t) (None ∷ older) pos h = (λ lt. absurd (omega (arith, lt, pos)), h)
-
-cleared_apart : (k : Setting) (owed : List Owed) (stage n : ℕ) (slots : Slots) → n ≤ length slots → Apart k owed stage slots → Apart k owed stage (cleared n slots)
-cleared_apart k owed stage zero slots le h = h
-cleared_apart k owed stage (suc n) [] le h = absurd (omega (arith, le))
-cleared_apart k owed stage (suc n) (None ∷ older) le h = cleared_apart k owed (suc stage) n older (omega (arith, le)) h
-cleared_apart k owed stage (suc n) (Some t ∷ older) le h = cleared_apart k owed (suc stage) n older (omega (arith, le)) h.1
-
--- ---- a token that leaves RD waits for no register
-
-first_none : (f : ℕ → Option ℕ) (n : ℕ) (rest : Option (ℕ × ℕ)) → or_else (numbered n (f n)) rest ≡ None → f n ≡ None
-first_none f n rest h = by_case (f n) h where
-  by_case : (o : Option ℕ) → or_else (numbered n o) rest ≡ None → o ≡ None
-  by_case None q = refl
-  by_case (Some j) q = cc
-
-least_none : (f : ℕ → Option ℕ) (n c m : ℕ) → least_from f n c ≡ None → n ≤ m → m < n + c → f m ≡ None
-least_none f n zero m h le lt = absurd (omega (arith, le, lt))
-least_none f n (suc c) m h le lt = elim (cases_lt n m) [
-  | inl less ↦ least_none f (suc n) c m (or_else_none_b (numbered n (f n)) (least_from f (suc n) c) h) (omega (arith, less)) (omega (arith, lt))
-  | inr more ↦ let same : n ≡ m = omega (arith, le, more) in subst (λ i. f i ≡ None) same (first_none f n (least_from f (suc n) c) h)
-]
-
-lower_none : (a b : Option (ℕ × ℕ)) → board (lower_of a b) ≡ None → (a ≡ None) × (b ≡ None)
-lower_none None None h = (refl, refl)
-lower_none None (Some y) h = cc
-lower_none (Some x) None h = cc
-lower_none (Some x) (Some y) h = by_case (nat_lt y.0 x.0) h where
-  by_case : (b : Bool) → board (if b then Some y else Some x) ≡ None → (◌≡◌ {A = Option (ℕ × ℕ)} (Some x) None) × (◌≡◌ {A = Option (ℕ × ℕ)} (Some y) None)
-  by_case true q = cc
-  by_case false q = cc
-
-where_touched : (b : Bool) (o : Option ℕ) → (if b then o else None) ≡ None → b ≡ true → o ≡ None
-where_touched true o h e = h
-where_touched false o h e = cc
-
-reads_apart : (owed : List Owed) (older : Slots) (t : Token) → t.beside.board ≡ board_of owed t.asks → board_hold t older ≡ None → IsApart owed older t
-unfolding register_count
-reads_apart owed older t met h =
-    let x = lower_none t.beside.board (least_from (spawner older t.asks) 0 48) h in
-    record {
-      tokens = λ n few touched. where_touched (touches t.asks (register_at n)) (oldest (spawns_at n) older) (least_none (spawner older t.asks) 0 48 n x.1 (omega arith) (omega (arith, few))) touched;
-      entries = λ n few touched. where_touched (touches t.asks (register_at n)) (holder n owed) (least_none (holder_for owed t.asks) 0 48 n (sym met ∙ x.0) (omega arith) (omega (arith, few))) touched;
-    }
-
-at_stage : {A : Type 0} (a b : ℕ) (x y : A) → a ≡ b → (if a == b then x else y) ≡ x
-at_stage a b x y e = by_case (a == b) (same a b e) where
-  same : (a b : ℕ) → a ≡ b → (a == b) ≡ true
-  same a b e = grind (arith, nat_tests)
-
-  by_case : (c : Bool) → c ≡ true → (if c then x else y) ≡ x
-  by_case true q = refl
-  by_case false q = cc
-
-leaves_reading : (k : Setting) (owed : List Owed) (stage : ℕ) (t : Token) (older : Slots) → stage ≡ (shape_of k).rd → t.beside.board ≡ (if stage == (shape_of k).rd then board_of owed t.asks else None) → own_hold (shape_of k) stage t older ≡ None → IsApart owed older t
-leaves_reading k owed stage t older at met none =
-    let waits = or_else_none (if stage == (shape_of k).rd then reading_hold t older else None) _ (no_waiting (shape_of k) stage t older none) in
-    let reads : reading_hold t older ≡ None = sym (at_stage stage (shape_of k).rd (reading_hold t older) None at) ∙ waits in
-    reads_apart owed older t (met ∙ at_stage stage (shape_of k).rd (board_of owed t.asks) None at) (or_else_none_b _ (board_hold t older) reads)
 
 -- ---- after the moves
 
 module _ (k : Setting) (o : Outstanding) (rest : List Owed) (unpaid_none : (n : ℕ) → holder n o.owed ≡ None → holder n rest ≡ None) where
   -- what comes to a stage is apart from these
-  abbrev Comes : ℕ → Option Token → Slots → Type 0
+  abbrev pub Comes : ℕ → Option Token → Slots → Type 0
   Comes stage come seen = IfSome come (λ c. (shape_of k).rd < stage → IsApart o.owed seen c)
 
-  stays_apart : (older later : Slots) (out : Option Token) (t : Token) → IsApart o.owed older t → ((n : ℕ) → oldest (spawns_at n) older ≡ None → oldest (spawns_at n) later ≡ None) →
+  pub stays_apart : (older later : Slots) (out : Option Token) (t : Token) → IsApart o.owed older t → ((n : ℕ) → oldest (spawns_at n) older ≡ None → oldest (spawns_at n) later ≡ None) →
       ((n : ℕ) → oldest (spawns_at n) older ≡ None → SilentSlot (λ a. has_target a (register_at n)) out) → IsApart (owed_by_entering (entering_of out) ++ rest) later t
   stays_apart older later out t h moved silent = record {
     tokens = λ n few touched. moved n (h.tokens n few touched);
     entries = λ n few touched. after_out n out rest (silent n (h.tokens n few touched)) (unpaid_none n (h.entries n few touched));
   }
 
-  goes_apart : (stage : ℕ) (t : Token) (older : Slots) → Decided k stage (Some t ∷ older) → NoStops k stage (Some t ∷ older) → MeetsSlot (shape_of k) o stage (Some t) → Apart k o.owed stage (Some t ∷ older) → Comes (suc stage) (going (Some t)) older
+  pub goes_apart : (stage : ℕ) (t : Token) (older : Slots) → Decided k stage (Some t ∷ older) → NoStops k stage (Some t ∷ older) → MeetsSlot (shape_of k) o stage (Some t) → Apart k o.owed stage (Some t ∷ older) → Comes (suc stage) (going (Some t)) older
   goes_apart stage t older d n meets h = by_hold (is_some t.cell.hold) refl where
     by_hold : (b : Bool) → is_some t.cell.hold ≡ b → Comes (suc stage) (if b then None else Some t) older
     by_hold true e = tt
@@ -231,17 +147,29 @@ module _ (k : Setting) (o : Outstanding) (rest : List Owed) (unpaid_none : (n : 
           )
           by_hold false q tail = come_put come c q tail
 
+-- the slots from a stage on
+pub apart_rest : (k : Setting) (owed : List Owed) (stage n : ℕ) (slots rest : Slots) → Apart k owed stage slots → drop n slots ≡ rest → Apart k owed (stage + n) rest
+apart_rest k owed stage zero slots rest h e = subst (λ l. Apart k owed (stage + 0) l) e (subst (λ b. Apart k owed b slots) (let z : stage ≡ stage + 0 = omega arith in z) h)
+apart_rest k owed stage (suc n) [] rest h e = subst (λ l. Apart k owed (stage + suc n) l) e tt
+apart_rest k owed stage (suc n) (None ∷ older) rest h e = subst (λ b. Apart k owed b rest) (let z : suc stage + n ≡ stage + suc n = omega arith in z) (apart_rest k owed (suc stage) n older rest h e)
+apart_rest k owed stage (suc n) (Some t ∷ older) rest h e = subst (λ b. Apart k owed b rest) (let z : suc stage + n ≡ stage + suc n = omega arith in z) (apart_rest k owed (suc stage) n older rest h.1 e)
+
 -- ---- a row
 
 module _ (k : Setting) (ready : IsReady k) (earlier : List Row) (m : Machine) (row : Row) (inv : Inv k earlier m) (is : IsRowOf k m row) where
   abbrev rest : List Owed
   rest = unpaid_among (lasts_of k.design.plans) m.entries m.entries m.owed
 
+  pub seen_apart : Apart k m.owed 0 (seen_by k m)
+  seen_apart =
+      cleared_apart k m.owed 0 (struck (turn_by k m)) (loaded_by k m) (B.struck_inside k ready earlier m inv)
+      (alike_apart k m.owed 0 (fill_first (new_by k m) m.slots) (loaded_by k m) (B.loaded_alike k ready earlier m inv) (filled_apart k m.owed (new_by k m) m.slots ready.rd_pos inv.apart))
+
   pub apart_next : NoStops k 0 (seen_by k m) → Apart k (machine_after k m).owed 0 (machine_after k m).slots
   apart_next none =
       next_apart k (outstanding_in k m) (unpaid_among (lasts_of k.design.plans) m.entries m.entries m.owed) (λ n h. unpaid_holder n (lasts_of k.design.plans) m.entries m.entries m.owed h) 0 None (seen_by k m)
       (B.seen_decided k ready earlier m inv) none (seen_meets k m (B.struck_inside k ready earlier m inv))
-      (cleared_apart k m.owed 0 (struck (turn_by k m)) (loaded_by k m) (B.struck_inside k ready earlier m inv) (alike_apart k m.owed 0 (fill_first (new_by k m) m.slots) (loaded_by k m) (B.loaded_alike k ready earlier m inv) (filled_apart k m.owed (new_by k m) m.slots ready.rd_pos inv.apart)))
+      seen_apart
       tt (left_by k m) refl
 
   -- what goes out owes no register that is owed

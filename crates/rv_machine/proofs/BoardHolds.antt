@@ -36,6 +36,7 @@ use Rattle.rv_machine.proofs.Sixteen.{customs_few}
 use Rattle.rv_machine.proofs.Owes.{Owes, OldestOwes, owing_falls, holder_is}
 use Rattle.rv_machine.proofs.Older as O
 use Rattle.rv_machine.proofs.Least.{OneIs, LeastIs, least_is, Either, lower_is}
+use Rattle.rv_machine.proofs.Numbers.{x_at, custom_at}
 
 -- Registers and their numbers
 
@@ -46,19 +47,6 @@ number_at n = by_case (nat_lt n 32) refl where
   by_case false e = above n e where
     above : (n : ℕ) → nat_lt n 32 ≡ false → 32 + (n - 32) ≡ n
     above n e = grind (arith, nat_tests)
-
-pub x_at : (r : ℕ) → r < 32 → X r ≡ register_at r
-x_at r lt = ap (λ (b : Bool). if b then X r else target.Custom (r - 32)) (low r lt) where
-  low : (r : ℕ) → r < 32 → true ≡ nat_lt r 32
-  low r lt = grind (arith, nat_tests)
-
-pub custom_at : (c : ℕ) → target.Custom c ≡ register_at (32 + c)
-custom_at c = ap (λ n. target.Custom n) same ∙ ap (λ (b : Bool). if b then X (32 + c) else target.Custom (32 + c - 32)) (high c) where
-  same : c ≡ 32 + c - 32
-  same = omega arith
-
-  high : (c : ℕ) → false ≡ nat_lt (32 + c) 32
-  high c = grind (arith, nat_tests)
 
 -- an x register that an instruction spawns is one of the 32
 rd_few : (word : ℕ) → rd_of word < 32

@@ -45,6 +45,10 @@ pub mod Swaps
 pub mod Repaying
 pub mod RepaidNext
 pub mod ApartNext
+pub mod Apart
+pub mod PaidFile
+pub mod FileNext
+pub mod Numbers
 pub mod Idle
 pub mod Meeting
 pub mod Agreeing

@@ -78,9 +78,6 @@ module _ (k : Setting) (ready : IsReady k) (earlier : List Row) (m : Machine) (r
   paid_next s h = retired_more k ready earlier m row inv is s (written_retired s h)
 
   -- of the retired ones before the row
-  older : List Decoupled
-  older = without (is_serial (serial_written row.written)) (outstanding (judged k) earlier)
-
   older_is : without (is_written (row ∷ earlier)) (decoupled (judged k) earlier) ≡ without (is_serial (serial_written row.written)) (outstanding (judged k) earlier)
   unfolding is_written
   older_is = without_either (λ s. is_serial (serial_written row.written) s) (λ s. is_written earlier s) (decoupled (judged k) earlier)
@@ -91,7 +88,7 @@ module _ (k : Setting) (ready : IsReady k) (earlier : List Row) (m : Machine) (r
       without_append (is_written (row ∷ earlier)) (decoupled_in (judged k) row.retired) (decoupled (judged k) earlier)
       ∙ ap (λ l. without (is_written (row ∷ earlier)) (decoupled_in (judged k) row.retired) ++ l) older_is
 
-  older_next : Owing k (row ∷ earlier) (without (is_serial (serial_written row.written)) (outstanding (judged k) earlier)) (stepped (lasts_of k.design.plans) m.entries m.entries) (unpaid_among (lasts_of k.design.plans) m.entries m.entries m.owed)
+  pub older_next : Owing k (row ∷ earlier) (without (is_serial (serial_written row.written)) (outstanding (judged k) earlier)) (stepped (lasts_of k.design.plans) m.entries m.entries) (unpaid_among (lasts_of k.design.plans) m.entries m.entries m.owed)
   older_next = some_kept k ready earlier m row inv is ws (shape_of k).stages (lasts_of k.design.plans) m.entries (outstanding (judged k) earlier) m.entries m.owed refl inv.owing inv.timed is_paid
 
   -- what is outstanding, where this enters and these are the new ones

@@ -30,7 +30,9 @@ use Rattle.rv_machine.specs.Placed.{run, IsReady, Inv}
 use Rattle.rv_machine.specs.Told.{out_of}
 use Rattle.rv_machine.proofs.Runs.{answer, run_suc, step_at, step_word, kept_word, whole_word}
 use Rattle.rv_machine.proofs.Quiet.{native_same, record_long}
-use Rattle.rv_machine.proofs.BoardHolds.{x_at, custom_at, spawned_few}
+use Rattle.rv_machine.proofs.Numbers.{x_at, custom_at}
+use Rattle.rv_machine.proofs.BoardHolds.{spawned_few}
+use Rattle.rv_machine.proofs.Apart.{holder_parts}
 use Rattle.rv_machine.proofs.Swaps.{FreeOf, RecordFree, repaid_applied, AllApart}
 use Rattle.rv_machine.proofs.Repaying.{repaid_early, whole_applied, IsSparse, sparse, IsOwnWrite, own_write, sparse_apart, own_apart}
 use Rattle.rv_machine.proofs.Before as B
@@ -107,14 +109,6 @@ touched_custom a b h r few e f =
     let at = custom_at r in
     false≢true (sym (h (32 + r) (omega (arith, few)) (ap (λ t. touches a t) (sym at) ∙ e)) ∙ ap (λ t. has_target b t) (sym at) ∙ f)
 
--- where none of these owes a register, the first does not, and none of the rest
-pub holder_parts : (n : ℕ) (o : Owed) (older : List Owed) → holder n (o ∷ older) ≡ None → (has_target o.asks (register_at n) ≡ false) × (holder n older ≡ None)
-holder_parts n o older h = by_case (holder n older) refl (has_target o.asks (register_at n)) refl h where
-  by_case : (p : Option ℕ) → holder n older ≡ p → (b : Bool) → has_target o.asks (register_at n) ≡ b → or_else p (if b then Some o.serial else None) ≡ None → (has_target o.asks (register_at n) ≡ false) × (holder n older ≡ None)
-  by_case (Some j) p b q e = cc
-  by_case None p true q e = cc
-  by_case None p false q e = (q, p)
-
 -- ---- what is owed
 
 module _ (k : Setting) (ready : IsReady k) where
@@ -168,7 +162,7 @@ module _ (k : Setting) (ready : IsReady k) where
     by_case true e = absurd (false≢true (sym none ∙ ready.in_units.touching word (Custom r) e))
 
   -- one without a unit spawns nothing
-  no_unit : (word : ℕ) → (asked k.design word).unit ≡ None → SpawnsNothing (asked k.design word)
+  pub no_unit : (word : ℕ) → (asked k.design word).unit ≡ None → SpawnsNothing (asked k.design word)
   no_unit word none = record {
     x = by_x (asked k.design word).spawned refl;
     customs = λ r. by_custom r (get_or (asked k.design word).spawned_customs r false) refl;
@@ -185,7 +179,7 @@ module _ (k : Setting) (ready : IsReady k) where
     by_custom r false e = e
     by_custom r true e = absurd (no_target true (λ q. ready.in_units.spawning word (Custom r) e) refl)
 
-length_owed : (k : Setting) (rows : List Row) (outs : List Decoupled) (entries : List Entry) (owed : List Owed) → Owing k rows outs entries owed → length owed ≡ length entries
+pub length_owed : (k : Setting) (rows : List Row) (outs : List Decoupled) (entries : List Entry) (owed : List Owed) → Owing k rows outs entries owed → length owed ≡ length entries
 length_owed k rows [] [] [] h = refl
 length_owed k rows [] [] (v ∷ owed) h = absurd h
 length_owed k rows [] (e ∷ entries) owed h = absurd h

@@ -30,7 +30,7 @@ use Rattle.rv_machine.proofs.Swaps.{AreApart, BothPaid, WithRecord, FreeOf, repa
 
 -- ---- a unit writes before its turn
 
-unpaid_same : (lasts : List ℕ) (all entries : List Entry) (owed : List Owed) → length owed ≡ length entries → written_among lasts all entries ≡ None → unpaid_among lasts all entries owed ≡ owed
+pub unpaid_same : (lasts : List ℕ) (all entries : List Entry) (owed : List Owed) → length owed ≡ length entries → written_among lasts all entries ≡ None → unpaid_among lasts all entries owed ≡ owed
 unpaid_same lasts all [] [] same none = refl
 unpaid_same lasts all [] (w ∷ owed) same none = cc
 unpaid_same lasts all (e ∷ entries) [] same none = refl

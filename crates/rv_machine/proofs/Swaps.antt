@@ -29,7 +29,7 @@ x_swap xs i j (Now m) Absent other = refl
 x_swap xs i j (Now m) Later other = refl
 x_swap xs i j (Now m) (Now n) other = set_swap xs i j m n (other m n refl refl)
 
-slot_swap : (v : Bits) (a b : Slot Bits) → (a ≡ Absent) ⊎ (b ≡ Absent) → with_slot (with_slot v a) b ≡ with_slot (with_slot v b) a
+pub slot_swap : (v : Bits) (a b : Slot Bits) → (a ≡ Absent) ⊎ (b ≡ Absent) → with_slot (with_slot v a) b ≡ with_slot (with_slot v b) a
 slot_swap v a b (inl e) = ap (λ s. with_slot (with_slot v s) b) e ∙ ap (λ s. with_slot (with_slot v b) s) (sym e)
 slot_swap v a b (inr e) = ap (λ s. with_slot (with_slot v a) s) e ∙ ap (λ s. with_slot (with_slot v s) a) (sym e)
 

@@ -25,7 +25,7 @@ numbered_none n None h = refl
 numbered_none n (Some j) h = cc
 
 -- where there is none, each has none
-least_none : (f : ℕ → Option ℕ) (r c n : ℕ) → least_from f r c ≡ None → r ≤ n → n < r + c → f n ≡ None
+pub least_none : (f : ℕ → Option ℕ) (r c n : ℕ) → least_from f r c ≡ None → r ≤ n → n < r + c → f n ≡ None
 least_none f r zero n h le lt = absurd (omega (arith, le, lt))
 least_none f r (suc c) n h le lt = elim (cases_lt r n) [
   | inl less ↦ least_none f (suc r) c n (or_else_none_b (numbered r (f r)) (least_from f (suc r) c) h) (omega (arith, less)) (omega (arith, lt))
