@@ -75,6 +75,8 @@ pub mod DrainHolds
 pub mod UnitBound
 pub mod RankStays
 pub mod Lone
+pub mod Pigeonhole
+pub mod FewOwed
 pub mod FewEntries
 pub mod Repaid
 pub mod WrittenWords

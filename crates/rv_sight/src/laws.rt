@@ -15,7 +15,7 @@ use rv_unit::unit_laws;
 /// that state: wholly with the memory of the state, and by EX but for rd and late and spawned writes; what is not asked for is kept, and no x register
 /// but one that is asked for is written. Where no `spawn` stands in
 /// the extension nothing is asked of a unit. No module goes on for long. The units of the design can be, and an instruction whose `spawn` body writes
-/// a register has one of them and touches that register. It does nothing: its contract is what it is for.
+/// a register has one of them and touches that register; an instruction with a unit writes one so. It does nothing: its contract is what it is for.
 pub fn sight_laws()
     ensures early { (d : Design) → Stands d → EarlyLaw d }
     ensures exact { (d : Design) → Stands d → ExactLaw d }
