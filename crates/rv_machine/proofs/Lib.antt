@@ -42,6 +42,8 @@ pub mod Recorded
 pub mod Unwritten
 pub mod OwingNext
 pub mod Idle
+pub mod UnitsNext
+pub mod Settled
 pub mod Meeting
 pub mod Agreeing
 pub mod FewUnits
