@@ -26,7 +26,6 @@ use Rattle.rv_machine.specs.Left.{Left}
 use Rattle.rv_machine.proofs.Lawful as L
 use Rattle.rv_machine.proofs.Agreeing as A
 use Rattle.rv_machine.proofs.NextCounts as C
-use Rattle.rv_machine.proofs.Idle.{idle_owing}
 use Rattle.rv_machine.proofs.FewEntries.{few_next}
 use Rattle.rv_machine.proofs.OwingNext as O
 use Rattle.rv_machine.proofs.RepaidNext as P

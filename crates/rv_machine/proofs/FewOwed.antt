@@ -14,8 +14,9 @@ use Rattle.rv_lawful.specs.Outstanding.{Decoupled, has_target}
 use Rattle.rv_lawful.specs.Sight.{asked}
 use Rattle.rv_machine.specs.Owing.{IsOwing, Owing, Distinct}
 use Rattle.rv_machine.specs.Placed.{most_entries, IsReady}
-use Rattle.rv_machine.proofs.RepaidNext.{holder_parts}
-use Rattle.rv_machine.proofs.BoardHolds.{x_at, custom_at, spawned_few}
+use Rattle.rv_machine.proofs.Apart.{holder_parts}
+use Rattle.rv_machine.proofs.BoardHolds.{spawned_few}
+use Rattle.rv_machine.proofs.Numbers.{x_at, custom_at}
 use Rattle.rv_machine.proofs.Sixteen.{customs_few}
 use Rattle.rv_machine.proofs.Pigeonhole.{Below, Without, NoTwo, at_most}
 

@@ -18,7 +18,7 @@ use Rattle.rv_machine.proofs.Before as B
 use Rattle.rv_machine.proofs.Flushing as F
 use Rattle.rv_machine.proofs.Retiring as R
 use Rattle.rv_machine.proofs.NextRow as N
-use Rattle.rv_machine.proofs.Idle.{idle_owing, idle_units, idle_timed, idle_distinct, idle_apart}
+use Rattle.rv_machine.proofs.Idle.{idle_distinct, idle_apart}
 use Rattle.rv_machine.proofs.Worded as W
 use Rattle.rv_machine.proofs.Counting as C
 use Rattle.rv_machine.proofs.FewEntries.{few_next}
@@ -26,6 +26,7 @@ use Rattle.rv_machine.proofs.OwingNext as O
 use Rattle.rv_machine.proofs.RepaidNext as P
 use Rattle.rv_machine.proofs.ApartNext as A
 use Rattle.rv_machine.proofs.Ranged.{ranged_next}
+use Rattle.rv_machine.proofs.UnitsNext as U
 
 -- for how many rows each module still goes on after the row
 abbrev pub TailsAfter : Setting → List Row → Slots → Type 0
@@ -68,8 +69,8 @@ module _ (k : Setting) (ready : IsReady k) (earlier : List Row) (m : Machine) (r
         owing = O.owing_next k ready earlier m row inv is;
         paid = O.paid_next k ready earlier m row inv is;
         worded = W.worded_next k ready earlier m row inv is;
-        units = idle_units k ready (row ∷ earlier) (machine_after k m) (R.idle_next k ready earlier m row inv is);
-        timed = idle_timed k ready (row ∷ earlier) (machine_after k m) (R.idle_next k ready earlier m row inv is);
+        units = U.units_next k ready earlier m row inv is;
+        timed = U.timed_next k ready earlier m row inv is;
         distinct = A.distinct_next k ready earlier m row inv is;
         apart = A.apart_next k ready earlier m row inv is (N.no_stop k ready earlier m row inv is e);
         few_entries = few_next k ready earlier m row inv is;

@@ -20,7 +20,6 @@ use Rattle.rv_machine.proofs.Quiet.{no_target, outstanding_none, units_none}
 use Rattle.rv_machine.specs.Owing.{judged, repaid, Owing, Distinct, Apart}
 use Rattle.rv_trace.specs.declared.row.Row.{Row}
 use Rattle.rv_unit.specs.Slots.{units_of}
-use Rattle.rv_unit.specs.Timed.{IsTimed}
 use Rattle.rv_unit.proofs.Numbered.{first_law}
 
 -- nothing is met
@@ -101,9 +100,6 @@ module _ (k : Setting) (ready : IsReady k) (rows : List Row) (m : Machine) (idle
       ∙ sym ready.quiet.units
       ∙ sym (first_law (shape_of k).stages k.design.plans)
       ∙ ap (λ (e : List Entry). units_of (shape_of k).stages (lasts_of k.design.plans) e) (sym idle.0)
-
-  pub idle_timed : IsTimed (shape_of k).stages (lasts_of k.design.plans) m.entries
-  idle_timed = subst (λ (e : List Entry). IsTimed (shape_of k).stages (lasts_of k.design.plans) e) (sym idle.0) tt
 
   pub idle_distinct : Distinct m.owed
   idle_distinct = subst (λ (w : List Owed). Distinct w) (sym idle.1) tt

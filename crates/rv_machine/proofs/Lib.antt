@@ -50,6 +50,8 @@ pub mod PaidFile
 pub mod FileNext
 pub mod Numbers
 pub mod Idle
+pub mod UnitsNext
+pub mod Settled
 pub mod Meeting
 pub mod Agreeing
 pub mod FewUnits

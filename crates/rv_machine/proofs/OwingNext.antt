@@ -1,23 +1,19 @@
 -- What is outstanding after a row: what retires into a unit, before what was outstanding and is not written.
-use Rattle.std.proofs.Common.{◌≡◌, ℕ, ◌+◌, ◌-◌, ◌<◌, ◌≤◌, List, [], ◌∷◌, ◌++◌, Option, Some, None, Bool, true, false, refl, sym, ap, ◌∙◌, subst, arith, ◌⊎◌, inl, inr, suc, zero}
+use Rattle.std.proofs.Common.{◌≡◌, ℕ, ◌-◌, ◌≤◌, List, [], ◌∷◌, ◌++◌, Option, Some, None, Bool, true, false, refl, sym, ap, ◌∙◌, subst, arith, inl, inr, suc, zero}
 use Rattle.std.specs.Prelude.{if◌then◌else◌, ◌==◌, ◌||◌, nat_lt, is_some, slice_get}
 use Rattle.std.proofs.lemmas.Bool.Decides.{nat_tests}
 use Rattle.std.proofs.lemmas.Bool.{false≢true}
-use Rattle.rv_asks.specs.declared.asks.Asks.{Asks}
-use Rattle.rv_seq.specs.declared.commit.Commit.{Commit}
-use Rattle.rv_tried.specs.Parts.{shown, spawned}
-use Rattle.rv_trace.specs.declared.row.Cell.{Cell}
+use Rattle.rv_tried.specs.Parts.{spawned}
 use Rattle.rv_trace.specs.declared.row.Row.{Row}
-use Rattle.rv_trace.specs.Trace.{place, is_flushed, is_retired, retires, retirements}
+use Rattle.rv_trace.specs.Trace.{place, is_flushed, is_retired, retirements}
 use Rattle.rv_unit.specs.declared.entry.Entry.{Entry}
-use Rattle.rv_unit.specs.Entries.{stepped, next_entries, entered, does_write}
+use Rattle.rv_unit.specs.Entries.{stepped, entered, does_write}
 use Rattle.rv_unit.specs.Numbering.{lasts_of}
 use Rattle.rv_holds.specs.declared.token.Token.{Token}
 use Rattle.rv_engine.specs.declared.owing.Owed.{Owed}
 use Rattle.rv_engine.specs.Owing.{paying_among, unpaid_among, unit_entered, owed_by_entering}
-use Rattle.rv_engine.specs.Settings.{Setting, Machine, shape_of, outstanding_in}
-use Rattle.rv_engine.specs.Rows.{seen_by, left_by, written_of, paid_by, into_unit, entering_of, machine_after, IsRowOf}
-use Rattle.rv_lawful.specs.Settings as Lawful
+use Rattle.rv_engine.specs.Settings.{Setting, Machine, shape_of}
+use Rattle.rv_engine.specs.Rows.{seen_by, left_by, into_unit, entering_of, machine_after, IsRowOf}
 use Rattle.rv_lawful.specs.Outstanding.{Decoupled, serial_written, is_serial, is_written, decoupled_in, decoupled, without, outstanding}
 use Rattle.rv_lawful.specs.LawfulTrace.{IsWordOf}
 use Rattle.rv_lawful.specs.Sight.{asked}
@@ -94,7 +90,7 @@ module _ (k : Setting) (ready : IsReady k) (earlier : List Row) (m : Machine) (r
   -- what is outstanding, where this enters and these are the new ones
   abbrev Next : List Decoupled → Option (ℕ × Owed) → Type 0
   Next new enter = Owing k (row ∷ earlier) (new ++ without (is_serial (serial_written row.written)) (outstanding (judged k) earlier))
-    (entered (shape_of k).stages (unit_entered enter) ++ stepped (lasts_of k.design.plans) m.entries m.entries) (owed_by_entering enter ++ unpaid_among (lasts_of k.design.plans) m.entries m.entries m.owed)
+      (entered (shape_of k).stages (unit_entered enter) ++ stepped (lasts_of k.design.plans) m.entries m.entries) (owed_by_entering enter ++ unpaid_among (lasts_of k.design.plans) m.entries m.entries m.owed)
 
   -- what retires into a unit
   module _ (y : R.Retirement k ready earlier m row inv is (left_by k m) row.retired) (goes : out_of (seen_by k m) ≡ 1) where

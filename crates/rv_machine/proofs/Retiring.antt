@@ -10,10 +10,10 @@ use Rattle.rv_seq.specs.Steps.{after, word_at}
 use Rattle.rv_trace.specs.declared.row.Row.{Row}
 use Rattle.rv_trace.specs.Trace.{place, is_flushed, is_retired, retirements}
 use Rattle.rv_holds.specs.declared.token.Token.{Token}
-use Rattle.rv_holds.specs.Tokens.{Slots, stop_in, commit_in, tried_commit, commit_of, or_else}
-use Rattle.rv_holds.specs.Flushing.{next_of, settles, struck, cleared, slot_stop, remains}
+use Rattle.rv_holds.specs.Tokens.{Slots, stop_in, commit_in, tried_commit, commit_of}
+use Rattle.rv_holds.specs.Flushing.{next_of, settles, struck, cleared}
 use Rattle.rv_engine.specs.Settings.{Setting, Machine, shape_of, tree_of, outstanding_in}
-use Rattle.rv_engine.specs.Rows.{going, leaving, with_serial, retired_of, owed_by, turn_by, seen_by, left_by, IsRowOf, native_of, outstanding_by, arch_retired, arch_paid, written_of, paid_by, fetch_by, native_in, native_tried, is_owing, entering_of, machine_after, into_unit, owed_tried, owed_in}
+use Rattle.rv_engine.specs.Rows.{going, leaving, with_serial, retired_of, owed_by, turn_by, seen_by, left_by, IsRowOf, native_of, outstanding_by, arch_retired, arch_paid, written_of, paid_by, native_in, native_tried, entering_of, machine_after, into_unit, owed_tried, owed_in}
 use Rattle.rv_lawful.specs.Outstanding.{architecture, after_retired, after_written}
 use Rattle.rv_machine.specs.Owing.{judged, repaid}
 use Rattle.rv_machine.specs.Placed.{run, one_more, count, settling_stage, Serials, IsPlaced, IsPlacedSlot, IsReady, Inv}
@@ -36,7 +36,6 @@ use Rattle.rv_machine.proofs.Telling as T
 use Rattle.rv_tried.specs.Parts.{shown, native, spawned}
 use Rattle.rv_tried.specs.declared.trial.Trial.{Trial}
 use Rattle.rv_lawful.specs.Sight.{asked}
-use Rattle.rv_seq.specs.declared.commit.Stop.TheVariants.{Fetch}
 use Rattle.rv_engine.specs.declared.owing.Owed.{Owed}
 use Rattle.rv_asks.specs.declared.asks.Asks.{Asks}
 use Rattle.rv_seq.specs.declared.arch.Arch.{Arch}
@@ -319,11 +318,6 @@ module _ (k : Setting) (ready : IsReady k) (earlier : List Row) (m : Machine) (r
 
   pub idle_next : ((outstanding_by k m).entries ≡ []) × ((outstanding_by k m).owed ≡ [])
   idle_next = idle_after k m inv.idle left_unit
-
-  pub stop_now : row.stop ≡ or_else (slot_stop (shape_of k) 0 (seen_by k m)) (if remains (seen_by k m) || is_some (word_at k.image (fetch_by k m)) then None else Some Fetch)
-  stop_now =
-      is.stop
-      ∙ ap (λ l. or_else (slot_stop (shape_of k) 0 (seen_by k m)) (if remains (seen_by k m) || (is_owing l || is_some (word_at k.image (fetch_by k m))) then None else Some Fetch)) idle_next.1
 
   -- ---- the state after the row
 
