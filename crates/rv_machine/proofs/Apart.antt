@@ -1,5 +1,5 @@
 -- Tokens that touch no register which is owed or which an older one spawns.
-use Rattle.std.proofs.Common.{◌≡◌, ◌∙◌, refl, sym, ap, ℕ, zero, suc, ◌+◌, ◌<◌, ◌≤◌, List, [], ◌∷◌, length, Option, Some, None, Bool, true, false, arith}
+use Rattle.std.proofs.Common.{◌≡◌, ◌∙◌, refl, sym, ap, ℕ, zero, suc, ◌<◌, ◌≤◌, List, [], ◌∷◌, length, Option, Some, None, Bool, true, false, arith}
 use Rattle.std.specs.Prelude.{if◌then◌else◌, ◌==◌}
 use Rattle.std.proofs.lemmas.Bool.Decides.{nat_tests}
 use Rattle.rv_asks.specs.declared.asks.Asks.{Asks}
@@ -39,10 +39,10 @@ alike_apart k owed stage (None ∷ a) (Some u ∷ b) l h = absurd l.0
 alike_apart k owed stage (Some t ∷ a) (None ∷ b) l h = absurd l.0
 alike_apart k owed stage (Some t ∷ a) (Some u ∷ b) l h = (
   λ lt. let x = h.0 lt in
-  record {
-    tokens = λ n few touched. alike_oldest (λ c. has_target c (register_at n)) a b l.1 ∙ x.tokens n few (ap (λ (c : Asks). touches c (register_at n)) (sym l.0.asks) ∙ touched);
-    entries = λ n few touched. x.entries n few (ap (λ (c : Asks). touches c (register_at n)) (sym l.0.asks) ∙ touched);
-  },
+      record {
+        tokens = λ n few touched. alike_oldest (λ c. has_target c (register_at n)) a b l.1 ∙ x.tokens n few (ap (λ (c : Asks). touches c (register_at n)) (sym l.0.asks) ∙ touched);
+        entries = λ n few touched. x.entries n few (ap (λ (c : Asks). touches c (register_at n)) (sym l.0.asks) ∙ touched);
+      },
   alike_apart k owed (suc stage) a b l.1 h.1,
 )
 

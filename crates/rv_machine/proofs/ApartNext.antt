@@ -1,6 +1,6 @@
 -- After a row no two instructions owe one register, and no token past RD touches one that is owed.
-use Rattle.std.proofs.Common.{◌≡◌, ◌∙◌, refl, sym, ap, subst, ℕ, zero, suc, ◌+◌, ◌-◌, ◌<◌, ◌≤◌, List, [], ◌∷◌, ◌++◌, drop, length, Option, Some, None, Bool, true, false, ◌⊎◌, inl, inr, arith}
-use Rattle.std.specs.Prelude.{if◌then◌else◌, ◌==◌, is_some, IfSome, nat_lt}
+use Rattle.std.proofs.Common.{◌≡◌, ◌∙◌, refl, sym, ap, subst, ℕ, zero, suc, ◌+◌, ◌<◌, List, [], ◌∷◌, ◌++◌, drop, Option, Some, None, Bool, true, false, inl, inr, arith}
+use Rattle.std.specs.Prelude.{if◌then◌else◌, is_some, IfSome}
 use Rattle.std.proofs.lemmas.Bool.{cases_lt}
 use Rattle.rv_asks.specs.declared.asks.Asks.{Asks}
 use Rattle.rv_trace.specs.declared.row.Row.{Row}
@@ -11,27 +11,25 @@ use Rattle.rv_tried.specs.declared.trial.Trial.{Trial}
 use Rattle.rv_seq.specs.declared.answer.StepAnswer.{StepAnswer}
 use Rattle.rv_seq.specs.declared.answer.StepAnswer.TheVariants.{Done, Stopped}
 use Rattle.rv_holds.specs.declared.token.Token.{Token}
-use Rattle.rv_holds.specs.Tokens.{Slots, or_else}
-use Rattle.rv_holds.specs.Holds.{oldest, register_at, register_count, spawns_at, spawner, numbered, least_from, lower_of, board, board_hold, reading_hold, waiting_hold, own_hold}
+use Rattle.rv_holds.specs.Tokens.{Slots}
+use Rattle.rv_holds.specs.Holds.{oldest, register_at, spawns_at}
 use Rattle.rv_engine.specs.declared.owing.Owed.{Owed}
-use Rattle.rv_engine.specs.Owing.{holder, holder_for, board_of, unpaid_among, owed_by_entering, Outstanding}
+use Rattle.rv_engine.specs.Owing.{holder, unpaid_among, owed_by_entering, Outstanding}
 use Rattle.rv_engine.specs.Settings.{Setting, Machine, shape_of, outstanding_in}
 use Rattle.rv_engine.specs.Rows.{waited, going, kept, advanced, leaving, fill_first, new_by, loaded_by, seen_by, turn_by, left_by, into_unit, owed_in, owed_tried, entering_of, machine_after, IsRowOf}
-use Rattle.rv_holds.specs.Flushing.{struck, cleared}
+use Rattle.rv_holds.specs.Flushing.{struck}
 use Rattle.rv_lawful.specs.Outstanding.{has_target, touches}
 use Rattle.rv_lawful.specs.Sight.{asked}
 use Rattle.rv_machine.specs.Owing.{Distinct, IsApart, Apart}
 use Rattle.rv_machine.specs.Placed.{IsReady, Inv}
 use Rattle.rv_machine.specs.Told.{Decided, NoStops}
-use Rattle.rv_machine.proofs.Deciding.{or_else_none, or_else_none_b, own_none, no_waiting}
-use Rattle.rv_machine.proofs.Reading.{Alike, IsAlike, alike_oldest}
+use Rattle.rv_machine.proofs.Deciding.{own_none}
 use Rattle.rv_machine.proofs.Moves.{SilentSlot, silent_parts, silent_going, silent_advanced, silent_behind}
 use Rattle.rv_machine.proofs.Meeting.{MeetsSlot, Meets, seen_meets}
 use Rattle.rv_machine.proofs.Apart.{holder_parts, holder_join, alike_apart, filled_apart, cleared_apart, leaves_reading}
 use Rattle.rv_machine.proofs.RepaidNext.{left_apart}
 use Rattle.rv_machine.proofs.Before as B
 use Rattle.rv_machine.proofs.Retiring as R
-use Rattle.std.proofs.lemmas.Bool.Decides.{nat_tests}
 
 -- ---- what is left of what is owed
 

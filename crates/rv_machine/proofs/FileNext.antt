@@ -1,15 +1,11 @@
 -- What a row does to the future file with what is owed beside the stages.
-use Rattle.std.proofs.Common.{◌≡◌, ◌∙◌, refl, sym, ap, subst, ℕ, zero, suc, ◌+◌, ◌-◌, ◌<◌, ◌≤◌, List, [], ◌∷◌, ◌++◌, length, get_or, Option, Some, None, Bool, true, false, arith, ◌⊎◌, inl, inr}
-use Rattle.std.specs.Prelude.{if◌then◌else◌, ◌&&◌, ◌||◌, IfSome}
+use Rattle.std.proofs.Common.{◌≡◌, ◌∙◌, refl, sym, ap, subst, ℕ, suc, ◌+◌, ◌<◌, List, [], ◌∷◌, ◌++◌, length, get_or, Option, Some, None, Bool, true, false, arith, inl, inr}
+use Rattle.std.specs.Prelude.{if◌then◌else◌, ◌&&◌, ◌||◌}
 use Rattle.ix_bits.specs.declared.number.Bits.{Bits}
 use Rattle.ix_eval.specs.Evaluated.{type_of_custom}
 use Rattle.ix_eval.proofs.Tables.{table_length, table_at}
-use Rattle.ix_plan.specs.declared.design.Target.TheVariants.{Custom}
 use Rattle.rv_asks.specs.declared.asks.Asks.{Asks}
 use Rattle.rv_effect.specs.WordEffects.{AreWide}
-use Rattle.rv_seq.specs.declared.answer.StepAnswer.{StepAnswer}
-use Rattle.rv_seq.specs.declared.answer.StepAnswer.TheVariants.{Done}
-use Rattle.rv_seq.specs.declared.commit.Commit.{Commit}
 use Rattle.rv_seq.specs.declared.commit.Slot.{Slot}
 use Rattle.rv_seq.specs.declared.commit.Slot.TheVariants.{Absent, Now, Later}
 use Rattle.rv_seq.specs.Commits.{with_slot}
@@ -26,16 +22,14 @@ use Rattle.rv_unit.specs.Timed.{IsTimed}
 use Rattle.rv_unit.proofs.Moving.{alone_law}
 use Rattle.rv_holds.specs.declared.token.Token.{Token}
 use Rattle.rv_holds.specs.Tokens.{Slots}
-use Rattle.rv_holds.specs.Holds.{register_at}
 use Rattle.rv_engine.specs.declared.owing.Owed.{Owed}
 use Rattle.rv_engine.specs.Owing.{holder, paying_among, unpaid_among, owed_by_entering}
 use Rattle.rv_engine.specs.Settings.{Setting, Machine, shape_of, tree_of}
 use Rattle.rv_engine.specs.Rows.{left_by, paid_by, entering_of, into_unit, file_early, file_late, file_paid, with_writes, machine_after, is_pending, IsRowOf}
-use Rattle.rv_lawful.specs.Outstanding.{Decoupled, has_target, touches, outstanding}
+use Rattle.rv_lawful.specs.Outstanding.{Decoupled, touches, outstanding}
 use Rattle.rv_lawful.specs.Sight.{asked}
-use Rattle.rv_machine.specs.Owing.{judged, paid_owed, IsApart, Owing}
+use Rattle.rv_machine.specs.Owing.{judged, paid_owed, Owing}
 use Rattle.rv_machine.specs.Placed.{run, paid_file, pending_in_answer, owed_write, IsPlaced, IsReady, Inv}
-use Rattle.rv_machine.specs.Told.{out_of}
 use Rattle.rv_machine.proofs.Runs.{answer}
 use Rattle.rv_machine.proofs.Numbers.{custom_at}
 use Rattle.rv_machine.proofs.Swaps.{FreeOf, AllApart, slot_swap}

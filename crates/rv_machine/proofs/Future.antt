@@ -20,12 +20,12 @@ use Rattle.rv_tried.specs.declared.trial.Trial.{Trial}
 use Rattle.rv_tried.specs.Whole.{IsWhole}
 use Rattle.rv_holds.specs.declared.token.Token.{Token}
 use Rattle.rv_holds.specs.Tokens.{Slots, or_else, stop_in}
-use Rattle.rv_holds.specs.Holds.{oldest, writes_late}
+use Rattle.rv_holds.specs.Holds.{oldest}
 use Rattle.rv_engine.specs.Settings.{Setting, shape_of, tree_of}
 use Rattle.rv_engine.specs.Rows.{waited, going, kept, advanced, leaving, first_slot, is_pending, early_write, late_write, with_writes, early_after, late_after, trial_early, trial_late, file_early, file_late}
 use Rattle.rv_lawful.specs.Sight.{asked, IsEarly}
 use Rattle.rv_machine.specs.Owing.{judged}
-use Rattle.rv_machine.specs.Placed.{run, one_more, count, expected, pending_in_answer, owed_write, paid_late, IsFuture, IsPlaced, IsPlacedSlot, Placed, IsReady}
+use Rattle.rv_machine.specs.Placed.{run, one_more, count, expected, pending_in_answer, owed_write, paid_late, IsFuture, IsPlaced, IsPlacedSlot, IsReady}
 use Rattle.rv_machine.specs.Told.{Decided, NoStops}
 use Rattle.rv_machine.proofs.Deciding.{decided_tail, no_stops_tail, expected_run}
 use Rattle.rv_machine.proofs.Asking.{used_late}

@@ -3,7 +3,7 @@ use Rattle.std.proofs.Common.{◌≡◌, ℕ, ◌+◌, ◌≤◌, List, ◌∷�
 use Rattle.std.specs.Prelude.{nat_lt}
 use Rattle.rv_effect.specs.WordEffects.{AreWide}
 use Rattle.rv_trace.specs.declared.row.Row.{Row}
-use Rattle.rv_trace.specs.Trace.{place, retirements, rows_without}
+use Rattle.rv_trace.specs.Trace.{place, rows_without}
 use Rattle.rv_waits.specs.Waits.{greatest}
 use Rattle.rv_holds.specs.declared.token.Token.{Token}
 use Rattle.rv_holds.specs.Tokens.{Slots}
@@ -18,7 +18,6 @@ use Rattle.rv_machine.proofs.Before as B
 use Rattle.rv_machine.proofs.Flushing as F
 use Rattle.rv_machine.proofs.Retiring as R
 use Rattle.rv_machine.proofs.NextRow as N
-use Rattle.rv_machine.proofs.Idle.{idle_distinct, idle_apart}
 use Rattle.rv_machine.proofs.Worded as W
 use Rattle.rv_machine.proofs.Counting as C
 use Rattle.rv_machine.proofs.FewEntries.{few_next}

@@ -10,7 +10,7 @@ use Rattle.rv_holds.specs.declared.token.Token.{Token}
 use Rattle.rv_holds.specs.Tokens.{Slots, makes_access, cell_of, cells_of}
 use Rattle.rv_holds.specs.Flushing.{struck, slot_stop}
 use Rattle.rv_engine.specs.Settings.{Setting, Machine, shape_of, tree_of}
-use Rattle.rv_engine.specs.Rows.{advanced, first_slot, fill_first, next_after, new_by, loaded_by, turn_by, seen_by, left_by, fetch_by, executed_by, file_early, file_late, accesses_after, stood_after, IsRowOf, file_paid, paid_by, machine_after}
+use Rattle.rv_engine.specs.Rows.{advanced, first_slot, fill_first, next_after, new_by, loaded_by, turn_by, seen_by, left_by, fetch_by, accesses_after, stood_after, IsRowOf, machine_after}
 use Rattle.rv_lawful.specs.Settings as Lawful
 use Rattle.rv_lawful.specs.LawfulTrace.{IsWordOf}
 use Rattle.rv_machine.specs.Owing.{judged}
@@ -30,7 +30,6 @@ use Rattle.rv_machine.proofs.Retiring as R
 use Rattle.rv_machine.proofs.Past as P
 use Rattle.rv_machine.proofs.MadeRow.{alike_names}
 use Rattle.rv_seq.specs.Steps.{word_at}
-use Rattle.ix_bits.specs.declared.number.Bits.{Bits}
 
 pub few_more : (n : ℕ) (s : Option Token) → accesses_after n s ≤ suc n
 few_more n None = omega arith

@@ -1,5 +1,5 @@
 -- The future file with what is owed beside the stages.
-use Rattle.std.proofs.Common.{◌≡◌, ◌∙◌, sym, ap, refl, ℕ, ◌+◌, ◌<◌, List, [], ◌∷◌, get_or, Option, None, Bool, true, false}
+use Rattle.std.proofs.Common.{◌≡◌, ◌∙◌, ap, refl, ℕ, ◌+◌, ◌<◌, List, [], ◌∷◌, get_or, None, Bool, false}
 use Rattle.std.specs.Prelude.{if◌then◌else◌, ◌&&◌}
 use Rattle.ix_bits.specs.declared.number.Bits.{Bits}
 use Rattle.ix_eval.proofs.Tables.{table_at}
@@ -13,7 +13,6 @@ use Rattle.rv_tried.specs.Parts.{spawned}
 use Rattle.rv_trace.specs.declared.row.Row.{Row}
 use Rattle.rv_trace.specs.Trace.{place}
 use Rattle.rv_unit.specs.declared.entry.Entry.{Entry}
-use Rattle.rv_holds.specs.Holds.{register_at}
 use Rattle.rv_engine.specs.declared.owing.Owed.{Owed}
 use Rattle.rv_engine.specs.Owing.{holder}
 use Rattle.rv_engine.specs.Settings.{Setting}

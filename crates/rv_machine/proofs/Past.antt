@@ -27,7 +27,6 @@ use Rattle.rv_machine.proofs.Meeting.{seen_meets, meets_at}
 use Rattle.rv_machine.proofs.Numbers.{custom_at}
 use Rattle.rv_machine.proofs.Telling.{placed_rest}
 use Rattle.rv_machine.proofs.Retiring as R
-use Rattle.ix_bits.specs.declared.number.Bits.{Bits}
 use Rattle.rv_seq.specs.States.{zero_bit}
 use Rattle.rv_effect.specs.WordEffects.{AreWide}
 use Rattle.rv_engine.specs.Owing.{unpaid_among}
@@ -146,9 +145,11 @@ module _ (k : Setting) (ready : IsReady k) (earlier : List Row) (m : Machine) (r
     by_hold true e q = tt
     by_hold false e q =
         let lt = ready.rd_ex in
-        let x : IsApart m.owed gone t = subst (λ (b : Bool). IfSome (if b then None else Some t) (λ c. (shape_of k).rd < suc (shape_of k).ex → IsApart m.owed gone c)) e here (omega (arith, lt)) in
-        (x, stays_apart k (outstanding_in k m) (unpaid_among (lasts_of k.design.plans) m.entries m.entries m.owed) (λ i h. unpaid_holder i (lasts_of k.design.plans) m.entries m.entries m.owed h) gone gone (left_by k m) t x (λ i h. h)
-        (λ i h. subst (λ o. SilentSlot (λ a. has_target a (register_at i)) o) (sym (q ∙ leaving_any (Some t) gone some)) (silent_leaving (λ a. has_target a (register_at i)) None gone tt h)))
+        let x : IsApart m.owed gone t = subst (λ (b : Bool). IfSome (if b then None else Some t) (λ c. (shape_of k).rd < suc (shape_of k).ex → IsApart m.owed gone c)) e here (omega (arith, lt)) in (
+          x,
+          stays_apart k (outstanding_in k m) (unpaid_among (lasts_of k.design.plans) m.entries m.entries m.owed) (λ i h. unpaid_holder i (lasts_of k.design.plans) m.entries m.entries m.owed h) gone gone (left_by k m) t x (λ i h. h)
+              (λ i h. subst (λ o. SilentSlot (λ a. has_target a (register_at i)) o) (sym (q ∙ leaving_any (Some t) gone some)) (silent_leaving (λ a. has_target a (register_at i)) None gone tt h)),
+        )
 
   writes : (e : Option Token) (gone : Slots) → IsPlacedSlot k (r + count gone) (expected k r (suc (shape_of k).ex) gone) (suc (shape_of k).ex) gone e → AreApart e gone → (reg : ℕ) → reg < 16
       → Executes k (r + count gone) reg e (get_or (paid_file (machine_after k m).owed (file_late (left_by k m) (file_paid (paid_by k m) m.future))) reg zero_bit) (get_or (paid_file (machine_after k m).owed (file_early e (file_late (left_by k m) (file_paid (paid_by k m) m.future)))) reg zero_bit)
@@ -190,9 +191,10 @@ module _ (k : Setting) (ready : IsReady k) (earlier : List Row) (m : Machine) (r
       (λ reg few. writes (going at.0) at.1 comes apart reg few) (spawns (going at.0) at.1 apart) (subst (λ o. IsFuture k r (paid_file m.owed m.future) o) gone_is future_there) in
       let wide = wide_advanced k ready r (going at.0) at.1 (file_paid (paid_by k m) m.future) (paid_wide k ready earlier m inv) comes leaves in
       subst (λ o. IsFileThen (executed_by k m) o) (sym moved)
-      (subst (λ e. IsFileThen e (advanced (going at.0) at.1)) (sym runs)
-      (subst (λ e. IsFuture k (r + one_more e 0) (paid_file (machine_after k m).owed (file_early (going at.0) (file_late (left_by k m) (file_paid (paid_by k m) m.future)))) (advanced (going at.0) at.1)) (sym out) file,
-      subst (λ e. AreWide (tree_of k) (file_early (going at.0) (file_late e (file_paid (paid_by k m) m.future)))) (sym out) wide)) where
+      (subst (λ e. IsFileThen e (advanced (going at.0) at.1)) (sym runs) (
+        subst (λ e. IsFuture k (r + one_more e 0) (paid_file (machine_after k m).owed (file_early (going at.0) (file_late (left_by k m) (file_paid (paid_by k m) m.future)))) (advanced (going at.0) at.1)) (sym out) file,
+        subst (λ e. AreWide (tree_of k) (file_early (going at.0) (file_late e (file_paid (paid_by k m) m.future)))) (sym out) wide,
+      )) where
         drop_rest : (n : ℕ) (l rest : Slots) (s : Option Token) → drop n l ≡ s ∷ rest → drop (suc n) l ≡ rest
         drop_rest zero [] rest s e = cc
         drop_rest zero (x ∷ l) rest s e = ap (λ (o : Slots). drop 1 o) e

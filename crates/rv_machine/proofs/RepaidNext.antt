@@ -1,6 +1,6 @@
 -- The state behind a row, with what is owed then, is the run's.
-use Rattle.std.proofs.Common.{◌≡◌, ◌≢◌, ◌∙◌, refl, sym, ap, subst, ℕ, zero, suc, ◌+◌, ◌-◌, ◌<◌, ◌≤◌, List, [], ◌∷◌, ◌++◌, length, get_or, Option, Some, None, Bool, true, false, ◌⊎◌, inl, inr, arith}
-use Rattle.std.specs.Prelude.{if◌then◌else◌, ◌==◌, ◌&&◌, ◌||◌, not, is_some, slice_get}
+use Rattle.std.proofs.Common.{◌≡◌, ◌≢◌, ◌∙◌, refl, sym, ap, subst, ℕ, zero, suc, ◌+◌, ◌-◌, ◌<◌, List, [], ◌∷◌, ◌++◌, length, get_or, Option, Some, None, Bool, true, false, inl, inr, arith}
+use Rattle.std.specs.Prelude.{◌==◌, ◌||◌, not, is_some, slice_get}
 use Rattle.std.proofs.lemmas.Bool.{false≢true}
 use Rattle.std.proofs.lemmas.Bool.Decides.{nat_tests}
 use Rattle.ix_plan.specs.declared.design.Target.TheVariants.{X, Custom}
@@ -9,23 +9,23 @@ use Rattle.rv_seq.specs.declared.arch.Arch.{Arch}
 use Rattle.rv_seq.specs.declared.answer.StepAnswer.TheVariants.{Done}
 use Rattle.rv_seq.specs.declared.commit.Commit.{Commit}
 use Rattle.rv_seq.specs.Commits.{applied}
-use Rattle.rv_seq.specs.Steps.{word_at, after, of_word, step}
+use Rattle.rv_seq.specs.Steps.{word_at, after}
 use Rattle.rv_tried.specs.Parts.{native, spawned, paid}
 use Rattle.rv_trace.specs.declared.row.Row.{Row}
 use Rattle.rv_trace.specs.Trace.{place, retirements}
 use Rattle.rv_unit.specs.declared.entry.Entry.{Entry}
 use Rattle.rv_unit.specs.Numbering.{lasts_of}
 use Rattle.rv_holds.specs.declared.token.Token.{Token}
-use Rattle.rv_holds.specs.Tokens.{Slots, or_else}
+use Rattle.rv_holds.specs.Tokens.{Slots}
 use Rattle.rv_holds.specs.Holds.{register_at}
 use Rattle.rv_engine.specs.declared.owing.Owed.{Owed}
-use Rattle.rv_engine.specs.Owing.{holder, paying_among, unpaid_among, owed_by_entering}
+use Rattle.rv_engine.specs.Owing.{holder, unpaid_among, owed_by_entering}
 use Rattle.rv_engine.specs.Settings.{Setting, Machine, shape_of, tree_of}
 use Rattle.rv_engine.specs.Rows.{fill_first, new_by, loaded_by, left_by, native_of, arch_retired, arch_paid, paid_by, into_unit, entering_of, machine_after, IsRowOf, seen_by}
 use Rattle.rv_lawful.specs.Outstanding.{Decoupled, is_register, has_target, touches, outstanding}
 use Rattle.rv_lawful.specs.Sight.{asked, SpawnsNothing}
 use Rattle.rv_sight.specs.Written.{IsAskedFor}
-use Rattle.rv_machine.specs.Owing.{judged, repaid, IsOwing, Owing, Distinct, IsApart, Apart}
+use Rattle.rv_machine.specs.Owing.{judged, repaid, IsOwing, Owing, Distinct, Apart}
 use Rattle.rv_machine.specs.Placed.{run, IsReady, Inv}
 use Rattle.rv_machine.specs.Told.{out_of}
 use Rattle.rv_machine.proofs.Runs.{answer, run_suc, step_at, step_word, kept_word, whole_word}

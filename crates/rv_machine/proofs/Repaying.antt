@@ -1,16 +1,13 @@
 -- With what is owed applied the state behind a row is the run's still.
-use Rattle.std.proofs.Common.{◌≡◌, ◌≢◌, ◌∙◌, refl, sym, ap, subst, ℕ, zero, suc, ◌+◌, ◌-◌, ◌<◌, ◌≤◌, List, [], ◌∷◌, ◌++◌, drop, length, get_or, Option, Some, None, Bool, true, false, ◌⊎◌, inl, inr, arith}
-use Rattle.std.specs.Prelude.{if◌then◌else◌, ◌==◌, ◌&&◌, ◌||◌, not, is_some, slice_get}
-use Rattle.std.proofs.lemmas.Bool.{false≢true}
-use Rattle.std.proofs.lemmas.Bool.Decides.{nat_tests}
+use Rattle.std.proofs.Common.{◌≡◌, ◌≢◌, ◌∙◌, refl, sym, ap, ℕ, ◌<◌, List, [], ◌∷◌, length, get_or, Option, Some, None, Bool, true, false, ◌⊎◌, inl, inr, arith}
+use Rattle.std.specs.Prelude.{if◌then◌else◌, ◌&&◌}
 use Rattle.ix_bits.specs.declared.number.Bits.{Bits}
 use Rattle.ix_eval.proofs.Tables.{table_length, table_at, table_is}
-use Rattle.ix_plan.specs.declared.design.Target.TheVariants.{X, Custom}
 use Rattle.rv_asks.specs.declared.asks.Asks.{Asks}
 use Rattle.rv_seq.specs.declared.arch.Arch.{Arch}
 use Rattle.rv_seq.specs.declared.commit.Commit.{Commit}
 use Rattle.rv_seq.specs.declared.commit.Slot.{Slot}
-use Rattle.rv_seq.specs.declared.commit.Slot.TheVariants.{Absent, Now, Later}
+use Rattle.rv_seq.specs.declared.commit.Slot.TheVariants.{Absent, Now}
 use Rattle.rv_seq.specs.Commits.{slot_of, with_slot, with_customs, with_x, applied}
 use Rattle.rv_seq.specs.States.{zero_bit}
 use Rattle.rv_tried.specs.declared.parts.Spawned.{Spawned}
@@ -26,7 +23,7 @@ use Rattle.rv_engine.specs.Rows.{arch_paid}
 use Rattle.rv_sight.specs.Written.{IsAskedFor}
 use Rattle.rv_machine.specs.Owing.{repaid}
 use Rattle.rv_machine.proofs.Unwritten.{none_first}
-use Rattle.rv_machine.proofs.Swaps.{AreApart, BothPaid, WithRecord, FreeOf, repaid_paid, RecordFree, AllApart}
+use Rattle.rv_machine.proofs.Swaps.{BothPaid, WithRecord, repaid_paid, AllApart}
 
 -- ---- a unit writes before its turn
 

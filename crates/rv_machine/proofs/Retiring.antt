@@ -6,7 +6,7 @@ use Rattle.rv_seq.specs.declared.answer.StepAnswer.{StepAnswer}
 use Rattle.rv_seq.specs.declared.answer.StepAnswer.TheVariants.{Done, Stopped}
 use Rattle.rv_seq.specs.declared.commit.Commit.{Commit}
 use Rattle.rv_seq.specs.Commits.{applied}
-use Rattle.rv_seq.specs.Steps.{after, word_at}
+use Rattle.rv_seq.specs.Steps.{word_at}
 use Rattle.rv_trace.specs.declared.row.Row.{Row}
 use Rattle.rv_trace.specs.Trace.{place, is_flushed, is_retired, retirements}
 use Rattle.rv_holds.specs.declared.token.Token.{Token}
@@ -15,20 +15,19 @@ use Rattle.rv_holds.specs.Flushing.{next_of, settles, struck, cleared}
 use Rattle.rv_engine.specs.Settings.{Setting, Machine, shape_of, tree_of, outstanding_in}
 use Rattle.rv_engine.specs.Rows.{going, leaving, with_serial, retired_of, owed_by, turn_by, seen_by, left_by, IsRowOf, native_of, outstanding_by, arch_retired, arch_paid, written_of, paid_by, native_in, native_tried, entering_of, machine_after, into_unit, owed_tried, owed_in}
 use Rattle.rv_lawful.specs.Outstanding.{architecture, after_retired, after_written}
-use Rattle.rv_machine.specs.Owing.{judged, repaid}
+use Rattle.rv_machine.specs.Owing.{judged}
 use Rattle.rv_machine.specs.Placed.{run, one_more, count, settling_stage, Serials, IsPlaced, IsPlacedSlot, IsReady, Inv}
 use Rattle.rv_machine.specs.Told.{NoStops, out_of, Told, IsBeside}
 use Rattle.rv_machine.proofs.Places.{serials_drop, one_place}
 use Rattle.rv_machine.proofs.Moving.{last_slot, out_going}
-use Rattle.rv_machine.proofs.Runs.{answer, run_suc, kept_word}
+use Rattle.rv_machine.proofs.Runs.{answer, kept_word}
 use Rattle.rv_machine.proofs.Reading.{cleared_read}
 use Rattle.rv_machine.proofs.Ripe.{cleared_ripe}
 use Rattle.rv_machine.proofs.Going.{AreSeen}
 use Rattle.rv_machine.proofs.Moves.{leaving_placed, past_ex}
 use Rattle.rv_machine.proofs.Clearing.{cleared_drop, cleared_placed, cleared_decided, cleared_loaded}
 use Rattle.rv_machine.proofs.Settling.{settles_parts, settled_next, seen_rest}
-use Rattle.rv_machine.proofs.Quiet.{native_same, record_long}
-use Rattle.rv_machine.proofs.Idle.{idle_outstanding, idle_paid, idle_after, quiet_unit, idle_arch}
+use Rattle.rv_machine.proofs.Idle.{idle_outstanding, idle_after, quiet_unit}
 use Rattle.rv_machine.proofs.Meeting.{seen_meets, meets_at}
 use Rattle.rv_machine.proofs.Before as B
 use Rattle.rv_machine.proofs.Flushing as F
