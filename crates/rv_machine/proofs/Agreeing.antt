@@ -1,6 +1,6 @@
 -- Each row that the machine makes agrees with the run.
 use Rattle.std.proofs.Common.{◌≡◌, ℕ, suc, ◌+◌, ◌<◌, ◌≤◌, List, [], ◌∷◌, drop, length, Option, Some, None, Bool, true, false, refl, sym, ap, ◌∙◌, subst, arith}
-use Rattle.std.specs.Prelude.{◌&&◌, ◌||◌, if◌then◌else◌, ◌==◌, is_some, is_none}
+use Rattle.std.specs.Prelude.{◌||◌, if◌then◌else◌, is_some}
 use Rattle.std.proofs.lemmas.List.{length-drop}
 use Rattle.ix_extension.specs.Extensions.{ExtensionTree}
 use Rattle.rv_seq.specs.declared.arch.Arch.{Arch}
@@ -11,26 +11,22 @@ use Rattle.rv_seq.specs.declared.answer.StepAnswer.TheVariants.{Stopped}
 use Rattle.rv_seq.specs.Steps.{word_at, of_word, step}
 use Rattle.rv_seq.specs.Runs.{answer_at}
 use Rattle.rv_trace.specs.declared.row.Cell.{Cell}
-use Rattle.rv_trace.specs.declared.row.Hold.{Hold}
 use Rattle.rv_trace.specs.declared.row.Row.{Row}
-use Rattle.rv_trace.specs.Trace.{place, retirements}
+use Rattle.rv_trace.specs.Trace.{place, is_retired, retirements}
 use Rattle.rv_holds.specs.declared.token.Token.{Token}
-use Rattle.rv_holds.specs.Tokens.{Slots, or_else, stop_of}
-use Rattle.rv_holds.specs.Holds.{drain, staying, drain_hold, own_hold, stops_now, waiting_hold, left_behind, entering}
+use Rattle.rv_holds.specs.Tokens.{Slots, or_else}
+use Rattle.rv_holds.specs.Holds.{staying, stops_now, left_behind, entering}
 use Rattle.rv_holds.specs.Flushing.{slot_stop, remains}
 use Rattle.rv_engine.specs.Settings.{Setting, Machine, shape_of, tree_of}
 use Rattle.rv_engine.specs.Rows.{waited, advanced, retired_of, seen_by, fetch_by, left_by, machine_after}
 use Rattle.rv_lawful.specs.Headline.{IsRecord, IsSpawnWrite, AgreesWithRun}
-use Rattle.rv_lawful.specs.Outstanding.{Written, Decoupled, after_owed, outstanding, after_spawned}
+use Rattle.rv_lawful.specs.Outstanding.{Written, Decoupled, after_owed, outstanding, after_spawned, is_written}
 use Rattle.rv_lawful.specs.Sight.{asked}
-use Rattle.rv_machine.proofs.Quiet.{outstanding_none}
 use Rattle.rv_lawful.specs.LawfulTrace.{StopsRun}
-use Rattle.rv_engine.specs.Rows.{written_of}
-use Rattle.rv_machine.proofs.Idle.{idle_paid}
+use Rattle.rv_engine.specs.Rows.{written_of, paid_by, is_owing, outstanding_by}
 use Rattle.rv_machine.specs.Owing.{judged, IsOwing, Owing, repaid}
 use Rattle.rv_machine.specs.Placed.{run, count, tail, expected, IsReady}
 use Rattle.rv_machine.specs.Told.{out_of}
-use Rattle.rv_machine.proofs.Deciding.{or_else_none, or_else_none_b}
 use Rattle.rv_machine.specs.Made.{Made}
 use Rattle.rv_machine.proofs.Standing.{here_of, At, out_le, out_drop, StayingIs, staying_is}
 use Rattle.rv_machine.proofs.OwnHolds.{ordered, stops_then}
@@ -38,18 +34,12 @@ use Rattle.rv_machine.proofs.Stopping.{stopper, no_stops}
 use Rattle.rv_machine.specs.Left.{Left}
 use Rattle.rv_machine.proofs.Succeeding as S
 use Rattle.rv_machine.proofs.Lawful as L
-use Rattle.rv_machine.proofs.Lawful.{fetch_case}
+use Rattle.rv_machine.proofs.Settled.{none_behind, fetch_case, stop_settled}
+use Rattle.rv_machine.proofs.Owes.{paid_is}
+use Rattle.rv_unit.specs.Numbering.{lasts_of}
 use Rattle.rv_unit.specs.declared.entry.Entry.{Entry}
 use Rattle.rv_engine.specs.declared.owing.Owed.{Owed}
 use Rattle.rv_tried.specs.Parts.{spawned, paid, shown}
-
-drain_none : (o : Option ℕ) → drain o ≡ None → o ≡ None
-drain_none None h = refl
-drain_none (Some j) h = cc
-
-if_so : (c : Bool) (z : Option Hold) → c ≡ true → (if c then z else None) ≡ None → z ≡ None
-if_so true z p q = q
-if_so false z p q = cc
 
 -- where nothing is left behind no older token stays
 none_stays : (t : Token) (older : Slots) → left_behind t older ≡ None → staying older ≡ None
@@ -61,17 +51,7 @@ none_stays t older h = by_case t.beside.left (entering older) h where
 
 -- what stops the run has no older token that stays
 no_drain : (k : Setting) (stage : ℕ) (t : Token) (older : Slots) → stops_now (shape_of k) stage t older ≡ true → staying older ≡ None
-no_drain k stage t older n = by_case (stage == (shape_of k).ex) (is_some (stop_of t)) refl refl (own_hold (shape_of k) stage t older) refl n where
-  by_case : (b d : Bool) → (stage == (shape_of k).ex) ≡ b → is_some (stop_of t) ≡ d → (o : Option Hold) → own_hold (shape_of k) stage t older ≡ o → (b && d && is_none o) ≡ true → staying older ≡ None
-  by_case true true e w None q y =
-      none_stays t older
-      (drain_none (left_behind t older)
-      (if_so (is_some (stop_of t)) (drain (left_behind t older)) w
-      (if_so (stage == (shape_of k).ex) (drain_hold t older) e
-      (or_else_none (if stage == (shape_of k).ex then drain_hold t older else None) _ (or_else_none_b (waiting_hold (shape_of k) stage t older) _ q)))))
-  by_case true true e w (Some h) q y = cc
-  by_case true false e w o q y = cc
-  by_case false d e w o q y = cc
+no_drain k stage t older n = none_stays t older (none_behind k stage t older n)
 
 -- where no token is left, the address is the run's
 expected_empty : (k : Setting) (r stage : ℕ) (l : Slots) → count l ≡ 0 → expected k r stage l ≡ (run k r).pc
@@ -112,6 +92,19 @@ owed_repaid k rows (o ∷ outs) (e ∷ entries) [] s h = absurd h
 owed_repaid k rows (o ∷ outs) (e ∷ entries) (w ∷ owed) s h =
     ap (λ z. after_spawned (judged k) (place rows o.0) ((judged k).course.answer (place rows o.0)) z) (owed_repaid k rows outs entries owed s h.2)
     ∙ owed_one k rows o e w (repaid owed s) h.0
+
+-- what an outstanding instruction owes is what its step spawns
+owing_written : (k : Setting) (rows : List Row) (o : Decoupled) (e : Entry) (w : Owed) → IsOwing k rows o e w → IsSpawnWrite (judged k) rows (w.serial, w.writes.rd_index, w.writes.rd, w.writes.custom)
+owing_written k rows o e w h = record {
+  commit = h.commit;
+  step = ap (λ s. (judged k).course.answer (place rows s)) h.owed ∙ h.step;
+  values =
+      h.writes
+      ∙ ap (λ a. spawned a ((judged k).course.own (place rows o.0)) h.commit) (h.asks ∙ ap (λ c. asked k.design c) (sym h.word))
+      ∙ ap (λ s. spawned (asked k.design h.commit.word) ((judged k).course.own (place rows s)) h.commit) (sym h.owed);
+  retired = ap (λ s. is_retired rows s) h.owed ∙ h.retired;
+  once = ap (λ s. is_written rows s) h.owed ∙ h.unwritten;
+}
 
 module _ (k : Setting) (ready : IsReady k) (earlier : List Row) (m : Machine) (row : Row) (made : Made k earlier m row) (left : Left k earlier m row) where
   -- what is retired
@@ -155,7 +148,7 @@ module _ (k : Setting) (ready : IsReady k) (earlier : List Row) (m : Machine) (r
 
   stop_agrees : (stop : Stop) → row.stop ≡ Some stop → answer_at (tree_of k) k.image (retirements (row ∷ earlier)) ≡ Stopped stop
   stop_agrees stop e = why (slot_stop (shape_of k) 0 (seen_by k m)) refl (sym made.stop_is ∙ e) where
-    why : (o : Option Stop) → slot_stop (shape_of k) 0 (seen_by k m) ≡ o → or_else o (if remains (seen_by k m) || is_some (word_at k.image (fetch_by k m)) then None else Some Fetch) ≡ Some stop → answer_at (tree_of k) k.image (retirements (row ∷ earlier)) ≡ Stopped stop
+    why : (o : Option Stop) → slot_stop (shape_of k) 0 (seen_by k m) ≡ o → or_else o (if remains (seen_by k m) || (is_owing (outstanding_by k m).owed || is_some (word_at k.image (fetch_by k m))) then None else Some Fetch) ≡ Some stop → answer_at (tree_of k) k.image (retirements (row ∷ earlier)) ≡ Stopped stop
     why (Some s) q e =
         let x = stopper k 0 (seen_by k m) stop (q ∙ e) in
         let y = L.stopper_stops k ready earlier m row made stop x in
@@ -164,23 +157,31 @@ module _ (k : Setting) (ready : IsReady k) (earlier : List Row) (m : Machine) (r
         let p = ap (λ (d : Cell). place (row ∷ earlier) d.serial) (sym at.is) ∙ (ordered k ready earlier row (seen_by k m) made.told x.index at.token at.older at.rest at.placed).0.0 ∙ stop_place x.index x.token.cell stop at y.1 ∙ sym left.now in
         ap (λ n. answer_at (tree_of k) k.image n) (sym p) ∙ y.1.due
     why None q e =
-        let f = fetch_case (remains (seen_by k m)) (word_at k.image (fetch_by k m)) stop e in
+        let f = fetch_case (remains (seen_by k m)) (outstanding_by k m).owed (word_at k.image (fetch_by k m)) stop e in
         let gone = empty_tail (advanced None (seen_by k m)) (empty_advanced (seen_by k m) f.0) in
         let at : fetch_by k m ≡ (run k (retirements (row ∷ earlier))).pc = left.fetch (no_stops k 0 (seen_by k m) q) ∙ expected_empty k (retirements (row ∷ earlier)) 1 (tail (advanced None (seen_by k m))) gone in
-        no_word (tree_of k) k.image (run k (retirements (row ∷ earlier))) (ap (λ n. word_at k.image n) (sym at) ∙ f.1) ∙ ap (λ z. Stopped z) (sym f.2)
+        no_word (tree_of k) k.image (run k (retirements (row ∷ earlier))) (ap (λ n. word_at k.image n) (sym at) ∙ f.2) ∙ ap (λ z. Stopped z) (sym f.3)
 
-  none_written : (w : Written) → row.written ≡ Some w → IsSpawnWrite (judged k) earlier w
-  none_written w e = let none : row.written ≡ None = made.is.written ∙ ap written_of (idle_paid k m made.inv.idle) in cc (none, e)
+  -- what is written is owed
+  spawn_written : (w : Written) → row.written ≡ Some w → IsSpawnWrite (judged k) earlier w
+  spawn_written w e = by_paid (paid_by k m) refl where
+    by_paid : (p : Option Owed) → paid_by k m ≡ p → IsSpawnWrite (judged k) earlier w
+    by_paid None q = cc (made.is.written ∙ ap written_of q, e)
+    by_paid (Some v) q =
+        let x = paid_is k earlier (shape_of k).stages (lasts_of k.design.plans) m.entries (outstanding (judged k) earlier) m.entries m.owed v made.inv.owing q in
+        subst (λ z. IsSpawnWrite (judged k) earlier z) (same_written (v.serial, v.writes.rd_index, v.writes.rd, v.writes.custom) w (sym (made.is.written ∙ ap written_of q) ∙ e)) (owing_written k earlier x.0 x.1 v x.2) where
+          same_written : (a b : Written) → ◌≡◌ {A = Option Written} (Some a) (Some b) → a ≡ b
+          same_written a b y = cc
 
   pub agrees : AgreesWithRun (tree_of k) (judged k) earlier row
   agrees = record {
     placed = λ s c e. (retired_at s c e).0;
     recorded = λ s c e. (retired_at s c e).1;
-    written = none_written;
+    written = spawn_written;
     state =
         ap (λ s. after_owed (judged k) (row ∷ earlier) (outstanding (judged k) (row ∷ earlier)) s) left.state
         ∙ owed_repaid k (row ∷ earlier) (outstanding (judged k) (row ∷ earlier)) (machine_after k m).entries (machine_after k m).owed (machine_after k m).arch left.owing
         ∙ left.applied;
     stop = stop_agrees;
-    settled = λ stop e. outstanding_none (judged k) ready.quiet.asks (row ∷ earlier);
+    settled = stop_settled k ready earlier m row made.inv made.is;
   }

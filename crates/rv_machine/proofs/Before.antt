@@ -15,18 +15,31 @@ use Rattle.rv_holds.specs.Tokens.{Slots}
 use Rattle.rv_holds.specs.Flushing.{next_of, settles, settled, nearest, mismatch, turn_of, struck}
 use Rattle.rv_engine.specs.Settings.{Setting, Machine, shape_of, tree_of, outstanding_in}
 use Rattle.rv_engine.specs.Rows.{fill_first, trying, loading, owed_by, new_by, read_by, held_by, loaded_by, turn_by, seen_by}
-use Rattle.rv_machine.specs.Placed.{run, count, tail, settling_stage, expected_after, expected, owed_write, paid_late, IsFuture, Placed, IsReady, Inv}
+use Rattle.rv_machine.specs.Placed.{run, count, tail, settling_stage, expected_after, expected, owed_write, paid_late, IsFuture, Placed, IsReady, Inv, paid_file}
 use Rattle.rv_machine.specs.Told.{Decided, NoStops}
 use Rattle.rv_machine.proofs.Deciding.{decided_is}
 use Rattle.rv_machine.proofs.Moving.{fill_length}
 use Rattle.rv_machine.proofs.Filling.{fill_placed}
-use Rattle.rv_machine.proofs.Reading.{AlikeSlot, Alike, IsAlike, alike_length, alike_count, reading_alike, trying_alike, decided_alike, loading_alike, Read, reading_placed, reading_read, trying_read, decided_read, loading_read, cleared_read, all_decided}
-use Rattle.rv_machine.proofs.Trying.{at_ex, trying_placed}
+use Rattle.rv_machine.proofs.Reading.{AlikeSlot, Alike, IsAlike, alike_length, alike_count, reading_alike, trying_alike, decided_alike, loading_alike, Read, AreUnowed, reading_placed, reading_read, trying_read, decided_read, loading_read, cleared_read, all_decided}
+use Rattle.rv_machine.proofs.Trying.{at_ex, trying_placed, Boards}
 use Rattle.rv_machine.proofs.Loading.{Loaded, loading_decided, loading_placed, loading_loaded}
 use Rattle.rv_machine.proofs.Ripe.{Ripe, trying_ripe, decided_ripe, loading_ripe, cleared_ripe}
 use Rattle.rv_machine.proofs.Clearing.{cleared_drop, cleared_length, cleared_placed, cleared_decided, cleared_loaded}
 use Rattle.rv_machine.proofs.Going.{AreSeen}
-use Rattle.rv_machine.proofs.Idle.{idle_arch}
+use Rattle.rv_machine.proofs.Unboarded.{operand_unowed}
+use Rattle.rv_lawful.specs.Outstanding.{outstanding}
+use Rattle.rv_machine.specs.Owing.{judged, Apart}
+use Rattle.rv_machine.proofs.Repaid.{repaid_memory}
+use Rattle.rv_engine.specs.Owing.{Outstanding}
+use Rattle.rv_machine.proofs.Meeting.{Meets, reading_meets}
+use Rattle.rv_machine.proofs.Apart.{alike_apart, filled_apart}
+use Rattle.rv_machine.proofs.PaidFile.{unowed_file}
+
+-- what tokens meet of what is owed
+boards_of : (k : Setting) (o : Outstanding) (stage : ℕ) (slots : Slots) → Meets (shape_of k) o stage slots → Boards k o.owed stage slots
+boards_of k o stage [] h = tt
+boards_of k o stage (None ∷ older) h = (tt, boards_of k o (suc stage) older h.1)
+boards_of k o stage (Some t ∷ older) h = (ap (λ b. b.board) h.0, boards_of k o (suc stage) older h.1)
 
 -- ---- slots that are alike
 
@@ -191,17 +204,19 @@ module _ (k : Setting) (ready : IsReady k) (earlier : List Row) (m : Machine) (i
   pub filled_placed : Placed k r 0 filled
   filled_placed = fill_placed k ready r m.next m.fetch m.future m.slots (word_at k.image m.fetch) inv.placed inv.fetch fetch_word refl inv.future_wide
 
-  arch_is : m.arch ≡ run k r
-  arch_is = idle_arch m (run k r) inv.idle inv.arch
-
-  ranged : (reg : ℕ) → slice_index m.arch.x reg < 2 ^ 32
-  ranged = subst (λ (s : Arch). (reg : ℕ) → slice_index s.x reg < 2 ^ 32) (sym arch_is) (ready.words r)
+  mem_is : m.arch.mem ≡ (run k r).mem
+  mem_is = sym (repaid_memory m.owed m.arch) ∙ ap (λ (s : Arch). s.mem) inv.arch
 
   read_placed : Placed k r 0 (read_by k m)
-  read_placed = reading_placed k ready m.arch.x (owed_by k m) (outstanding_in k m) r 0 filled ranged filled_placed
+  read_placed = reading_placed k ready m.arch.x (owed_by k m) (outstanding_in k m) r 0 filled inv.ranged filled_placed
+
+  -- what nothing that is outstanding owes is the run's
+  are_unowed : AreUnowed m.arch.x (run k r).x (outstanding_in k m)
+  are_unowed a reg lt none is =
+      operand_unowed k earlier (outstanding (judged k) earlier) m.entries m.owed m.arch a reg inv.owing lt none is ∙ ap (λ (s : Arch). slice_index s.x reg) inv.arch
 
   read_read : Read k (run k r).x 0 (read_by k m)
-  read_read = subst (λ (s : Arch). Read k s.x 0 (read_by k m)) arch_is (reading_read k m.arch.x (owed_by k m) (outstanding_in k m) 0 filled)
+  read_read = reading_read k m.arch.x (run k r).x (owed_by k m) (outstanding_in k m) 0 filled are_unowed
 
   -- past stage 0 the slots are those from before the row
   read_from : (n : ℕ) → Alike (drop (suc n) m.slots) (drop (suc n) (read_by k m))
@@ -209,13 +224,20 @@ module _ (k : Setting) (ready : IsReady k) (earlier : List Row) (m : Machine) (i
       subst (λ l. Alike l (drop (suc n) (read_by k m))) (drop_filled n (new_by k m) m.slots)
       (alike_drop (suc n) filled (read_by k m) (reading_alike (shape_of k) m.arch.x (owed_by k m) (outstanding_in k m) 0 filled))
 
-  future_there : IsFuture k r m.future (drop (suc (shape_of k).ex) (read_by k m))
-  future_there = alike_future k r m.future (drop (suc (shape_of k).ex) m.slots) (drop (suc (shape_of k).ex) (read_by k m)) (read_from (shape_of k).ex) inv.future
+  future_there : IsFuture k r (paid_file m.owed m.future) (drop (suc (shape_of k).ex) (read_by k m))
+  future_there = alike_future k r (paid_file m.owed m.future) (drop (suc (shape_of k).ex) m.slots) (drop (suc (shape_of k).ex) (read_by k m)) (read_from (shape_of k).ex) inv.future
+
+  read_apart : Apart k m.owed 0 (read_by k m)
+  read_apart =
+      alike_apart k m.owed 0 filled (read_by k m) (reading_alike (shape_of k) m.arch.x (owed_by k m) (outstanding_in k m) 0 filled)
+      (filled_apart k m.owed (new_by k m) m.slots ready.rd_pos inv.apart)
 
   tried_placed : Placed k r 0 tried_slots
   tried_placed =
-      trying_placed k ready r 0 (read_by k m) m.arch.mem m.future inv.future_wide read_placed read_read
-      (at_ex k r m.future 0 (shape_of k).ex (read_by k m) (omega arith) future_there)
+      trying_placed k ready r 0 (read_by k m) m.arch.mem m.future (paid_file m.owed m.future) m.owed
+      (unowed_file k earlier (outstanding (judged k) earlier) m.entries m.owed m.future inv.owing) inv.future_wide read_placed read_read
+      (at_ex k r (paid_file m.owed m.future) 0 (shape_of k).ex (read_by k m) (omega arith) future_there)
+      read_apart (boards_of k (outstanding_in k m) 0 (read_by k m) (reading_meets (shape_of k) m.arch.x (owed_by k m) (outstanding_in k m) 0 filled))
 
   pub held_placed : Placed k r 0 (held_by k m)
   held_placed = all_decided k r 0 tried_slots tried_placed
@@ -224,7 +246,7 @@ module _ (k : Setting) (ready : IsReady k) (earlier : List Row) (m : Machine) (i
   held_decided = decided_is k 0 tried_slots
 
   loaded_same : (P : Slots → Type 0) → P (loading (tree_of k) (shape_of k) (run k r).mem 0 (held_by k m)) → P (loaded_by k m)
-  loaded_same P h = subst (λ (s : Arch). P (loading (tree_of k) (shape_of k) s.mem 0 (held_by k m))) (sym arch_is) h
+  loaded_same P h = subst (λ memory. P (loading (tree_of k) (shape_of k) memory 0 (held_by k m))) (sym mem_is) h
 
   pub loaded_placed : Placed k r 0 (loaded_by k m)
   loaded_placed = loaded_same (λ l. Placed k r 0 l) (loading_placed k ready r 0 (held_by k m) held_placed held_decided)

@@ -26,8 +26,9 @@ use Rattle.rv_machine.specs.Left.{Left}
 use Rattle.rv_machine.proofs.Lawful as L
 use Rattle.rv_machine.proofs.Agreeing as A
 use Rattle.rv_machine.proofs.NextCounts as C
-use Rattle.rv_machine.proofs.Idle.{idle_owing}
 use Rattle.rv_machine.proofs.FewEntries.{few_next}
+use Rattle.rv_machine.proofs.OwingNext as O
+use Rattle.rv_machine.proofs.RepaidNext as P
 
 same_tails : (a b : Slots) → Alike a b → tails_of b ≡ tails_of a
 same_tails [] [] h = refl
@@ -63,8 +64,8 @@ module _ (k : Setting) (ready : IsReady k) (earlier : List Row) (m : Machine) (r
         recorded = recorded;
         now = R.retired_now k ready earlier m row inv is;
         state = R.architecture_now k ready earlier m row inv is;
-        applied = R.state_now k ready earlier m row inv is;
-        owing = idle_owing k ready (row ∷ earlier) (machine_after k m) (R.idle_next k ready earlier m row inv is);
+        applied = P.repaid_next k ready earlier m row inv is;
+        owing = O.owing_next k ready earlier m row inv is;
         fetch = λ none. N.next_fetch k ready earlier m inv none ∙ ap (λ n. expected k n 1 (tail (advanced None (seen_by k m)))) retired_is;
       }
 

@@ -15,7 +15,7 @@ use Rattle.rv_holds.specs.Tokens.{Slots, cell_of, cells_of}
 use Rattle.rv_engine.specs.Settings.{Setting, shape_of, first_machine}
 use Rattle.rv_engine.specs.Rows.{first_slot, owed_by}
 use Rattle.rv_lawful.specs.Settings.{Course, accesses_before}
-use Rattle.rv_lawful.specs.Outstanding.{architecture}
+use Rattle.rv_lawful.specs.Outstanding.{architecture, is_written}
 use Rattle.rv_lawful.specs.LawfulTrace.{fetch_address, next_serial}
 use Rattle.rv_machine.specs.Owing.{judged}
 use Rattle.rv_machine.specs.Placed.{run, count, tail, expected, past_ex, paid_late, to_go, Placed, Serials, IsReady, Inv}
@@ -87,7 +87,7 @@ none_below : (s : ℕ) → nat_lt s 0 ≡ false
 none_below s = grind (arith, nat_tests)
 
 pub first : (k : Setting) (ready : IsReady k) → Inv k [] (first_machine k)
-unfolding retirements is_flushed is_retired place fetch_address next_serial seq_run first_state architecture rows_without
+unfolding retirements is_flushed is_retired is_written place fetch_address next_serial seq_run first_state architecture rows_without
 first k ready =
     let n = (shape_of k).stages in
     let most = ready.most in
@@ -98,6 +98,7 @@ first k ready =
     record {
       stages = long_none n;
       arch = refl;
+      ranged = ready.words 0;
       next_place = omega (arith, c);
       next_first = first_none n;
       fetch = sym t;
@@ -127,6 +128,7 @@ first k ready =
       timed = tt;
       distinct = tt;
       apart = idle_apart k ready (first_machine k) 0 (refl, refl) (placed_none k 0 n);
+      paid = λ s e. cc e;
       few_entries = omega arith;
       idle = (refl, refl);
       state = refl;

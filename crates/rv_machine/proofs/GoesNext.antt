@@ -3,7 +3,7 @@ use Rattle.std.proofs.Common.{◌≡◌, ℕ, ◌+◌, ◌≤◌, List, ◌∷�
 use Rattle.std.specs.Prelude.{nat_lt}
 use Rattle.rv_effect.specs.WordEffects.{AreWide}
 use Rattle.rv_trace.specs.declared.row.Row.{Row}
-use Rattle.rv_trace.specs.Trace.{place, retirements, rows_without}
+use Rattle.rv_trace.specs.Trace.{place, rows_without}
 use Rattle.rv_waits.specs.Waits.{greatest}
 use Rattle.rv_holds.specs.declared.token.Token.{Token}
 use Rattle.rv_holds.specs.Tokens.{Slots}
@@ -18,10 +18,14 @@ use Rattle.rv_machine.proofs.Before as B
 use Rattle.rv_machine.proofs.Flushing as F
 use Rattle.rv_machine.proofs.Retiring as R
 use Rattle.rv_machine.proofs.NextRow as N
-use Rattle.rv_machine.proofs.Idle.{idle_owing, idle_units, idle_timed, idle_distinct, idle_apart}
 use Rattle.rv_machine.proofs.Worded as W
 use Rattle.rv_machine.proofs.Counting as C
 use Rattle.rv_machine.proofs.FewEntries.{few_next}
+use Rattle.rv_machine.proofs.OwingNext as O
+use Rattle.rv_machine.proofs.RepaidNext as P
+use Rattle.rv_machine.proofs.ApartNext as A
+use Rattle.rv_machine.proofs.Ranged.{ranged_next}
+use Rattle.rv_machine.proofs.UnitsNext as U
 
 -- for how many rows each module still goes on after the row
 abbrev pub TailsAfter : Setting → List Row → Slots → Type 0
@@ -39,7 +43,8 @@ module _ (k : Setting) (ready : IsReady k) (earlier : List Row) (m : Machine) (r
       let now = R.retired_now k ready earlier m row inv is in
       record {
         stages = advanced_length None (seen_by k m) ∙ B.seen_length k ready earlier m inv;
-        arch = R.state_now k ready earlier m row inv is;
+        arch = P.repaid_next k ready earlier m row inv is;
+        ranged = ranged_next k ready earlier m row inv is;
         next_place = F.seen_count k ready earlier m row inv is ∙ omega (arith, c, now);
         next_first = N.next_first k ready earlier m row inv is;
         fetch = N.fetch_next k ready earlier m row inv is e;
@@ -60,12 +65,13 @@ module _ (k : Setting) (ready : IsReady k) (earlier : List Row) (m : Machine) (r
         fresh = F.fresh_now k ready earlier m row inv is;
         retired = λ s alive. R.told_retired k ready earlier m row inv is s alive ∙ ap (λ n. nat_lt (place (row ∷ earlier) s) n) (sym now);
         unflushed = F.unflushed_next k ready earlier m row inv is;
-        owing = idle_owing k ready (row ∷ earlier) (machine_after k m) (R.idle_next k ready earlier m row inv is);
+        owing = O.owing_next k ready earlier m row inv is;
+        paid = O.paid_next k ready earlier m row inv is;
         worded = W.worded_next k ready earlier m row inv is;
-        units = idle_units k ready (row ∷ earlier) (machine_after k m) (R.idle_next k ready earlier m row inv is);
-        timed = idle_timed k ready (row ∷ earlier) (machine_after k m) (R.idle_next k ready earlier m row inv is);
-        distinct = idle_distinct k ready (row ∷ earlier) (machine_after k m) (R.idle_next k ready earlier m row inv is);
-        apart = idle_apart k ready (machine_after k m) (retirements (row ∷ earlier)) (R.idle_next k ready earlier m row inv is) (N.placed_next k ready earlier m row inv is e);
+        units = U.units_next k ready earlier m row inv is;
+        timed = U.timed_next k ready earlier m row inv is;
+        distinct = A.distinct_next k ready earlier m row inv is;
+        apart = A.apart_next k ready earlier m row inv is (N.no_stop k ready earlier m row inv is e);
         few_entries = few_next k ready earlier m row inv is;
         idle = R.idle_next k ready earlier m row inv is;
         state = R.architecture_now k ready earlier m row inv is;

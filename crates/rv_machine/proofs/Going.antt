@@ -1,5 +1,5 @@
 -- A token that goes on stands in its place in the next stage.
-use Rattle.std.proofs.Common.{◌≡◌, ℕ, suc, ◌+◌, ◌<◌, ◌≤◌, [], ◌∷◌, Option, Some, None, Bool, true, false, refl, sym, ap, ◌∙◌, arith, inl, inr}
+use Rattle.std.proofs.Common.{◌≡◌, ℕ, suc, ◌+◌, ◌<◌, ◌≤◌, [], ◌∷◌, Option, Some, None, Bool, true, false, refl, sym, ap, ◌∙◌, subst, arith, inl, inr}
 use Rattle.std.specs.Prelude.{◌||◌, if◌then◌else◌, ◌==◌, is_some, slice_index}
 use Rattle.std.proofs.lemmas.Bool.{cases_lt}
 use Rattle.rv_core.specs.declared.Shape.{Shape}
@@ -9,14 +9,15 @@ use Rattle.rv_trace.specs.declared.row.Hold.TheVariants.{Behind}
 use Rattle.rv_tried.specs.declared.trial.Trial.{Trial}
 use Rattle.rv_holds.specs.declared.token.Token.{Token}
 use Rattle.rv_holds.specs.Tokens.{Slots, or_else, stop_in, tried_stop}
-use Rattle.rv_holds.specs.Holds.{oldest, is_late, waiting_hold, own_hold, stops_now, is_blocked, shown}
+use Rattle.rv_holds.specs.Holds.{oldest, is_late, waiting_hold, own_hold, stops_now, is_blocked, shown, register_count, spawner, least_from}
 use Rattle.rv_engine.specs.Settings.{Setting, shape_of}
 use Rattle.rv_engine.specs.Rows.{going, first_slot}
 use Rattle.rv_machine.specs.Placed.{run, count, expected, IsPlaced, IsPlacedSlot, Placed, IsReady, IsExact}
 use Rattle.rv_machine.specs.Told.{Decided, NoStops}
-use Rattle.rv_machine.proofs.Deciding.{or_else_none_b, is_none_of, if_none, test_eq, test_past, own_none, not_due, no_waiting, waits_operand, waits_late, decided_tail, no_stops_tail}
-use Rattle.rv_machine.proofs.Reading.{Read}
+use Rattle.rv_machine.proofs.Deciding.{or_else_none_b, is_none_of, if_none, test_eq, test_past, own_none, not_due, no_waiting, waits_operand, waits_board, waits_late, decided_tail, no_stops_tail}
+use Rattle.rv_machine.proofs.Reading.{Read, first_few, second_few}
 use Rattle.rv_machine.proofs.Operands.{OnPath, on_path, operands_ready}
+use Rattle.rv_machine.proofs.Unboarded.{board_parts}
 use Rattle.rv_machine.proofs.Trying.{late_clear}
 use Rattle.rv_machine.proofs.Loading.{Loaded}
 use Rattle.rv_machine.proofs.Ripe.{Ripe}
@@ -82,30 +83,38 @@ module _ (k : Setting) (ready : IsReady k) (r stage : ℕ) (t : Token) (older : 
   waiting : waiting_hold (shape_of k) stage t older ≡ None
   waiting = no_waiting (shape_of k) stage t older own
 
-  operands : stage ≡ (shape_of k).rd → (slice_index (run k r).x t.asks.first ≡ slice_index (run k (r + count older)).x t.asks.first) × (slice_index (run k r).x t.asks.second ≡ slice_index (run k (r + count older)).x t.asks.second)
+  -- nothing outstanding owes it a register, and no older token spawns one
+  unboarded : stage ≡ (shape_of k).rd → (t.beside.board ≡ None) × (least_from (spawner older t.asks) 0 register_count ≡ None)
+  unboarded e = board_parts t older (waits_board (shape_of k) stage t older waiting e)
+
+  free_board : stage ≡ (shape_of k).rd → t.beside.board ≡ None
+  free_board e = (unboarded e).0
+
+  operands : stage ≡ (shape_of k).rd
+      → (t.asks.first < 32 → slice_index (run k r).x t.asks.first ≡ slice_index (run k (r + count older)).x t.asks.first) × (t.asks.second < 32 → slice_index (run k r).x t.asks.second ≡ slice_index (run k (r + count older)).x t.asks.second)
   operands e =
       let near = ready.ex_rd in
       operands_ready k ready r (suc stage) older t.asks (omega (arith, near, e)) h.placed.1
-      (path_ahead k r (suc stage) older (omega (arith, near, e)) h.placed.1 h.decided.1 (not_blocked (shape_of k) stage t older h.decided.0 free stops)) (waits_operand (shape_of k) stage t older waiting e)
+      (path_ahead k r (suc stage) older (omega (arith, near, e)) h.placed.1 h.decided.1 (not_blocked (shape_of k) stage t older h.decided.0 free stops)) (waits_operand (shape_of k) stage t older waiting e) (unboarded e).1
 
   first_case : (b : Bool) → (stage == (shape_of k).rd) ≡ b → (shape_of k).rd < suc stage → rs1_of t.cell.word ≡ t.asks.first → t.inputs.rs1 ≡ slice_index (run k (r + count older)).x (rs1_of t.cell.word)
   first_case false e lt q = here.first (test_past (shape_of k).rd stage e lt) q
   first_case true e lt q =
       let at = test_eq stage (shape_of k).rd e in
-      (h.read.0 at).0
+      (h.read.0 at (free_board at)).0 (ap rs1_of here.input_word ∙ q)
       ∙ ap (λ w. slice_index (run k r).x (rs1_of w)) here.input_word
       ∙ ap (λ n. slice_index (run k r).x n) q
-      ∙ (operands at).0
+      ∙ (operands at).0 (subst (λ n. n < 32) q (first_few t.cell.word))
       ∙ ap (λ n. slice_index (run k (r + count older)).x n) (sym q)
 
   second_case : (b : Bool) → (stage == (shape_of k).rd) ≡ b → (shape_of k).rd < suc stage → rs2_of t.cell.word ≡ t.asks.second → t.inputs.rs2 ≡ slice_index (run k (r + count older)).x (rs2_of t.cell.word)
   second_case false e lt q = here.second (test_past (shape_of k).rd stage e lt) q
   second_case true e lt q =
       let at = test_eq stage (shape_of k).rd e in
-      (h.read.0 at).1
+      (h.read.0 at (free_board at)).1 (ap rs2_of here.input_word ∙ q)
       ∙ ap (λ w. slice_index (run k r).x (rs2_of w)) here.input_word
       ∙ ap (λ n. slice_index (run k r).x n) q
-      ∙ (operands at).1
+      ∙ (operands at).1 (subst (λ n. n < 32) q (second_few t.cell.word))
       ∙ ap (λ n. slice_index (run k (r + count older)).x n) (sym q)
 
   one_tried : (o : Option Trial) → is_some o ≡ true → tried_stop o ≡ None → (trial : Trial) × (o ≡ Some trial) × (stop_in trial.answer ≡ None)

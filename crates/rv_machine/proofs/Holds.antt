@@ -113,7 +113,7 @@ module _ (k : Setting) (ready : IsReady k) (earlier : List Row) (row : Row) (see
           by_case None q false w x = cc
 
         last_kind : (h : Hold) → OwnHold (judged k) earlier row stage t.cell h → ComesFirst h Behind
-        last_kind h o = let lt = own_kind (judged k) ready.quiet.asks earlier row stage t.cell h o in inl (omega (arith, lt))
+        last_kind h o = let lt = own_kind (judged k) earlier row stage t.cell h o in inl (omega (arith, lt))
 
         first_true : (h g : Hold) → shown (shape_of k) stage t older ≡ Some h → TrueHold (judged k) earlier row stage t.cell g → ComesFirst h g
         first_true h g e o = by_case (own_hold (shape_of k) stage t older) refl (is_blocked (shape_of k) (suc stage) older) refl (parts h e).1 o where

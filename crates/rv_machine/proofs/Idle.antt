@@ -1,6 +1,6 @@
 -- Where nothing is spawned, nothing is outstanding beside the stages, and no token meets anything there.
 use Rattle.std.proofs.Common.{◌≡◌, ℕ, zero, suc, List, [], ◌∷◌, Option, Some, None, Bool, true, false, refl, sym, ap, ◌∙◌, subst}
-use Rattle.std.specs.Prelude.{if◌then◌else◌, ◌&&◌, ◌==◌, is_some, is_none, IfSome}
+use Rattle.std.specs.Prelude.{if◌then◌else◌, ◌==◌, IfSome}
 use Rattle.rv_asks.specs.declared.asks.Asks.{Asks}
 use Rattle.rv_seq.specs.declared.arch.Arch.{Arch}
 use Rattle.rv_unit.specs.declared.entry.Entry.{Entry}
@@ -8,7 +8,7 @@ use Rattle.rv_unit.specs.Numbering.{lasts_of}
 use Rattle.rv_holds.specs.declared.token.Beside.{Beside}
 use Rattle.rv_holds.specs.declared.token.Token.{Token}
 use Rattle.rv_holds.specs.Tokens.{Slots, or_else}
-use Rattle.rv_holds.specs.Holds.{oldest, register_at, spawns_at, spawner, numbered, least_from, lower_of, board, board_hold, entering, register_count}
+use Rattle.rv_holds.specs.Holds.{oldest, register_at, spawns_at, numbered, least_from, register_count}
 use Rattle.rv_engine.specs.declared.owing.Owed.{Owed}
 use Rattle.rv_engine.specs.Owing.{Outstanding, outstanding_of, board_of, holder_for, paying, unit_hold, port_serial, port_hold, retiring_hold, beside_of, outstanding_after}
 use Rattle.rv_engine.specs.Settings.{Setting, Machine, shape_of, outstanding_in}
@@ -20,7 +20,6 @@ use Rattle.rv_machine.proofs.Quiet.{no_target, outstanding_none, units_none}
 use Rattle.rv_machine.specs.Owing.{judged, repaid, Owing, Distinct, Apart}
 use Rattle.rv_trace.specs.declared.row.Row.{Row}
 use Rattle.rv_unit.specs.Slots.{units_of}
-use Rattle.rv_unit.specs.Timed.{IsTimed}
 use Rattle.rv_unit.proofs.Numbered.{first_law}
 
 -- nothing is met
@@ -102,9 +101,6 @@ module _ (k : Setting) (ready : IsReady k) (rows : List Row) (m : Machine) (idle
       ∙ sym (first_law (shape_of k).stages k.design.plans)
       ∙ ap (λ (e : List Entry). units_of (shape_of k).stages (lasts_of k.design.plans) e) (sym idle.0)
 
-  pub idle_timed : IsTimed (shape_of k).stages (lasts_of k.design.plans) m.entries
-  idle_timed = subst (λ (e : List Entry). IsTimed (shape_of k).stages (lasts_of k.design.plans) e) (sym idle.0) tt
-
   pub idle_distinct : Distinct m.owed
   idle_distinct = subst (λ (w : List Owed). Distinct w) (sym idle.1) tt
 
@@ -126,19 +122,6 @@ module _ (k : Setting) (ready : IsReady k) where
       not_true (has_target t.asks (register_at n)) (λ e. no_target (asked k.design t.cell.word) (ready.quiet.asks t.cell.word) (register_at n) (ap (λ (a : Asks). has_target a (register_at n)) (sym h.0.asks) ∙ e)) in
       ap (λ o. or_else o (if has_target t.asks (register_at n) then Some t.cell.serial else None)) (quiet_spawns r (suc stage) older h.1 n)
       ∙ ap (λ (b : Bool). if b then Some t.cell.serial else None) none
-
-  pub quiet_entering : (r stage : ℕ) (older : Slots) → Placed k r stage older → entering older ≡ None
-  quiet_entering r stage [] h = refl
-  quiet_entering r stage (None ∷ []) h = refl
-  quiet_entering r stage (Some t ∷ []) h =
-      let none = quiet_unit t.cell.word t.asks h.0.asks in
-      ap (λ (u : Option ℕ). if is_some u && is_none t.cell.hold then Some t.cell.serial else None) none
-  quiet_entering r stage (s ∷ u ∷ older) h = quiet_entering r (suc stage) (u ∷ older) h.1
-
-  pub quiet_board : (r stage : ℕ) (t : Token) (older : Slots) → t.beside ≡ alone → Placed k r stage older → board_hold t older ≡ None
-  quiet_board r stage t older e h =
-      ap (λ b. board (lower_of b.board (least_from (spawner older t.asks) 0 register_count))) e
-      ∙ ap board (least_nothing (spawner older t.asks) 0 register_count (λ n. ap (λ (o : Option ℕ). if touches t.asks (register_at n) then o else None) (quiet_spawns r stage older h n) ∙ if_none (touches t.asks (register_at n))))
 
   none_apart : (r stage : ℕ) (slots : Slots) → Placed k r stage slots → Apart k [] stage slots
   none_apart r stage [] h = tt

@@ -20,12 +20,12 @@ use Rattle.rv_holds.specs.Tokens.{Slots, or_else, stop_of, cell_of, cells_of}
 use Rattle.rv_holds.specs.Holds.{is_late, stops_now}
 use Rattle.rv_holds.specs.Flushing.{struck, slot_stop, remains}
 use Rattle.rv_engine.specs.Settings.{Setting, Machine, shape_of}
-use Rattle.rv_engine.specs.Rows.{fill_first, going, retired_of, new_by, loaded_by, turn_by, seen_by, fetch_by, left_by, written_of}
+use Rattle.rv_engine.specs.Rows.{fill_first, going, retired_of, new_by, loaded_by, turn_by, seen_by, fetch_by, left_by, is_owing, outstanding_by}
 use Rattle.rv_lawful.specs.Settings as Lawful
 use Rattle.rv_lawful.specs.LawfulTrace.{fetch_address, next_serial, new_cell, Moves, Retires, WaitsForJump, StopsRun, IsEmptyAfter, StopsRightly, IsInForm, LawfulRow}
-use Rattle.rv_lawful.specs.Outstanding.{serial_written, outstanding}
-use Rattle.rv_machine.proofs.Quiet.{written_none, outstanding_none}
-use Rattle.rv_machine.proofs.Idle.{idle_paid}
+use Rattle.rv_lawful.specs.Outstanding.{outstanding}
+use Rattle.rv_machine.proofs.UnitsNext.{writes_unit}
+use Rattle.rv_machine.proofs.Settled.{fetch_case, none_left, owed_settled, settled_owed}
 use Rattle.rv_machine.specs.Owing.{judged}
 use Rattle.rv_machine.specs.Placed.{IsReady}
 use Rattle.rv_machine.proofs.Places.{stood, token_order}
@@ -69,11 +69,6 @@ empty_drop zero zero = tt
 empty_drop zero (suc m) = empty_drop zero m
 empty_drop (suc n) zero = tt
 empty_drop (suc n) (suc m) = empty_drop n m
-
-pub fetch_case : (b : Bool) (o : Option ℕ) (stop : Stop) → (if b || is_some o then None else Some Fetch) ≡ Some stop → (b ≡ false) × (o ≡ None) × (stop ≡ Fetch)
-fetch_case true o stop h = cc
-fetch_case false None stop h = (refl, refl, cc)
-fetch_case false (Some w) stop h = cc
 
 module _ (k : Setting) (ready : IsReady k) (earlier : List Row) (m : Machine) (row : Row) (made : Made k earlier m row) where
   abbrev flushed : ℕ
@@ -252,30 +247,30 @@ module _ (k : Setting) (ready : IsReady k) (earlier : List Row) (m : Machine) (r
   row_stops =
       record {
         cause = λ stop e. why stop (slot_stop (shape_of k) 0 (seen_by k m)) refl (sym made.stop_is ∙ e);
-        of_cell = λ stage c stop stands s. made.stop_is ∙ ap (λ o. or_else o (if remains (seen_by k m) || is_some (word_at k.image (fetch_by k m)) then None else Some Fetch)) (ex_left stage c stop stands s (unflushed stage c stop stands s));
-        of_fetch = λ f o w. made.stop_is ∙ nothing_left f w (slot_stop (shape_of k) 0 (seen_by k m)) refl;
+        of_cell = λ stage c stop stands s. made.stop_is ∙ ap (λ o. or_else o (if remains (seen_by k m) || (is_owing (outstanding_by k m).owed || is_some (word_at k.image (fetch_by k m))) then None else Some Fetch)) (ex_left stage c stop stands s (unflushed stage c stop stands s));
+        of_fetch = λ f o w. made.stop_is ∙ nothing_left f o w (slot_stop (shape_of k) 0 (seen_by k m)) refl;
       } where
-        why : (stop : Stop) (o : Option Stop) → slot_stop (shape_of k) 0 (seen_by k m) ≡ o → or_else o (if remains (seen_by k m) || is_some (word_at k.image (fetch_by k m)) then None else Some Fetch) ≡ Some stop
+        why : (stop : Stop) (o : Option Stop) → slot_stop (shape_of k) 0 (seen_by k m) ≡ o → or_else o (if remains (seen_by k m) || (is_owing (outstanding_by k m).owed || is_some (word_at k.image (fetch_by k m))) then None else Some Fetch) ≡ Some stop
             → ((stage : ℕ) × (c : Cell) × Lawful.Stands (judged k) row stage c × StopsRun (judged k) earlier row stage c stop) ⊎ ((stop ≡ Fetch) × IsEmptyAfter (judged k) row × (outstanding (judged k) (row ∷ earlier) ≡ []) × (word_at k.image (fetch_address (judged k) (row ∷ earlier)) ≡ None))
         why stop (Some s) q e =
             let x = stopper k 0 (seen_by k m) stop (q ∙ e) in
             let y = stopper_stops stop x in
             inl (x.index, x.token.cell, y.0, y.1)
         why stop None q e =
-            let f = fetch_case (remains (seen_by k m)) (word_at k.image (fetch_by k m)) stop e in
-            inr (f.2, empty_after f.0, outstanding_none (judged k) ready.quiet.asks (row ∷ earlier), ap (λ n. word_at k.image n) (sym (S.fetch_now k ready earlier m row made)) ∙ f.1)
+            let f = fetch_case (remains (seen_by k m)) (outstanding_by k m).owed (word_at k.image (fetch_by k m)) stop e in
+            inr (f.3, empty_after f.0, owed_settled k ready earlier m row made.inv made.is f.1, ap (λ n. word_at k.image n) (sym (S.fetch_now k ready earlier m row made)) ∙ f.2)
 
-        nothing_left : IsEmptyAfter (judged k) row → word_at k.image (fetch_address (judged k) (row ∷ earlier)) ≡ None → (o : Option Stop) → slot_stop (shape_of k) 0 (seen_by k m) ≡ o → or_else o (if remains (seen_by k m) || is_some (word_at k.image (fetch_by k m)) then None else Some Fetch) ≡ Some Fetch
-        nothing_left f w None q =
+        nothing_left : IsEmptyAfter (judged k) row → outstanding (judged k) (row ∷ earlier) ≡ [] → word_at k.image (fetch_address (judged k) (row ∷ earlier)) ≡ None → (o : Option Stop) → slot_stop (shape_of k) 0 (seen_by k m) ≡ o → or_else o (if remains (seen_by k m) || (is_owing (outstanding_by k m).owed || is_some (word_at k.image (fetch_by k m))) then None else Some Fetch) ≡ Some Fetch
+        nothing_left f z w None q =
             let e = after_empty f in
             let a = ap (λ n. word_at k.image n) (S.fetch_now k ready earlier m row made) ∙ w in
-            rw (e, a)
-        nothing_left f w (Some s) q =
+            none_left (remains (seen_by k m)) (outstanding_by k m).owed (word_at k.image (fetch_by k m)) e (settled_owed k ready earlier m row made.inv made.is z) a
+        nothing_left f z w (Some s) q =
             let x = stopper k 0 (seen_by k m) s q in
             let y = stopper_stops s x in
             let ex = y.1.executing in
             let last = ready.ex_last in
-            elim (f x.index x.token.cell y.0) [ inl z ↦ cc (made.kept x.index x.token (here_of (seen_by k m) x.older x.token x.index x.rest), z) | inr z ↦ absurd (omega (arith, ex, last, z.0)) ]
+            elim (f x.index x.token.cell y.0) [ inl y ↦ cc (made.kept x.index x.token (here_of (seen_by k m) x.older x.token x.index x.rest), y) | inr y ↦ absurd (omega (arith, ex, last, y.0)) ]
 
   row_form : IsInForm (judged k) row
   row_form = record { behind = subst AreEmpty (sym made.is.behind) (empty_drop (shape_of k).stages 5); ascending = made.ascends }
@@ -288,7 +283,7 @@ module _ (k : Setting) (ready : IsReady k) (earlier : List Row) (m : Machine) (r
     retires = row_retires;
     holds = λ stage c stands. shows k ready earlier row (seen_by k m) made.told stage c stands;
     successors = S.row_successors k ready earlier m row made;
-    units = ap serial_written (made.is.written ∙ ap written_of (idle_paid k m made.inv.idle)) ∙ sym (written_none (judged k) ready.quiet.asks ready.quiet.units earlier);
+    units = writes_unit k ready earlier m row made.inv made.is;
     untaken = made.is.taken;
     stops = row_stops;
   }

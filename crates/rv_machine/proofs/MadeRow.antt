@@ -47,7 +47,7 @@ made k ready earlier m row inv is =
       flushed_from = F.flushed_from k ready earlier m row inv is;
       ascends = F.row_ascends k ready earlier m row inv is;
       names_pc = R.names_pc k ready earlier m row inv is;
-      stop_is = R.stop_now k ready earlier m row inv is;
+      stop_is = is.stop;
       retires = retires;
     } where
       retires : (t : Token) → left_by k m ≡ Some t → (c : Commit) × (commit_of t ≡ Some c) × (c.word ≡ t.cell.word) × (retired_of (Some t) ≡ Some (t.cell.serial, shown (asked k.design t.cell.word) c))

@@ -20,7 +20,7 @@ abbrev pub Meets : Shape → Outstanding → ℕ → Slots → Type 0
 Meets k o stage [] = Unit {0}
 Meets k o stage (s ∷ older) = MeetsSlot k o stage s × Meets k o (suc stage) older
 
-reading_meets : (k : Shape) (file : List ℕ) (wait : ℕ) (o : Outstanding) (stage : ℕ) (slots : Slots) → Meets k o stage (reading k file wait o stage slots)
+pub reading_meets : (k : Shape) (file : List ℕ) (wait : ℕ) (o : Outstanding) (stage : ℕ) (slots : Slots) → Meets k o stage (reading k file wait o stage slots)
 reading_meets k file wait o stage [] = tt
 reading_meets k file wait o stage (None ∷ older) = (tt, reading_meets k file wait o (suc stage) older)
 reading_meets k file wait o stage (Some t ∷ older) = (refl, reading_meets k file wait o (suc stage) older)

@@ -18,11 +18,11 @@ use Rattle.rv_machine.proofs.Going.{AreSeen, seen_tail, going_placed, Free, free
 
 -- ---- what no token asks for, none asks for after the moves
 
-abbrev SilentSlot : (Asks → Bool) → Option Token → Type 0
+abbrev pub SilentSlot : (Asks → Bool) → Option Token → Type 0
 SilentSlot g None = Unit {0}
 SilentSlot g (Some t) = g t.asks ≡ false
 
-silent_parts : (g : Asks → Bool) (s : Option Token) (older : Slots) → oldest (λ t. g t.asks) (s ∷ older) ≡ None → SilentSlot g s × (oldest (λ t. g t.asks) older ≡ None)
+pub silent_parts : (g : Asks → Bool) (s : Option Token) (older : Slots) → oldest (λ t. g t.asks) (s ∷ older) ≡ None → SilentSlot g s × (oldest (λ t. g t.asks) older ≡ None)
 silent_parts g None older h = (tt, h)
 silent_parts g (Some t) older h = (if_none (g t.asks) t.cell.serial (or_else_none_b (oldest (λ u. g u.asks) older) _ h), or_else_none (oldest (λ u. g u.asks) older) _ h)
 
@@ -38,7 +38,7 @@ silent_kept g come (Some t) c h = by_case (is_some t.cell.hold) where
   by_case true = h
   by_case false = c
 
-silent_going : (g : Asks → Bool) (s : Option Token) → SilentSlot g s → SilentSlot g (going s)
+pub silent_going : (g : Asks → Bool) (s : Option Token) → SilentSlot g s → SilentSlot g (going s)
 silent_going g None h = tt
 silent_going g (Some t) h = by_case (is_some t.cell.hold) where
   by_case : (b : Bool) → SilentSlot g (if b then None else Some t)
@@ -52,7 +52,7 @@ silent_advanced g come (s ∷ older) c h =
     silent_join g (kept come s) (advanced (going s) older) (silent_kept g come s c x.0) (silent_advanced g (going s) older (silent_going g s x.0) x.1)
 
 -- behind the slot of one that goes on
-silent_behind : (g : Asks → Bool) (s : Option Token) (older : Slots) → oldest (λ t. g t.asks) (s ∷ older) ≡ None → oldest (λ t. g t.asks) (advanced (going s) older) ≡ None
+pub silent_behind : (g : Asks → Bool) (s : Option Token) (older : Slots) → oldest (λ t. g t.asks) (s ∷ older) ≡ None → oldest (λ t. g t.asks) (advanced (going s) older) ≡ None
 silent_behind g s older h = let x = silent_parts g s older h in silent_advanced g (going s) older (silent_going g s x.0) x.1
 
 -- a token stands where it stood before these, where they ask for no more

@@ -10,11 +10,11 @@ use Rattle.rv_holds.specs.declared.token.Token.{Token}
 use Rattle.rv_holds.specs.Tokens.{Slots, makes_access, cell_of, cells_of}
 use Rattle.rv_holds.specs.Flushing.{struck, slot_stop}
 use Rattle.rv_engine.specs.Settings.{Setting, Machine, shape_of, tree_of}
-use Rattle.rv_engine.specs.Rows.{advanced, first_slot, fill_first, next_after, new_by, loaded_by, turn_by, seen_by, left_by, fetch_by, executed_by, file_early, file_late, accesses_after, stood_after, IsRowOf, file_paid, paid_by}
+use Rattle.rv_engine.specs.Rows.{advanced, first_slot, fill_first, next_after, new_by, loaded_by, turn_by, seen_by, left_by, fetch_by, accesses_after, stood_after, IsRowOf, machine_after}
 use Rattle.rv_lawful.specs.Settings as Lawful
 use Rattle.rv_lawful.specs.LawfulTrace.{IsWordOf}
 use Rattle.rv_machine.specs.Owing.{judged}
-use Rattle.rv_machine.specs.Placed.{one_more, count, tail, expected, HasWord, Placed, Serials, IsFuture, past_ex, IsReady, Inv}
+use Rattle.rv_machine.specs.Placed.{one_more, count, tail, expected, HasWord, Placed, Serials, IsFuture, past_ex, IsReady, Inv, paid_file}
 use Rattle.rv_machine.specs.Told.{NoStops, out_of}
 use Rattle.rv_machine.proofs.Deciding.{or_else_none}
 use Rattle.rv_machine.proofs.Places.{HasSerial, first_fetched, first_named, first_kept}
@@ -22,7 +22,6 @@ use Rattle.rv_machine.proofs.Moving.{KeepsAll, keeps_all, clears, advanced_from}
 use Rattle.rv_machine.proofs.Stopping.{no_stops}
 use Rattle.rv_machine.proofs.Moves.{count_advanced, serials_advanced}
 use Rattle.rv_machine.proofs.Clearing.{cleared_first}
-use Rattle.rv_machine.proofs.Idle.{idle_paid}
 use Rattle.rv_machine.proofs.Before as B
 use Rattle.rv_machine.proofs.NextPlaces as N
 use Rattle.rv_machine.proofs.Flushing as F
@@ -31,7 +30,6 @@ use Rattle.rv_machine.proofs.Retiring as R
 use Rattle.rv_machine.proofs.Past as P
 use Rattle.rv_machine.proofs.MadeRow.{alike_names}
 use Rattle.rv_seq.specs.Steps.{word_at}
-use Rattle.ix_bits.specs.declared.number.Bits.{Bits}
 
 pub few_more : (n : ℕ) (s : Option Token) → accesses_after n s ≤ suc n
 few_more n None = omega arith
@@ -71,21 +69,11 @@ module _ (k : Setting) (ready : IsReady k) (earlier : List Row) (m : Machine) (r
   pub fetch_next : row.stop ≡ None → fetch_by k m ≡ expected k (retirements (row ∷ earlier)) 1 (tail (advanced None (seen_by k m)))
   fetch_next e = N.next_fetch k ready earlier m inv (no_stop e) ∙ ap (λ n. expected k n 1 (tail (advanced None (seen_by k m)))) retired_is
 
-  -- no unit writes the future file
-  abbrev file_then : List Bits
-  file_then = file_early (executed_by k m) (file_late (left_by k m) (file_paid (paid_by k m) m.future))
+  pub future_next : row.stop ≡ None → IsFuture k (retirements (row ∷ earlier)) (paid_file (machine_after k m).owed (machine_after k m).future) (past_ex k (advanced None (seen_by k m)))
+  future_next e = subst (λ n. IsFuture k n (paid_file (machine_after k m).owed (machine_after k m).future) (past_ex k (advanced None (seen_by k m)))) retired_is (P.file_next k ready earlier m row inv is (no_stop e)).0
 
-  file_is : file_then ≡ file_early (executed_by k m) (file_late (left_by k m) m.future)
-  file_is = ap (λ o. file_early (executed_by k m) (file_late (left_by k m) (file_paid o m.future))) (idle_paid k m inv.idle)
-
-  future_same : row.stop ≡ None → IsFuture k (retirements (row ∷ earlier)) (file_early (executed_by k m) (file_late (left_by k m) m.future)) (past_ex k (advanced None (seen_by k m)))
-  future_same e = subst (λ n. IsFuture k n (file_early (executed_by k m) (file_late (left_by k m) m.future)) (past_ex k (advanced None (seen_by k m)))) retired_is (P.file_next k ready earlier m row inv is (no_stop e)).0
-
-  pub future_next : row.stop ≡ None → IsFuture k (retirements (row ∷ earlier)) (file_early (executed_by k m) (file_late (left_by k m) (file_paid (paid_by k m) m.future))) (past_ex k (advanced None (seen_by k m)))
-  future_next e = subst (λ file. IsFuture k (retirements (row ∷ earlier)) file (past_ex k (advanced None (seen_by k m)))) (sym file_is) (future_same e)
-
-  pub wide_next : row.stop ≡ None → AreWide (tree_of k) (file_early (executed_by k m) (file_late (left_by k m) (file_paid (paid_by k m) m.future)))
-  wide_next e = subst (λ file. AreWide (tree_of k) file) (sym file_is) (P.file_next k ready earlier m row inv is (no_stop e)).1
+  pub wide_next : row.stop ≡ None → AreWide (tree_of k) (machine_after k m).future
+  wide_next e = (P.file_next k ready earlier m row inv is (no_stop e)).1
 
   pub serials_next : row.stop ≡ None → Serials (row ∷ earlier) (retirements (row ∷ earlier)) (advanced None (seen_by k m))
   serials_next e =

@@ -1,7 +1,8 @@
 -- The holds kind by kind: the first true one is the first one of the first kind that has a true one.
-use Rattle.std.proofs.Common.{◌≡◌, ◌∙◌, ℕ, suc, ◌<◌, ◌≤◌, List, Option, Some, None, Bool, true, false, refl, sym, ap, arith, inl, inr}
-use Rattle.std.specs.Prelude.{if◌then◌else◌, is_some}
-use Rattle.std.proofs.lemmas.Bool.{cases_lt, false≢true}
+use Rattle.std.proofs.Common.{◌≡◌, ℕ, suc, ◌<◌, ◌≤◌, List, Option, Some, None, Bool, true, false, refl, arith, inl, inr}
+use Rattle.std.specs.Prelude.{if◌then◌else◌}
+use Rattle.std.proofs.lemmas.Bool.{cases_lt}
+use Rattle.ix_plan.specs.declared.design.Target.{Target}
 use Rattle.rv_trace.specs.declared.row.Cell.{Cell}
 use Rattle.rv_trace.specs.declared.row.Hold.{Hold}
 use Rattle.rv_trace.specs.declared.row.Hold.TheVariants.{Operand, Board, Custom, Late, Trap, Drain, Wait, StoreAhead, Tail, UnitFull, Port, Behind}
@@ -10,8 +11,6 @@ use Rattle.rv_trace.specs.RowParts.{kind_of, ComesFirst}
 use Rattle.rv_holds.specs.Tokens.{or_else}
 use Rattle.rv_lawful.specs.Settings.{Setting}
 use Rattle.rv_lawful.specs.LawfulTrace.{OwnHold}
-use Rattle.rv_lawful.specs.Sight.{SpawnsNothing}
-use Rattle.rv_machine.proofs.Quiet.{no_target, no_entry}
 
 -- Which hold is of which kind
 
@@ -28,6 +27,20 @@ operand_kind (Tail left) e = absurd (omega (arith, e))
 operand_kind (UnitFull u) e = absurd (omega (arith, e))
 operand_kind (Port j) e = absurd (omega (arith, e))
 operand_kind Behind e = absurd (omega (arith, e))
+
+pub board_kind : (h : Hold) → kind_of h ≡ 1 → (target : Target) × (j : ℕ) × (h ≡ Board target j)
+board_kind (Operand r j) e = absurd (omega (arith, e))
+board_kind (Board target j) e = (target, j, refl)
+board_kind (Custom r j) e = absurd (omega (arith, e))
+board_kind (Late j) e = absurd (omega (arith, e))
+board_kind Trap e = absurd (omega (arith, e))
+board_kind (Drain j) e = absurd (omega (arith, e))
+board_kind (Wait left) e = absurd (omega (arith, e))
+board_kind (StoreAhead j) e = absurd (omega (arith, e))
+board_kind (Tail left) e = absurd (omega (arith, e))
+board_kind (UnitFull u) e = absurd (omega (arith, e))
+board_kind (Port j) e = absurd (omega (arith, e))
+board_kind Behind e = absurd (omega (arith, e))
 
 pub custom_kind : (h : Hold) → kind_of h ≡ 2 → (r : ℕ) × (j : ℕ) × (h ≡ Custom r j)
 custom_kind (Operand r j) e = absurd (omega (arith, e))
@@ -113,6 +126,34 @@ module_kind (UnitFull u) e = absurd (omega (arith, e))
 module_kind (Port j) e = absurd (omega (arith, e))
 module_kind Behind e = absurd (omega (arith, e))
 
+pub unit_kind : (h : Hold) → kind_of h ≡ 9 → (u : ℕ) × (h ≡ UnitFull u)
+unit_kind (Operand r j) e = absurd (omega (arith, e))
+unit_kind (Board target j) e = absurd (omega (arith, e))
+unit_kind (Custom r j) e = absurd (omega (arith, e))
+unit_kind (Late j) e = absurd (omega (arith, e))
+unit_kind Trap e = absurd (omega (arith, e))
+unit_kind (Drain j) e = absurd (omega (arith, e))
+unit_kind (Wait left) e = absurd (omega (arith, e))
+unit_kind (StoreAhead j) e = absurd (omega (arith, e))
+unit_kind (Tail left) e = absurd (omega (arith, e))
+unit_kind (UnitFull u) e = (u, refl)
+unit_kind (Port j) e = absurd (omega (arith, e))
+unit_kind Behind e = absurd (omega (arith, e))
+
+pub port_kind : (h : Hold) → kind_of h ≡ 10 → (j : ℕ) × (h ≡ Port j)
+port_kind (Operand r j) e = absurd (omega (arith, e))
+port_kind (Board target j) e = absurd (omega (arith, e))
+port_kind (Custom r j) e = absurd (omega (arith, e))
+port_kind (Late j) e = absurd (omega (arith, e))
+port_kind Trap e = absurd (omega (arith, e))
+port_kind (Drain j) e = absurd (omega (arith, e))
+port_kind (Wait left) e = absurd (omega (arith, e))
+port_kind (StoreAhead j) e = absurd (omega (arith, e))
+port_kind (Tail left) e = absurd (omega (arith, e))
+port_kind (UnitFull u) e = absurd (omega (arith, e))
+port_kind (Port j) e = (j, refl)
+port_kind Behind e = absurd (omega (arith, e))
+
 -- The first of a kind, and the first of a kind or a later one
 
 -- it is the first of the true holds of this kind, or there is none
@@ -146,21 +187,7 @@ joined k earlier row stage c n None (Some h) x y =
       ],
     )
 
--- where nothing is spawned the scoreboard has no hold and units have none, and without an interrupt line there is no Trap
-pub no_board : (k : Setting) (quiet : (word : ℕ) → SpawnsNothing (k.asks word)) (earlier : List Row) (row : Row) (stage : ℕ) (c : Cell) (h : Hold) → kind_of h ≡ 1 → OwnHold k earlier row stage c h → ⊥
-no_board k quiet earlier row stage c (Operand r j) e o = omega (arith, e)
-no_board k quiet earlier row stage c (Board target j) e o = no_target (k.asks o.spawns.0) (quiet o.spawns.0) target o.spawns.2
-no_board k quiet earlier row stage c (Custom r j) e o = omega (arith, e)
-no_board k quiet earlier row stage c (Late j) e o = omega (arith, e)
-no_board k quiet earlier row stage c Trap e o = o
-no_board k quiet earlier row stage c (Drain j) e o = omega (arith, e)
-no_board k quiet earlier row stage c (Wait left) e o = omega (arith, e)
-no_board k quiet earlier row stage c (StoreAhead j) e o = omega (arith, e)
-no_board k quiet earlier row stage c (Tail left) e o = omega (arith, e)
-no_board k quiet earlier row stage c (UnitFull u) e o = omega (arith, e)
-no_board k quiet earlier row stage c (Port j) e o = omega (arith, e)
-no_board k quiet earlier row stage c Behind e o = omega (arith, e)
-
+-- without an interrupt line there is no Trap
 pub no_trap : (k : Setting) (earlier : List Row) (row : Row) (stage : ℕ) (c : Cell) (h : Hold) → kind_of h ≡ 4 → OwnHold k earlier row stage c h → ⊥
 no_trap k earlier row stage c (Operand r j) e o = omega (arith, e)
 no_trap k earlier row stage c (Board target j) e o = omega (arith, e)
@@ -175,23 +202,20 @@ no_trap k earlier row stage c (UnitFull u) e o = omega (arith, e)
 no_trap k earlier row stage c (Port j) e o = omega (arith, e)
 no_trap k earlier row stage c Behind e o = omega (arith, e)
 
-pub no_unit : (k : Setting) (quiet : (word : ℕ) → SpawnsNothing (k.asks word)) (earlier : List Row) (row : Row) (stage : ℕ) (c : Cell) (h : Hold) → 9 ≤ kind_of h → OwnHold k earlier row stage c h → ⊥
-no_unit k quiet earlier row stage c (Operand r j) e o = omega (arith, e)
-no_unit k quiet earlier row stage c (Board target j) e o = omega (arith, e)
-no_unit k quiet earlier row stage c (Custom r j) e o = omega (arith, e)
-no_unit k quiet earlier row stage c (Late j) e o = omega (arith, e)
-no_unit k quiet earlier row stage c Trap e o = o
-no_unit k quiet earlier row stage c (Drain j) e o = omega (arith, e)
-no_unit k quiet earlier row stage c (Wait left) e o = omega (arith, e)
-no_unit k quiet earlier row stage c (StoreAhead j) e o = omega (arith, e)
-no_unit k quiet earlier row stage c (Tail left) e o = omega (arith, e)
-no_unit k quiet earlier row stage c (UnitFull u) e o = no_entry (k.asks c.word) (quiet c.word) (ap (λ n. is_some n) o.enters)
-no_unit k quiet earlier row stage c (Port j) e o = false≢true (sym (ap (λ n. is_some n) (quiet o.spawns.0).x) ∙ o.spawns.2)
-no_unit k quiet earlier row stage c Behind e o = o
-
 -- whatever is true of a cell of its own comes before Behind
-pub own_kind : (k : Setting) (quiet : (word : ℕ) → SpawnsNothing (k.asks word)) (earlier : List Row) (row : Row) (stage : ℕ) (c : Cell) (h : Hold) → OwnHold k earlier row stage c h → kind_of h < 9
-own_kind k quiet earlier row stage c h o = elim (cases_lt (kind_of h) 9) [ inl less ↦ less | inr more ↦ absurd (no_unit k quiet earlier row stage c h more o) ]
+pub own_kind : (k : Setting) (earlier : List Row) (row : Row) (stage : ℕ) (c : Cell) (h : Hold) → OwnHold k earlier row stage c h → kind_of h < 11
+own_kind k earlier row stage c (Operand r j) o = omega arith
+own_kind k earlier row stage c (Board target j) o = omega arith
+own_kind k earlier row stage c (Custom r j) o = omega arith
+own_kind k earlier row stage c (Late j) o = omega arith
+own_kind k earlier row stage c Trap o = absurd o
+own_kind k earlier row stage c (Drain j) o = omega arith
+own_kind k earlier row stage c (Wait left) o = omega arith
+own_kind k earlier row stage c (StoreAhead j) o = omega arith
+own_kind k earlier row stage c (Tail left) o = omega arith
+own_kind k earlier row stage c (UnitFull u) o = omega arith
+own_kind k earlier row stage c (Port j) o = omega arith
+own_kind k earlier row stage c Behind o = absurd o
 
 -- The order in which they are decided
 

@@ -1,13 +1,13 @@
 -- A token's own holds as they are decided are the first true ones.
 use Rattle.std.proofs.Common.{◌≡◌, ◌≢◌, ℕ, zero, suc, ◌+◌, ◌-◌, ◌<◌, ◌≤◌, List, [], ◌∷◌, drop, get_or, Option, Some, None, Bool, true, false, refl, sym, ap, ◌∙◌, subst, arith, ◌⊎◌, inl, inr}
-use Rattle.std.specs.Prelude.{◌&&◌, ◌||◌, not, if◌then◌else◌, ◌==◌, is_some, is_none, slice_get, nat_lt, min, max}
+use Rattle.std.specs.Prelude.{◌&&◌, ◌||◌, not, if◌then◌else◌, ◌==◌, is_some, is_none, slice_get, min, max}
 use Rattle.std.proofs.lemmas.Bool.{cases_lt}
 use Rattle.std.proofs.lemmas.Bool.Decides.{nat_tests}
 use Rattle.rv_trace.specs.declared.row.Cell.{Cell}
 use Rattle.rv_trace.specs.declared.row.Hold.{Hold}
 use Rattle.rv_trace.specs.declared.row.Hold.TheVariants.{Operand, Custom, Late, Drain, Wait, StoreAhead, Tail}
 use Rattle.rv_trace.specs.declared.row.Row.{Row}
-use Rattle.rv_trace.specs.Trace.{is_flushed, is_retired, place, retirements}
+use Rattle.rv_trace.specs.Trace.{is_retired, place, retirements}
 use Rattle.rv_trace.specs.RowParts.{IsOlder, ComesFirst}
 use Rattle.rv_seq.specs.declared.commit.Stop.{Stop}
 use Rattle.rv_seq.specs.declared.answer.StepAnswer.{StepAnswer}
@@ -17,20 +17,21 @@ use Rattle.rv_asks.specs.declared.asks.Asks.{Asks}
 use Rattle.rv_waits.specs.Waits.{wait_at}
 use Rattle.rv_holds.specs.declared.token.Token.{Token}
 use Rattle.rv_holds.specs.Tokens.{Slots, or_else, stop_in, tried_stop, stop_of, tried_access, makes_access, cells_of}
-use Rattle.rv_holds.specs.Holds.{oldest, does_write, writes_late, does_store, is_late, operand, waits_for, operand_hold, custom, waits_for_custom, first_from, custom_hold, late, late_hold, waiting_hold, board_hold, drain, staying, entering, left_behind, drain_hold, store_ahead, store_hold, memory_hold, tail_hold, ending_hold, own_hold, stops_now}
+use Rattle.rv_holds.specs.Holds.{oldest, does_write, writes_late, does_store, is_late, operand, waits_for, operand_hold, custom, waits_for_custom, first_from, custom_hold, late, late_hold, waiting_hold, board_hold, drain, left_behind, drain_hold, store_ahead, store_hold, memory_hold, tail_hold, ending_hold, own_hold, stops_now}
 use Rattle.rv_engine.specs.Settings.{Setting, shape_of}
 use Rattle.rv_lawful.specs.Settings as Lawful
 use Rattle.rv_lawful.specs.Sight.{asked, IsEarly}
-use Rattle.rv_lawful.specs.LawfulTrace.{IsWordOf, IsDueToStop, reads_of, WaitsForOperand, WaitsForCustom, WaitsForJump, WaitsToDrain, IsUnwritten, WaitsForMemory, WaitsForStore, WaitsForModule, OwnHold, StopsRun}
+use Rattle.rv_lawful.specs.LawfulTrace.{IsWordOf, IsDueToStop, reads_of, WaitsForOperand, WaitsForCustom, WaitsForJump, WaitsToDrain, WaitsForMemory, WaitsForStore, WaitsForModule, OwnHold, StopsRun}
 use Rattle.rv_machine.specs.Owing.{judged}
 use Rattle.rv_machine.specs.Placed.{count, IsReady, IsTried, Placed, Serials}
-use Rattle.rv_machine.specs.Told.{out_of, Told}
-use Rattle.rv_machine.proofs.Places.{Stood, stood, older_lower, token_of, serials_drop, place_lt, place_order}
+use Rattle.rv_machine.specs.Told.{Told}
 use Rattle.rv_machine.proofs.Deciding.{same_test, test_eq, test_ne, no_waiting}
-use Rattle.rv_machine.proofs.Standing.{slice_get-drop, drop_more, stands_older, asks_at, here_of, cell_here, Has, OldestIs, oldest_is, all_three, out_drop, StayingIs, staying_is}
-use Rattle.rv_machine.proofs.Quiet.{none_unwritten}
-use Rattle.rv_machine.proofs.Idle.{alone, alone_is, quiet_unit, quiet_entering, quiet_board}
-use Rattle.rv_machine.proofs.Ordering.{operand_kind, custom_kind, late_kind, drain_kind, wait_kind, store_kind, module_kind, FirstOf, FirstFrom, joined, no_board, no_trap, no_unit, or_assoc, if_or, or_none}
+use Rattle.rv_machine.proofs.Standing.{stands_older, cell_here, Has, OldestIs, oldest_is, all_three}
+use Rattle.rv_machine.proofs.Older as O
+use Rattle.rv_machine.proofs.BoardHolds.{board_where}
+use Rattle.rv_machine.proofs.DrainHolds.{OldestLeft, left_behind_is}
+use Rattle.rv_machine.proofs.UnitHolds.{from_ports as unit_from_ports}
+use Rattle.rv_machine.proofs.Ordering.{operand_kind, custom_kind, late_kind, drain_kind, wait_kind, store_kind, module_kind, FirstOf, FirstFrom, joined, no_trap, or_assoc, if_or, or_none}
 use Rattle.rv_machine.proofs.Sixteen.{customs_few}
 
 -- what is waited for, of one register
@@ -69,59 +70,33 @@ module _ (k : Setting) (ready : IsReady k) (earlier : List Row) (row : Row) (see
     (rest : drop stage seen ≡ Some t ∷ older) (placed : Placed k (retirements earlier) stage (Some t ∷ older)) where
   -- the serials of the token and of the older ones
   pub ordered : Serials (row ∷ earlier) (retirements earlier) (Some t ∷ older)
-  ordered = subst (λ l. Serials (row ∷ earlier) (retirements earlier) l) rest (serials_drop (row ∷ earlier) (retirements earlier) stage seen told.serials)
-
-  not_lt : (a b : ℕ) → b ≤ a → nat_lt a b ≡ false
-  not_lt a b h = grind (arith, nat_tests)
-
-  not_below : (a b : ℕ) → nat_lt a b ≡ false → b ≤ a
-  not_below a b h = grind (arith, nat_tests)
-
-  -- an older cell that is not retired in an earlier row has a token here
-  waiting : (j : ℕ) → IsOlder (row ∷ earlier) t.cell.serial j → is_retired earlier j ≡ false → (n : ℕ) × (u : Token) × (slice_get older n ≡ Some (Some u)) × (u.cell.serial ≡ j)
-  waiting j o u =
-      let lower = place_lt (row ∷ earlier) j t.cell.serial o.unflushed o.lower in
-      let p = ordered.0.0 in
-      token_of (row ∷ earlier) (retirements earlier) j older ordered.1 o.unflushed (not_below (place (row ∷ earlier) j) (retirements earlier) (sym (told.before j o.unflushed) ∙ u)) (omega (arith, lower, p))
-
-  older_stood : (n : ℕ) (u : Token) → slice_get older n ≡ Some (Some u) → Stood (row ∷ earlier) (retirements earlier) (count older) u
-  older_stood n u e = stood (row ∷ earlier) (retirements earlier) n older u ordered.1 e
+  ordered = O.ordered k earlier row seen told stage t older rest
 
   is_older : (n : ℕ) (u : Token) → slice_get older n ≡ Some (Some u) → IsOlder (row ∷ earlier) t.cell.serial u.cell.serial
-  is_older n u e = record { lower = older_lower (row ∷ earlier) (retirements earlier) n t u older ordered e; unflushed = (older_stood n u e).alive }
-
-  unretired : (n : ℕ) (u : Token) → slice_get older n ≡ Some (Some u) → is_retired earlier u.cell.serial ≡ false
-  unretired n u e = let s = older_stood n u e in told.before u.cell.serial s.alive ∙ not_lt (place (row ∷ earlier) u.cell.serial) (retirements earlier) s.low
+  is_older n u e = O.is_older k earlier row seen told stage t older rest n u e
 
   here_in : (n : ℕ) (u : Token) → slice_get older n ≡ Some (Some u) → slice_get seen (suc stage + n) ≡ Some (Some u)
-  here_in n u e = sym (slice_get-drop seen (suc stage) n) ∙ ap (λ l. slice_get l n) (drop_more seen older (Some t) stage rest) ∙ e
+  here_in n u e = O.here_in k earlier row seen told stage t older rest n u e
 
   asked_in : (n : ℕ) (u : Token) → slice_get older n ≡ Some (Some u) → u.asks ≡ asked k.design u.cell.word
-  asked_in n u e = asks_at k (retirements earlier) 0 (suc stage + n) seen u told.placed (here_in n u e)
+  asked_in n u e = O.asked_in k earlier row seen told stage t older rest n u e
 
-  -- no stage from this one on is flushed
   past_flushed : (n : ℕ) → told.flushed ≤ suc stage + n
-  past_flushed n = let le = told.left stage t (here_of seen older t stage rest) in omega (arith, le)
+  past_flushed n = O.past_flushed k earlier row seen told stage t older rest n
 
   -- the word of an older token, by what is asked of it
   word_of : (f : Asks → Bool) (j : ℕ) → Has older (λ u. f u.asks) j → (word : ℕ) × IsWordOf (judged k) (row ∷ earlier) j word × (f (asked k.design word) ≡ true)
-  word_of f j has =
-      let stands : Lawful.Stands (judged k) row (suc stage + has.0) has.1.cell = told.cells (suc stage + has.0) (past_flushed has.0) ∙ cell_here seen (suc stage + has.0) has.1 (here_in has.0 has.1 has.2) in
-      let known : IsWordOf (judged k) (row ∷ earlier) j has.1.cell.word = inl (suc stage + has.0, has.1.cell, stands, has.3, refl) in
-      (has.1.cell.word, known, sym (ap f (asked_in has.0 has.1 has.2)) ∙ has.4)
+  word_of f j has = O.word_of k earlier row seen told stage t older rest f j has
 
   -- what is asked of the word of an older cell, among the older tokens
   from_word : (f : Asks → Bool) (j : ℕ) → IsOlder (row ∷ earlier) t.cell.serial j → is_retired earlier j ≡ false → (word : ℕ) → IsWordOf (judged k) (row ∷ earlier) j word → f (asked k.design word) ≡ true → Has older (λ u. f u.asks) j
-  from_word f j o un word known e =
-      let u = waiting j o un in
-      let same = told.words j word known (suc stage + u.0) u.1 (here_in u.0 u.1 u.2) u.3 in
-      (u.0, u.1, u.2, u.3, ap f (asked_in u.0 u.1 u.2) ∙ ap (λ v. f (asked k.design v)) same ∙ e)
+  from_word f j o un word known e = O.from_word k earlier row seen told stage t older rest f j o un word known e
 
   older_of : (f : Asks → Bool) (j : ℕ) → Has older (λ u. f u.asks) j → IsOlder (row ∷ earlier) t.cell.serial j
-  older_of f j has = subst (λ s. IsOlder (row ∷ earlier) t.cell.serial s) has.3 (is_older has.0 has.1 has.2)
+  older_of f j has = O.older_of k earlier row seen told stage t older rest f j has
 
   unretired_of : (f : Asks → Bool) (j : ℕ) → Has older (λ u. f u.asks) j → is_retired earlier j ≡ false
-  unretired_of f j has = subst (λ s. is_retired earlier s ≡ false) has.3 (unretired has.0 has.1 has.2)
+  unretired_of f j has = O.unretired_of k earlier row seen told stage t older rest f j has
 
   -- Operands
 
@@ -375,19 +350,6 @@ module _ (k : Setting) (ready : IsReady k) (earlier : List Row) (row : Row) (see
       ap (λ n. (judged k).course.answer n) ordered.0.0
       ∙ stop_early t.asks x.0.answer ((judged k).course.answer (retirements earlier + count older)) stop x.1.early (sym (ap tried_stop x.1.tried) ∙ w)
 
-  -- what goes out is told of the older tokens, where there are some
-  out_older : 0 < count older → out_of seen ≡ out_of older
-  out_older lt = by_case older refl lt where
-    by_case : (l : Slots) → older ≡ l → 0 < count l → out_of seen ≡ out_of l
-    by_case [] e lt = absurd (omega arith)
-    by_case (u ∷ l) e lt = out_drop seen (u ∷ l) (Some t) stage (rest ∙ ap (λ o. Some t ∷ o) e)
-
-  still : (j : ℕ) → is_flushed (row ∷ earlier) j ≡ false → is_retired (row ∷ earlier) j ≡ false → retirements earlier + out_of seen ≤ place (row ∷ earlier) j
-  still j alive u = not_below (place (row ∷ earlier) j) (retirements earlier + out_of seen) (sym (told.now j alive) ∙ u)
-
-  unretired_left : (j : ℕ) → ((is_retired (row ∷ earlier) j ≡ false) ⊎ IsUnwritten (judged k) (row ∷ earlier) j) → is_retired (row ∷ earlier) j ≡ false
-  unretired_left j x = elim x [ inl u ↦ u | inr w ↦ absurd (none_unwritten (judged k) ready.quiet.asks (row ∷ earlier) j w) ]
-
   drain_of : (i : ℕ) → WaitsToDrain (judged k) earlier row stage t.cell i → ((j : ℕ) → WaitsToDrain (judged k) earlier row stage t.cell j → i ≤ j) → Of 5 (Some (Drain i))
   drain_of i w f = (
     refl,
@@ -398,53 +360,19 @@ module _ (k : Setting) (ready : IsReady k) (earlier : List Row) (row : Row) (see
   no_drain : ((j : ℕ) → WaitsToDrain (judged k) earlier row stage t.cell j → ⊥) → Of 5 None
   no_drain f = λ h e own. let x = drain_kind h e in f x.0 (subst (λ y. Own y) x.1 own)
 
-  drain_older : stage ≡ (shape_of k).ex → IsRipe → (stop : Stop) → stop_of t ≡ Some stop → Of 5 (drain (staying older))
-  drain_older at ripe stop w = by_case (staying older) (staying_is (row ∷ earlier) (retirements earlier) older ordered.1) where
-    by_case : (o : Option ℕ) → StayingIs (row ∷ earlier) (retirements earlier) older o → Of 5 (drain o)
-    by_case (Some i) x =
-        let lt = x.5 in
-        let same = out_older (omega (arith, lt)) in
-        let p = x.4 in
-        let alive = subst (λ s. is_flushed (row ∷ earlier) s ≡ false) x.3 (older_stood x.0 x.1 x.2).alive in
-        drain_of i
-        (record {
-          executing = at;
-          due = (stop, word_due stop at ripe w);
-          older = subst (λ s. IsOlder (row ∷ earlier) t.cell.serial s) x.3 (is_older x.0 x.1 x.2);
-          left = inl (told.now i alive ∙ not_lt (place (row ∷ earlier) i) (retirements earlier + out_of seen) (omega (arith, same, p)));
-        })
-        (λ j d.
-        let s = still j d.older.unflushed (unretired_left j d.left) in
-        place_order (row ∷ earlier) i j d.older.unflushed (omega (arith, s, same, p)))
-    by_case None le =
-        no_drain
-        (λ j d.
-        let s = still j d.older.unflushed (unretired_left j d.left) in
-        let lower = place_lt (row ∷ earlier) j t.cell.serial d.older.unflushed d.older.lower in
-        let p = ordered.0.0 in
-        let some : 0 < count older = omega (arith, s, lower, p) in
-        let same = out_older some in
-        omega (arith, s, lower, p, le, same))
-
-  -- nothing is met beside the stages
-  alone_here : t.beside ≡ alone
-  alone_here = alone_is k told.outstanding stage t told.idle (quiet_unit k ready t.cell.word t.asks placed.0.asks) (told.beside.meets stage t older rest)
-
-  left_is : left_behind t older ≡ staying older
-  left_is =
-      ap (λ b. or_else b.left (or_else (entering older) (staying older))) alone_here
-      ∙ ap (λ o. or_else o (staying older)) (quiet_entering k ready (retirements earlier) (suc stage) older placed.1)
-
-  drain_staying : IsRipe → Of 5 (if stage == (shape_of k).ex then (if is_some (stop_of t) then drain (staying older) else None) else None)
-  drain_staying ripe = by_case (stage == (shape_of k).ex) (stop_of t) refl refl where
-    by_case : (b : Bool) (o : Option Stop) → (stage == (shape_of k).ex) ≡ b → stop_of t ≡ o → Of 5 (if b then (if is_some o then drain (staying older) else None) else None)
-    by_case true (Some stop) e w = drain_older (test_eq stage (shape_of k).ex e) ripe stop w
-    by_case true None e w = no_drain (λ j d. cc (due_word d.due.0 d.executing ripe d.due.1, w))
-    by_case false o e w = no_drain (λ j d. test_ne stage (shape_of k).ex e d.executing)
+  drain_left : stage ≡ (shape_of k).ex → IsRipe → (stop : Stop) → stop_of t ≡ Some stop → (o : Option ℕ) → OldestLeft k earlier row seen told stage t older rest o → Of 5 (drain o)
+  drain_left at ripe stop w (Some i) x =
+      drain_of i
+      (record { executing = at; due = (stop, word_due stop at ripe w); older = x.0.older_than; left = x.0.left })
+      (λ j d. x.1 j (record { older_than = d.older; left = d.left }))
+  drain_left at ripe stop w None x = no_drain (λ j d. x j (record { older_than = d.older; left = d.left }))
 
   drain_where : IsRipe → Of 5 (if stage == (shape_of k).ex then drain_hold t older else None)
-  drain_where ripe =
-      subst (λ o. Of 5 (if stage == (shape_of k).ex then (if is_some (stop_of t) then drain o else None) else None)) (sym left_is) (drain_staying ripe)
+  drain_where ripe = by_case (stage == (shape_of k).ex) (stop_of t) refl refl where
+    by_case : (b : Bool) (o : Option Stop) → (stage == (shape_of k).ex) ≡ b → stop_of t ≡ o → Of 5 (if b then (if is_some o then drain (left_behind t older) else None) else None)
+    by_case true (Some stop) e w = drain_left (test_eq stage (shape_of k).ex e) ripe stop w (left_behind t older) (left_behind_is k earlier row seen told stage t older rest)
+    by_case true None e w = no_drain (λ j d. cc (due_word d.due.0 d.executing ripe d.due.1, w))
+    by_case false o e w = no_drain (λ j d. test_ne stage (shape_of k).ex e d.executing)
 
   -- Waits of the memory
 
@@ -637,24 +565,8 @@ module _ (k : Setting) (ready : IsReady k) (earlier : List Row) (row : Row) (see
   abbrev From : ℕ → Option Hold → Type 0
   From n o = FirstFrom (judged k) earlier row stage t.cell n o
 
-  -- where nothing is spawned neither the scoreboard nor a unit holds a cell
-  boards_none : boards ≡ None
-  boards_none = by_case (stage == (shape_of k).rd) where
-    by_case : (b : Bool) → (if b then board_hold t older else None) ≡ None
-    by_case true = quiet_board k ready (retirements earlier) (suc stage) t older alone_here placed.1
-    by_case false = refl
-
-  ports_none : ports ≡ None
-  ports_none = ap (λ b. if suc stage == (shape_of k).stages then b.port else None) alone_here ∙ by_case (suc stage == (shape_of k).stages) where
-    by_case : (b : Bool) → ◌≡◌ {A = Option Hold} (if b then None else None) None
-    by_case true = refl
-    by_case false = refl
-
-  board_where : Of 1 boards
-  board_where = subst (λ o. Of 1 o) (sym boards_none) (no_board (judged k) ready.quiet.asks earlier row stage t.cell)
-
   from_ports : From 9 ports
-  from_ports = subst (λ o. From 9 o) (sym ports_none) (λ h le own. no_unit (judged k) ready.quiet.asks earlier row stage t.cell h le own)
+  from_ports = unit_from_ports k ready earlier row seen told stage t older rest placed
 
   from_drains : IsRipe → From 5 later
   from_drains ripe =
@@ -667,7 +579,7 @@ module _ (k : Setting) (ready : IsReady k) (earlier : List Row) (row : Row) (see
   own_is =
       subst (λ o. From 0 o) (sym own_order)
       (joined (judged k) earlier row stage t.cell 0 operands (or_else boards (or_else customs (or_else jumps later))) operand_where
-      (λ a. joined (judged k) earlier row stage t.cell 1 boards (or_else customs (or_else jumps later)) board_where
+      (λ a. joined (judged k) earlier row stage t.cell 1 boards (or_else customs (or_else jumps later)) (board_where k ready earlier row seen told stage t older rest placed)
       (λ n. joined (judged k) earlier row stage t.cell 2 customs (or_else jumps later) custom_where
       (λ b. joined (judged k) earlier row stage t.cell 3 jumps later late_where
       (λ c. joined (judged k) earlier row stage t.cell 4 None later (no_trap (judged k) earlier row stage t.cell)

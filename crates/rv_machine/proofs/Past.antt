@@ -1,17 +1,17 @@
 -- Past EX the slots of a row are those from before it: what is flushed stands there nowhere. So the future file goes on.
-use Rattle.std.proofs.Common.{◌≡◌, ℕ, zero, suc, ◌+◌, ◌-◌, ◌<◌, ◌≤◌, List, [], ◌∷◌, drop, length, Option, Some, None, Bool, true, false, refl, sym, ap, ◌∙◌, subst, arith}
-use Rattle.std.specs.Prelude.{if◌then◌else◌}
+use Rattle.std.proofs.Common.{◌≡◌, ℕ, zero, suc, ◌+◌, ◌-◌, ◌<◌, ◌≤◌, List, [], ◌∷◌, drop, length, Option, Some, None, Bool, true, false, refl, sym, ap, ◌∙◌, subst, arith, get_or}
+use Rattle.std.specs.Prelude.{if◌then◌else◌, IfSome, is_some}
 use Rattle.rv_trace.specs.declared.row.Row.{Row}
 use Rattle.rv_trace.specs.Trace.{retirements}
 use Rattle.rv_holds.specs.declared.token.Token.{Token}
 use Rattle.rv_holds.specs.declared.flushing.Turn.{Turn}
 use Rattle.rv_holds.specs.Tokens.{Slots}
-use Rattle.rv_holds.specs.Holds.{is_late}
+use Rattle.rv_holds.specs.Holds.{is_late, oldest, register_at}
 use Rattle.rv_holds.specs.Flushing.{struck, cleared}
-use Rattle.rv_engine.specs.Settings.{Setting, Machine, shape_of}
-use Rattle.rv_engine.specs.Rows.{going, advanced, leaving, first_slot, loaded_by, turn_by, seen_by, left_by, executed_by, file_early, file_late, IsRowOf}
-use Rattle.rv_machine.specs.Placed.{run, one_more, count, expected, past_ex, IsFuture, IsPlacedSlot, Placed, IsReady, Inv}
-use Rattle.rv_machine.specs.Told.{NoStops}
+use Rattle.rv_engine.specs.Settings.{Setting, Machine, shape_of, tree_of, outstanding_in}
+use Rattle.rv_engine.specs.Rows.{going, advanced, leaving, first_slot, loaded_by, turn_by, seen_by, left_by, executed_by, file_early, file_late, IsRowOf, machine_after, file_paid, paid_by}
+use Rattle.rv_machine.specs.Placed.{run, one_more, count, expected, past_ex, IsFuture, IsPlacedSlot, Placed, IsReady, Inv, paid_file}
+use Rattle.rv_machine.specs.Told.{NoStops, Decided}
 use Rattle.rv_machine.proofs.Deciding.{settled_past}
 use Rattle.rv_machine.proofs.Reading.{Alike, alike_self}
 use Rattle.rv_machine.proofs.Going.{AreSeen, seen_tail, going_placed, free_ahead}
@@ -19,9 +19,20 @@ use Rattle.rv_machine.proofs.Before.{Turning, turning, alike_trans, alike_drop, 
 use Rattle.rv_machine.proofs.Clearing.{cleared_drop}
 use Rattle.rv_machine.proofs.Before as B
 use Rattle.rv_machine.proofs.Settling.{settles_parts, silent_at, seen_rest}
-use Rattle.rv_machine.proofs.Future.{IsFile, file_advanced}
+use Rattle.rv_machine.proofs.Future.{leaving_any, Retires, Executes, Unspawned, word_there, future_advanced, wide_advanced}
+use Rattle.rv_machine.proofs.FileNext.{retires, executes, paid_wide}
+use Rattle.rv_machine.proofs.ApartNext.{unpaid_holder, silent_leaving, stays_apart, goes_apart, apart_rest, seen_apart}
+use Rattle.rv_machine.proofs.Moves.{SilentSlot}
+use Rattle.rv_machine.proofs.Meeting.{seen_meets, meets_at}
+use Rattle.rv_machine.proofs.Numbers.{custom_at}
 use Rattle.rv_machine.proofs.Telling.{placed_rest}
 use Rattle.rv_machine.proofs.Retiring as R
+use Rattle.rv_seq.specs.States.{zero_bit}
+use Rattle.rv_effect.specs.WordEffects.{AreWide}
+use Rattle.rv_engine.specs.Owing.{unpaid_among}
+use Rattle.rv_unit.specs.Numbering.{lasts_of}
+use Rattle.rv_lawful.specs.Outstanding.{has_target, touches}
+use Rattle.rv_machine.specs.Owing.{IsApart, Apart}
 
 alike_all : (l : Slots) → Alike l l
 alike_all [] = tt
@@ -114,11 +125,48 @@ module _ (k : Setting) (ready : IsReady k) (earlier : List Row) (m : Machine) (r
       (subst (λ l. Alike (drop (n - (shape_of k).ex) (drop (suc (shape_of k).ex) m.slots)) l) (drop_drop (suc (shape_of k).ex) (n - (shape_of k).ex) (seen_by k m) ∙ ap (λ i. drop i (seen_by k m)) z)
       (alike_drop (n - (shape_of k).ex) (drop (suc (shape_of k).ex) m.slots) (drop (suc (shape_of k).ex) (seen_by k m)) past_alike))
 
-  future_there : IsFuture k r m.future (drop (suc (shape_of k).ex) (seen_by k m))
-  future_there = alike_future k r m.future (drop (suc (shape_of k).ex) m.slots) (drop (suc (shape_of k).ex) (seen_by k m)) past_alike inv.future
+  future_there : IsFuture k r (paid_file m.owed m.future) (drop (suc (shape_of k).ex) (seen_by k m))
+  future_there = alike_future k r (paid_file m.owed m.future) (drop (suc (shape_of k).ex) m.slots) (drop (suc (shape_of k).ex) (seen_by k m)) past_alike inv.future
+
+  -- what leaves EX touches nothing that is owed, or that an older token spawns
+  abbrev AreApart : Option Token → Slots → Type 0
+  AreApart e gone = IfSome e (λ t. IsApart m.owed gone t × IsApart (machine_after k m).owed gone t)
+
+  comes_apart : NoStops k 0 (seen_by k m) → (s : Option Token) (gone : Slots) → 0 < length gone → drop (shape_of k).ex (seen_by k m) ≡ s ∷ gone → Decided k (shape_of k).ex (s ∷ gone) → NoStops k (shape_of k).ex (s ∷ gone) → left_by k m ≡ leaving (going s) gone → AreApart (going s) gone
+  comes_apart none None gone some at d n out = tt
+  comes_apart none (Some t) gone some at d n out = by_hold (is_some t.cell.hold) refl out where
+    here : IfSome (going (Some t)) (λ c. (shape_of k).rd < suc (shape_of k).ex → IsApart m.owed gone c)
+    here =
+        goes_apart k (outstanding_in k m) (unpaid_among (lasts_of k.design.plans) m.entries m.entries m.owed) (λ i h. unpaid_holder i (lasts_of k.design.plans) m.entries m.entries m.owed h) (shape_of k).ex t gone d n
+        (meets_at (shape_of k) (outstanding_in k m) (shape_of k).ex (seen_by k m) gone t (seen_meets k m (B.struck_inside k ready earlier m inv)) at)
+        (subst (λ b. Apart k m.owed b (Some t ∷ gone)) (let z : 0 + (shape_of k).ex ≡ (shape_of k).ex = omega arith in z) (apart_rest k m.owed 0 (shape_of k).ex (seen_by k m) (Some t ∷ gone) (seen_apart k ready earlier m row inv is) at))
+
+    by_hold : (b : Bool) → is_some t.cell.hold ≡ b → left_by k m ≡ leaving (if b then None else Some t) gone → AreApart (if b then None else Some t) gone
+    by_hold true e q = tt
+    by_hold false e q =
+        let lt = ready.rd_ex in
+        let x : IsApart m.owed gone t = subst (λ (b : Bool). IfSome (if b then None else Some t) (λ c. (shape_of k).rd < suc (shape_of k).ex → IsApart m.owed gone c)) e here (omega (arith, lt)) in (
+          x,
+          stays_apart k (outstanding_in k m) (unpaid_among (lasts_of k.design.plans) m.entries m.entries m.owed) (λ i h. unpaid_holder i (lasts_of k.design.plans) m.entries m.entries m.owed h) gone gone (left_by k m) t x (λ i h. h)
+              (λ i h. subst (λ o. SilentSlot (λ a. has_target a (register_at i)) o) (sym (q ∙ leaving_any (Some t) gone some)) (silent_leaving (λ a. has_target a (register_at i)) None gone tt h)),
+        )
+
+  writes : (e : Option Token) (gone : Slots) → IsPlacedSlot k (r + count gone) (expected k r (suc (shape_of k).ex) gone) (suc (shape_of k).ex) gone e → AreApart e gone → (reg : ℕ) → reg < 16
+      → Executes k (r + count gone) reg e (get_or (paid_file (machine_after k m).owed (file_late (left_by k m) (file_paid (paid_by k m) m.future))) reg zero_bit) (get_or (paid_file (machine_after k m).owed (file_early e (file_late (left_by k m) (file_paid (paid_by k m) m.future)))) reg zero_bit)
+  writes None gone h away reg few = refl
+  writes (Some t) gone h away reg few =
+      executes k ready earlier m row inv is reg few (r + count gone) (expected k r (suc (shape_of k).ex) gone) gone t (file_late (left_by k m) (file_paid (paid_by k m) m.future)) h (word_there k r gone t h)
+      (λ used. away.1.entries (32 + reg) (omega (arith, few)) (ap (λ g. touches t.asks g) (sym (custom_at reg)) ∙ used))
+
+  spawns : (e : Option Token) (gone : Slots) → AreApart e gone → Unspawned gone e
+  spawns None gone away = tt
+  spawns (Some t) gone away = λ reg few used. ap (λ g. oldest (λ (v : Token). has_target v.asks g) gone) (custom_at reg) ∙ away.0.tokens (32 + reg) (omega (arith, few)) (ap (λ g. touches t.asks g) (sym (custom_at reg)) ∙ used)
 
   -- the future file after the row, with its widths
-  pub file_next : NoStops k 0 (seen_by k m) → IsFile k (r + one_more (left_by k m) 0) (file_early (executed_by k m) (file_late (left_by k m) m.future)) (past_ex k (advanced None (seen_by k m)))
+  abbrev IsFileThen : Option Token → Slots → Type 0
+  IsFileThen e slots = IsFuture k (r + one_more (left_by k m) 0) (paid_file (machine_after k m).owed (file_early e (file_late (left_by k m) (file_paid (paid_by k m) m.future)))) slots × AreWide (tree_of k) (file_early e (file_late (left_by k m) (file_paid (paid_by k m) m.future)))
+
+  pub file_next : NoStops k 0 (seen_by k m) → IsFileThen (executed_by k m) (past_ex k (advanced None (seen_by k m)))
   file_next none =
       let l = seen_by k m in
       let n = (shape_of k).ex in
@@ -135,11 +183,18 @@ module _ (k : Setting) (ready : IsReady k) (earlier : List Row) (m : Machine) (r
       let size = drop_length n l (omega (arith, long, a)) in
       let size' : n + length (at.0 ∷ at.1) ≡ length l = ap (λ (o : Slots). n + length o) (sym at.2) ∙ size in
       let leaves = subst (λ o. IsPlacedSlot k r (run k r).pc (shape_of k).stages [] o) out (R.left_placed k ready earlier m row inv is) in
-      let file = file_advanced k ready r (going at.0) at.1 m.future inv.future_wide (omega (arith, size', long, a)) rest.decided rest.stops (free_ahead k r n at.0 at.1 seen.decided seen.stops) rest.placed
-      (going_placed k ready r n at.0 at.1 seen) leaves (subst (λ o. IsFuture k r m.future o) gone_is future_there) in
-      subst (λ o. IsFile k (r + one_more (left_by k m) 0) (file_early (executed_by k m) (file_late (left_by k m) m.future)) o) (sym moved)
-      (subst (λ e. IsFile k (r + one_more (left_by k m) 0) (file_early e (file_late (left_by k m) m.future)) (advanced (going at.0) at.1)) (sym runs)
-      (subst (λ e. IsFile k (r + one_more e 0) (file_early (going at.0) (file_late e m.future)) (advanced (going at.0) at.1)) (sym out) file)) where
+      let comes = going_placed k ready r n at.0 at.1 seen in
+      let apart = comes_apart none at.0 at.1 (omega (arith, size', long, a)) at.2 seen.decided seen.stops out in
+      let file = future_advanced k ready r (going at.0) at.1 (omega (arith, size', long, a)) rest.decided rest.stops (free_ahead k r n at.0 at.1 seen.decided seen.stops) comes (paid_file m.owed m.future)
+      (paid_file (machine_after k m).owed (file_late (left_by k m) (file_paid (paid_by k m) m.future))) (paid_file (machine_after k m).owed (file_early (going at.0) (file_late (left_by k m) (file_paid (paid_by k m) m.future))))
+      (λ reg few. subst (λ o. Retires k r reg o (get_or (paid_file m.owed m.future) reg zero_bit) (get_or (paid_file (machine_after k m).owed (file_late (left_by k m) (file_paid (paid_by k m) m.future))) reg zero_bit)) out (retires k ready earlier m row inv is reg few))
+      (λ reg few. writes (going at.0) at.1 comes apart reg few) (spawns (going at.0) at.1 apart) (subst (λ o. IsFuture k r (paid_file m.owed m.future) o) gone_is future_there) in
+      let wide = wide_advanced k ready r (going at.0) at.1 (file_paid (paid_by k m) m.future) (paid_wide k ready earlier m inv) comes leaves in
+      subst (λ o. IsFileThen (executed_by k m) o) (sym moved)
+      (subst (λ e. IsFileThen e (advanced (going at.0) at.1)) (sym runs) (
+        subst (λ e. IsFuture k (r + one_more e 0) (paid_file (machine_after k m).owed (file_early (going at.0) (file_late (left_by k m) (file_paid (paid_by k m) m.future)))) (advanced (going at.0) at.1)) (sym out) file,
+        subst (λ e. AreWide (tree_of k) (file_early (going at.0) (file_late e (file_paid (paid_by k m) m.future)))) (sym out) wide,
+      )) where
         drop_rest : (n : ℕ) (l rest : Slots) (s : Option Token) → drop n l ≡ s ∷ rest → drop (suc n) l ≡ rest
         drop_rest zero [] rest s e = cc
         drop_rest zero (x ∷ l) rest s e = ap (λ (o : Slots). drop 1 o) e

@@ -28,6 +28,7 @@ use Rattle.rv_machine.proofs.GoesOn.{goes_on}
 use Rattle.rv_machine.proofs.OneMore.{one_more_row}
 use Rattle.rv_machine.proofs.RunWords.{run_words}
 use Rattle.rv_machine.proofs.RunWidths.{run_wide}
+use Rattle.rv_sight.specs.Written.{WrittenLaw}
 
 -- the laws of what a word may see
 pub record Sights : Type 0 where
@@ -36,6 +37,7 @@ pub record Sights : Type 0 where
   pub keeps : (d : Design) → Stands d → KeepsLaw d
   pub tails : (d : Design) → Stands d → TailLaw d
   pub units : (d : Design) → Stands d → AreInUnits d
+  pub written : (d : Design) → Stands d → WrittenLaw d
   pub quiet : (d : Design) → Stands d → first_spawning (view_extension d.extension) ≡ None → QuietLaw d
   pub whole : WholeLaw
   pub blocks_wide : WideLaw
@@ -62,6 +64,7 @@ ready_of sights d image waits h =
       tails = sights.tails d h.stands;
       quiet = sights.quiet d h.stands h.quiet;
       in_units = sights.units d h.stands;
+      written = sights.written d h.stands;
       whole = sights.whole;
       blocks_wide = sights.blocks_wide;
       answers = sights.answers;

@@ -23,7 +23,7 @@ use Rattle.rv_tried.specs.Parts.{shown_index, shown_x, shown_customs, shown, nat
 use Rattle.rv_trace.specs.declared.row.Row.{Row}
 use Rattle.rv_lawful.specs.Settings.{Setting}
 use Rattle.rv_lawful.specs.Sight.{SpawnsNothing}
-use Rattle.rv_lawful.specs.LawfulTrace.{serial_in, IsUnwritten}
+use Rattle.rv_lawful.specs.LawfulTrace.{serial_in}
 use Rattle.rv_lawful.specs.Outstanding.{is_register, has_target, in_unit, entering, units_after, is_written, decoupled_in, decoupled, without, outstanding, after_retired}
 
 -- Records
@@ -79,9 +79,6 @@ pub no_target : (a : Asks) → SpawnsNothing a → (t : Target) → has_target a
 no_target a quiet (X r) h = false≢true (sym (ap (λ o. is_register o r) quiet.x) ∙ h)
 no_target a quiet (Custom c) h = false≢true (sym (quiet.customs c) ∙ h)
 
-pub no_entry : (a : Asks) → SpawnsNothing a → is_some a.unit ≡ true → ⊥
-no_entry a quiet h = false≢true (sym (ap (λ o. is_some o) quiet.unit) ∙ h)
-
 -- the state after what is retired
 abbrev pub arch_after : Arch → Option (ℕ × Commit) → Arch
 arch_after s None = s
@@ -111,9 +108,6 @@ module _ (k : Setting) (quiet : (word : ℕ) → SpawnsNothing (k.asks word)) wh
 
   pub outstanding_none : (rows : List Row) → outstanding k rows ≡ []
   outstanding_none rows = ap (λ l. without (is_written rows) l) (decoupled_none rows)
-
-  pub none_unwritten : (rows : List Row) (j : ℕ) → IsUnwritten k rows j → ⊥
-  none_unwritten rows j u = no_entry (k.asks u.decoupled.0) (quiet u.decoupled.0) u.decoupled.2
 
   -- what retires is written whole
   pub retired_whole : (p : ℕ) (o : Option (ℕ × Commit)) (s : Arch) → ((r : ℕ × Commit) → o ≡ Some r → length r.1.custom ≡ 16) → after_retired k p o s ≡ arch_after s o

@@ -1,5 +1,5 @@
 -- What the passes over the slots leave as it is, and what the token of RD has when it has read.
-use Rattle.std.proofs.Common.{◌≡◌, ℕ, zero, suc, ◌+◌, ◌-◌, ◌%◌, ◌^◌, ◌<◌, ◌≤◌, List, [], ◌∷◌, length, get_or, Option, Some, None, Bool, true, false, refl, sym, ap, ◌∙◌, subst, arith}
+use Rattle.std.proofs.Common.{◌≡◌, ℕ, zero, suc, ◌+◌, ◌-◌, ◌%◌, ◌^◌, ◌<◌, ◌≤◌, List, [], ◌∷◌, length, get_or, Option, Some, None, Bool, true, false, refl, sym, ap, ◌∙◌, subst, arith, ◌⊎◌, inl, inr}
 use Rattle.std.specs.Prelude.{if◌then◌else◌, ◌==◌, ◌&&◌, slice_index, nat_lt}
 use Rattle.ix_bits.specs.declared.number.Bits.{Bits}
 use Rattle.ix_extension.specs.Extensions.{ExtensionTree}
@@ -16,7 +16,7 @@ use Rattle.rv_holds.specs.Tokens.{Slots, or_else, makes_access, cells_of}
 use Rattle.rv_holds.specs.Holds.{oldest, shown, held, decided}
 use Rattle.rv_holds.specs.Flushing.{cleared}
 use Rattle.rv_holds.specs.declared.token.Beside.{Beside}
-use Rattle.rv_engine.specs.Owing.{Outstanding, beside_of}
+use Rattle.rv_engine.specs.Owing.{Outstanding, board_of, beside_of}
 use Rattle.rv_engine.specs.Settings.{Setting, shape_of}
 use Rattle.rv_engine.specs.Rows.{with_inputs, operands, with_operands, reading, tried_with, seeing, is_ripe, trying, is_loading, loading}
 use Rattle.rv_machine.specs.Owing.{judged}
@@ -236,25 +236,42 @@ reading_placed k ready x owed o r stage (Some t ∷ older) ranged h =
       reading_placed k ready x owed o r (suc stage) older ranged h.1,
     )
 
--- the token of RD has the operands that this file has
+-- the operands that are asked for are those of this file
+abbrev pub HasOperands : List ℕ → Asks → State → Type 0
+HasOperands x a i = (rs1_of i.word ≡ a.first → i.rs1 ≡ slice_index x (rs1_of i.word)) × (rs2_of i.word ≡ a.second → i.rs2 ≡ slice_index x (rs2_of i.word))
+
+-- the token of RD has them, where nothing outstanding owes it a register
 abbrev pub ReadSlot : Setting → List ℕ → ℕ → Option Token → Type 0
 ReadSlot k x stage None = Unit {0}
-ReadSlot k x stage (Some t) = stage ≡ (shape_of k).rd → (t.inputs.rs1 ≡ slice_index x (rs1_of t.inputs.word)) × (t.inputs.rs2 ≡ slice_index x (rs2_of t.inputs.word))
+ReadSlot k x stage (Some t) = stage ≡ (shape_of k).rd → t.beside.board ≡ None → HasOperands x t.asks t.inputs
 
 abbrev pub Read : Setting → List ℕ → ℕ → Slots → Type 0
 Read k x stage [] = Unit {0}
 Read k x stage (s ∷ older) = ReadSlot k x stage s × Read k x (suc stage) older
 
-read_slot : (k : Setting) (x : List ℕ) (owed : ℕ) (o : Outstanding) (stage : ℕ) (s : Option Token) → ReadSlot k x stage (with_operands (shape_of k) x owed o stage s)
-read_slot k x owed o stage None = tt
-read_slot k x owed o stage (Some t) = λ e. by_case (stage == (shape_of k).rd) (same_test stage (shape_of k).rd e) where
-  by_case : (b : Bool) → b ≡ true → ((if b then operands x t.inputs else t.inputs).rs1 ≡ slice_index x (rs1_of (if b then operands x t.inputs else t.inputs).word)) × ((if b then operands x t.inputs else t.inputs).rs2 ≡ slice_index x (rs2_of (if b then operands x t.inputs else t.inputs).word))
-  by_case true h = (refl, refl)
-  by_case false h = cc
+-- two files with the same operands, where nothing of these owes a register
+abbrev pub AreUnowed : List ℕ → List ℕ → Outstanding → Type 0
+AreUnowed x y o = (a : Asks) (reg : ℕ) → reg < 32 → board_of o.owed a ≡ None → (reg ≡ a.first) ⊎ (reg ≡ a.second) → slice_index x reg ≡ slice_index y reg
 
-pub reading_read : (k : Setting) (x : List ℕ) (owed : ℕ) (o : Outstanding) (stage : ℕ) (slots : Slots) → Read k x stage (reading (shape_of k) x owed o stage slots)
-reading_read k x owed o stage [] = tt
-reading_read k x owed o stage (s ∷ older) = (read_slot k x owed o stage s, reading_read k x owed o (suc stage) older)
+pub first_few : (word : ℕ) → rs1_of word < 32
+first_few word = omega arith
+
+pub second_few : (word : ℕ) → rs2_of word < 32
+second_few word = omega arith
+
+read_slot : (k : Setting) (x y : List ℕ) (owed : ℕ) (o : Outstanding) (stage : ℕ) (s : Option Token) → AreUnowed x y o → ReadSlot k y stage (with_operands (shape_of k) x owed o stage s)
+read_slot k x y owed o stage None same = tt
+read_slot k x y owed o stage (Some t) same = λ e free. by_case (stage == (shape_of k).rd) (same_test stage (shape_of k).rd e) free where
+  by_case : (b : Bool) → b ≡ true → (if b then board_of o.owed t.asks else None) ≡ None → HasOperands y t.asks (if b then operands x t.inputs else t.inputs)
+  by_case true h free = (
+    λ q. same t.asks (rs1_of t.inputs.word) (first_few t.inputs.word) free (inl q),
+    λ q. same t.asks (rs2_of t.inputs.word) (second_few t.inputs.word) free (inr q),
+  )
+  by_case false h free = cc
+
+pub reading_read : (k : Setting) (x y : List ℕ) (owed : ℕ) (o : Outstanding) (stage : ℕ) (slots : Slots) → AreUnowed x y o → Read k y stage (reading (shape_of k) x owed o stage slots)
+reading_read k x y owed o stage [] same = tt
+reading_read k x y owed o stage (s ∷ older) same = (read_slot k x y owed o stage s same, reading_read k x y owed o (suc stage) older same)
 
 trial_read : (k : Setting) (tree : ExtensionTree) (x memory : List ℕ) (future : List Bits) (stage : ℕ) (t : Token) (b : Bool) → ReadSlot k x stage (Some t) → ReadSlot k x stage (if b then Some (tried_with tree memory (seeing future t.inputs) t) else Some t)
 trial_read k tree x memory future stage t true h = h

@@ -6,29 +6,28 @@ use Rattle.rv_seq.specs.declared.answer.StepAnswer.{StepAnswer}
 use Rattle.rv_seq.specs.declared.answer.StepAnswer.TheVariants.{Done, Stopped}
 use Rattle.rv_seq.specs.declared.commit.Commit.{Commit}
 use Rattle.rv_seq.specs.Commits.{applied}
-use Rattle.rv_seq.specs.Steps.{after, word_at}
+use Rattle.rv_seq.specs.Steps.{word_at}
 use Rattle.rv_trace.specs.declared.row.Row.{Row}
 use Rattle.rv_trace.specs.Trace.{place, is_flushed, is_retired, retirements}
 use Rattle.rv_holds.specs.declared.token.Token.{Token}
-use Rattle.rv_holds.specs.Tokens.{Slots, stop_in, commit_in, tried_commit, commit_of, or_else}
-use Rattle.rv_holds.specs.Flushing.{next_of, settles, struck, cleared, slot_stop, remains}
+use Rattle.rv_holds.specs.Tokens.{Slots, stop_in, commit_in, tried_commit, commit_of}
+use Rattle.rv_holds.specs.Flushing.{next_of, settles, struck, cleared}
 use Rattle.rv_engine.specs.Settings.{Setting, Machine, shape_of, tree_of, outstanding_in}
-use Rattle.rv_engine.specs.Rows.{going, leaving, with_serial, retired_of, owed_by, turn_by, seen_by, left_by, IsRowOf, native_of, outstanding_by, arch_retired, arch_paid, written_of, paid_by, fetch_by, native_in, native_tried, is_owing, entering_of, machine_after, into_unit, owed_tried, owed_in}
+use Rattle.rv_engine.specs.Rows.{going, leaving, with_serial, retired_of, owed_by, turn_by, seen_by, left_by, IsRowOf, native_of, outstanding_by, arch_retired, arch_paid, written_of, paid_by, native_in, native_tried, entering_of, machine_after, into_unit, owed_tried, owed_in}
 use Rattle.rv_lawful.specs.Outstanding.{architecture, after_retired, after_written}
-use Rattle.rv_machine.specs.Owing.{judged, repaid}
+use Rattle.rv_machine.specs.Owing.{judged}
 use Rattle.rv_machine.specs.Placed.{run, one_more, count, settling_stage, Serials, IsPlaced, IsPlacedSlot, IsReady, Inv}
 use Rattle.rv_machine.specs.Told.{NoStops, out_of, Told, IsBeside}
 use Rattle.rv_machine.proofs.Places.{serials_drop, one_place}
 use Rattle.rv_machine.proofs.Moving.{last_slot, out_going}
-use Rattle.rv_machine.proofs.Runs.{answer, run_suc, kept_word}
+use Rattle.rv_machine.proofs.Runs.{answer, kept_word}
 use Rattle.rv_machine.proofs.Reading.{cleared_read}
 use Rattle.rv_machine.proofs.Ripe.{cleared_ripe}
 use Rattle.rv_machine.proofs.Going.{AreSeen}
 use Rattle.rv_machine.proofs.Moves.{leaving_placed, past_ex}
 use Rattle.rv_machine.proofs.Clearing.{cleared_drop, cleared_placed, cleared_decided, cleared_loaded}
 use Rattle.rv_machine.proofs.Settling.{settles_parts, settled_next, seen_rest}
-use Rattle.rv_machine.proofs.Quiet.{native_same, record_long}
-use Rattle.rv_machine.proofs.Idle.{idle_outstanding, idle_paid, idle_after, quiet_unit, idle_arch}
+use Rattle.rv_machine.proofs.Idle.{idle_outstanding, idle_after, quiet_unit}
 use Rattle.rv_machine.proofs.Meeting.{seen_meets, meets_at}
 use Rattle.rv_machine.proofs.Before as B
 use Rattle.rv_machine.proofs.Flushing as F
@@ -36,7 +35,6 @@ use Rattle.rv_machine.proofs.Telling as T
 use Rattle.rv_tried.specs.Parts.{shown, native, spawned}
 use Rattle.rv_tried.specs.declared.trial.Trial.{Trial}
 use Rattle.rv_lawful.specs.Sight.{asked}
-use Rattle.rv_seq.specs.declared.commit.Stop.TheVariants.{Fetch}
 use Rattle.rv_engine.specs.declared.owing.Owed.{Owed}
 use Rattle.rv_asks.specs.declared.asks.Asks.{Asks}
 use Rattle.rv_seq.specs.declared.arch.Arch.{Arch}
@@ -278,6 +276,7 @@ module _ (k : Setting) (ready : IsReady k) (earlier : List Row) (m : Machine) (r
         timed = inv.timed;
         distinct = inv.distinct;
         written = is.written;
+        paid = inv.paid;
         alive = F.kept_alive k ready earlier m row inv is;
         meets = λ stage t older e. meets_at (shape_of k) (outstanding_in k m) stage (seen_by k m) older t (seen_meets k m (B.struck_inside k ready earlier m inv)) e;
       }
@@ -319,11 +318,6 @@ module _ (k : Setting) (ready : IsReady k) (earlier : List Row) (m : Machine) (r
   pub idle_next : ((outstanding_by k m).entries ≡ []) × ((outstanding_by k m).owed ≡ [])
   idle_next = idle_after k m inv.idle left_unit
 
-  pub stop_now : row.stop ≡ or_else (slot_stop (shape_of k) 0 (seen_by k m)) (if remains (seen_by k m) || is_some (word_at k.image (fetch_by k m)) then None else Some Fetch)
-  stop_now =
-      is.stop
-      ∙ ap (λ l. or_else (slot_stop (shape_of k) 0 (seen_by k m)) (if remains (seen_by k m) || (is_owing l || is_some (word_at k.image (fetch_by k m))) then None else Some Fetch)) idle_next.1
-
   -- ---- the state after the row
 
   -- what a row retires is written as it shows
@@ -350,28 +344,3 @@ module _ (k : Setting) (ready : IsReady k) (earlier : List Row) (m : Machine) (r
       ∙ written_shown (paid_by k m) (after_retired (judged k) r row.retired (architecture (tree_of k) (judged k) earlier))
       ∙ ap (λ s. arch_paid (paid_by k m) (after_retired (judged k) r row.retired s)) inv.state
       ∙ ap (λ s. arch_paid (paid_by k m) s) (retired_shown m.arch)
-
-  -- where nothing is spawned it is written whole
-  native_whole : (word : ℕ) (c : Commit) → answer k r ≡ Done c → native (asked k.design word) ((judged k).course.blocks r) c ≡ c
-  native_whole word c done = native_same (asked k.design word) (ready.quiet.asks word) c (record_long (tree_of k) k.image (run k r) c done) ((judged k).course.blocks r)
-
-  retired_state : arch_retired (native_of (left_by k m)) m.arch ≡ run k (retirements (row ∷ earlier))
-  retired_state = elim goes_out [
-    | inl n ↦
-        let z : retirements earlier + 0 ≡ retirements earlier = omega arith in
-        let e = retired_now ∙ ap (λ o. retirements earlier + o) n.2 ∙ z in
-        ap (λ o. arch_retired (native_of o) m.arch) n.0 ∙ idle_arch m (run k r) inv.idle inv.arch ∙ ap (λ j. run k j) (sym e)
-    | inr y ↦
-        let z : retirements earlier + 1 ≡ suc (retirements earlier) = omega arith in
-        let e = retired_now ∙ ap (λ o. retirements earlier + o) y.1 ∙ z in
-        ap (λ o. arch_retired o m.arch) (y.0.writes ∙ ap (λ d. Some d) (native_whole y.0.token.cell.word y.0.commit y.0.recorded))
-        ∙ ap (λ s. applied y.0.commit s) (idle_arch m (run k r) inv.idle inv.arch)
-        ∙ sym (run_suc k (retirements earlier) ∙ ap (λ a. after (run k (retirements earlier)) a) y.0.recorded)
-        ∙ ap (λ j. run k j) (sym e)
-  ]
-
-  pub state_now : repaid (machine_after k m).owed (machine_after k m).arch ≡ run k (retirements (row ∷ earlier))
-  state_now =
-      ap (λ (l : List Owed). repaid l (machine_after k m).arch) idle_next.1
-      ∙ ap (λ w. arch_paid w (arch_retired (native_of (left_by k m)) m.arch)) (idle_paid k m inv.idle)
-      ∙ retired_state

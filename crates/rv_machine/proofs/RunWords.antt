@@ -41,7 +41,7 @@ use Rattle.rv_lawful.specs.Sight.{HasWords}
 
 -- ---- numbers below 2^32
 
-abbrev Below : ℕ → Type 0
+abbrev pub Below : ℕ → Type 0
 Below n = n < 2 ^ 32
 
 below_mod : (n : ℕ) → Below (n % 2 ^ 32)
@@ -70,7 +70,7 @@ computed_below A.ShiftRightSigned a b p q = below_pattern _
 computed_below A.Or a b p q = or_of_32 a b p q
 computed_below A.And a b p q = below_less (bit_and a b) a (and_le_l a b) p
 
-abbrev IsBelow : Option ℕ → Type 0
+abbrev pub IsBelow : Option ℕ → Type 0
 IsBelow o = IfSome o (λ v. Below v)
 
 result_below : (op : Operation) (b : Base) (pc x y : ℕ) → Below x → Below y → IsBelow (result_as op b pc x y)
@@ -138,7 +138,7 @@ mapped_below f None h = tt
 mapped_below f (Some a) h = h a
 
 -- an effect that writes words to rd and to the pc
-record Writes (e : Effect) : Type 0 where
+pub record Writes (e : Effect) : Type 0 where
   pub rd : IsBelow e.rd
   pub pc : IsBelow e.pc
 
@@ -146,7 +146,7 @@ effect_at_below : (x : ExtensionTree) (w : Which) (i : Inputs) → Writes (effec
 unfolding effect_at
 effect_at_below x w i = record { rd = mapped_below (pattern_written u32) _ (λ a. below_pattern _); pc = mapped_below (pattern_written u32) _ (λ a. below_pattern _) }
 
-own_below : (x : ExtensionTree) (d : Decoded) (i : Inputs) → Below i.rs1 → Below i.rs2 → Writes (effect_of x d i)
+pub own_below : (x : ExtensionTree) (d : Decoded) (i : Inputs) → Below i.rs1 → Below i.rs2 → Writes (effect_of x d i)
 unfolding effect_of
 own_below x (D.Base b) i p q = record { rd = base_rd_below b i (load_as (operation_at b.row)) refl p q; pc = target_below (operation_at b.row) b i.pc i.rs1 i.rs2 }
 own_below x (D.Own n) i p q = effect_at_below x (W.Instruction n) i
@@ -155,11 +155,11 @@ or_below : (a b : Option ℕ) → IsBelow a → IsBelow b → IsBelow (the_or a 
 or_below None b p q = q
 or_below (Some a) b p q = p
 
-over_below : (e f : Effect) → Writes e → Writes f → Writes (over e f)
+pub over_below : (e f : Effect) → Writes e → Writes f → Writes (over e f)
 unfolding over
 over_below e f p q = record { rd = p.rd; pc = or_below e.pc f.pc p.pc q.pc }
 
-blocks_below : (x : ExtensionTree) (i : Inputs) (n : ℕ) → Writes (blocks_effect x i n)
+pub blocks_below : (x : ExtensionTree) (i : Inputs) (n : ℕ) → Writes (blocks_effect x i n)
 unfolding blocks_effect
 blocks_below x i zero = record { rd = tt; pc = tt }
 blocks_below x i (suc n) = over_below (effect_at x (W.Block n) i) (blocks_effect x i n) (effect_at_below x (W.Block n) i) (blocks_below x i n)
@@ -171,7 +171,7 @@ pub record HoldsWords (s : Arch) : Type 0 where
   pub registers : HasWords s
   pub pc : s.pc < 2 ^ 32
 
-set_below : (xs : List ℕ) (i v r : ℕ) → ((n : ℕ) → Below (get_or xs n 0)) → Below v → Below (get_or (slice_set xs i v) r 0)
+pub set_below : (xs : List ℕ) (i v r : ℕ) → ((n : ℕ) → Below (get_or xs n 0)) → Below v → Below (get_or (slice_set xs i v) r 0)
 set_below [] i v r h p = h r
 set_below (x ∷ xs) zero v zero h p = p
 set_below (x ∷ xs) zero v (suc r) h p = h (suc r)

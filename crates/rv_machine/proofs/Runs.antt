@@ -37,7 +37,7 @@ pub run_suc : (k : Setting) (p : ℕ) → run k (suc p) ≡ after (run k p) (ans
 unfolding seq_run
 run_suc k p = refl
 
-step_at : (x : ExtensionTree) (image : List ℕ) (s : Arch) (o : Option ℕ) → word_at image s.pc ≡ o → step x image s ≡ of_word x s o
+pub step_at : (x : ExtensionTree) (image : List ℕ) (s : Arch) (o : Option ℕ) → word_at image s.pc ≡ o → step x image s ≡ of_word x s o
 unfolding step
 step_at x image s o w = ap (λ q. of_word x s q) w
 
@@ -86,11 +86,11 @@ after_step k p P same done = by_answer (answer k p) refl where
   by_answer (Done c) h = subst P (sym (run_done k p c h)) (done c h)
   by_answer (Stopped stop) h = subst P (sym (run_stopped k p stop h)) same
 
--- a register that is not written
-pub run_other : (k : Setting) (ready : IsReady k) (p word reg : ℕ) → word_at k.image (run k p).pc ≡ Some word → (asked k.design word).destination ≢ reg → slice_index (run k (suc p)).x reg ≡ slice_index (run k p).x reg
-run_other k ready p word reg w ne =
+-- a register that is not written, and not spawned
+pub run_other : (k : Setting) (ready : IsReady k) (p word reg : ℕ) → word_at k.image (run k p).pc ≡ Some word → (asked k.design word).destination ≢ reg → is_register (asked k.design word).spawned reg ≡ false → slice_index (run k (suc p)).x reg ≡ slice_index (run k p).x reg
+run_other k ready p word reg w ne none =
     after_step k p (λ s. slice_index s.x reg ≡ slice_index (run k p).x reg) refl
-    (λ c h. (kept_word k ready p word c w h).x reg (λ e. ne (sym e)) (ap (λ (o : Option ℕ). is_register o reg) (ready.quiet.asks word).x))
+    (λ c h. (kept_word k ready p word c w h).x reg (λ e. ne (sym e)) none)
 
 -- memory, where the instruction does not store
 pub run_memory : (k : Setting) (ready : IsReady k) (p word : ℕ) → word_at k.image (run k p).pc ≡ Some word → (asked k.design word).stores ≡ false → (run k (suc p)).mem ≡ (run k p).mem

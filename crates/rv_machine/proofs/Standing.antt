@@ -119,11 +119,11 @@ abbrev pub OldestIs : Slots → (Token → Bool) → Option ℕ → Type 0
 OldestIs older f None = (j : ℕ) → Has older f j → ⊥
 OldestIs older f (Some i) = Has older f i × ((j : ℕ) → Has older f j → i ≤ j)
 
-behind : (s : Option Token) (older : Slots) (f : Token → Bool) (j : ℕ) → Has older f j → Has (s ∷ older) f j
+pub behind : (s : Option Token) (older : Slots) (f : Token → Bool) (j : ℕ) → Has older f j → Has (s ∷ older) f j
 behind s older f j w = (suc w.0, w.1, w.2, w.3, w.4)
 
 -- it holds of the first of these, or of a later one
-front_or_behind : (t : Token) (older : Slots) (f : Token → Bool) (j : ℕ) → Has (Some t ∷ older) f j → ((t.cell.serial ≡ j) × (f t ≡ true)) ⊎ Has older f j
+pub front_or_behind : (t : Token) (older : Slots) (f : Token → Bool) (j : ℕ) → Has (Some t ∷ older) f j → ((t.cell.serial ≡ j) × (f t ≡ true)) ⊎ Has older f j
 front_or_behind t older f j w = by_index w.0 w.2 where
   by_index : (n : ℕ) → slice_get (Some t ∷ older) n ≡ Some (Some w.1) → ((t.cell.serial ≡ j) × (f t ≡ true)) ⊎ Has older f j
   by_index zero e =
@@ -131,7 +131,7 @@ front_or_behind t older f j w = by_index w.0 w.2 where
       inl (ap (λ (u : Token). u.cell.serial) same ∙ w.3, ap (λ (u : Token). f u) same ∙ w.4)
   by_index (suc n) e = inr (n, w.1, e, w.3, w.4)
 
-only_behind : (older : Slots) (f : Token → Bool) (j : ℕ) → Has (None ∷ older) f j → Has older f j
+pub only_behind : (older : Slots) (f : Token → Bool) (j : ℕ) → Has (None ∷ older) f j → Has older f j
 only_behind older f j w = by_index w.0 w.2 where
   by_index : (n : ℕ) → slice_get (None ∷ older) n ≡ Some (Some w.1) → Has older f j
   by_index zero e = cc

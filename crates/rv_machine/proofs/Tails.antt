@@ -9,7 +9,7 @@ use Rattle.rv_trace.specs.declared.row.Hold.TheVariants.{Tail, Wait}
 use Rattle.rv_holds.specs.declared.token.Token.{Token}
 use Rattle.rv_asks.specs.declared.asks.Asks.{Asks}
 use Rattle.rv_holds.specs.Tokens.{Slots, or_else, stop_of, cells_of}
-use Rattle.rv_holds.specs.Holds.{custom_hold, late_hold, drain_hold, store_ahead, store_hold, memory_hold, tail_hold, shown, reading_hold, ending_hold}
+use Rattle.rv_holds.specs.Holds.{custom_hold, late_hold, drain_hold, store_ahead, store_hold, memory_hold, shown, reading_hold, ending_hold}
 use Rattle.rv_engine.specs.Rows.{tail_after, waited, going, advanced, first_slot, fill_first, new_by, loaded_by, seen_by, IsRowOf}
 use Rattle.rv_lawful.specs.Settings as Lawful
 use Rattle.rv_machine.proofs.Deciding.{same_test}
@@ -99,17 +99,38 @@ last_hold k stage t e f g =
       by_tests : Bool → Bool → Bool → Option Hold
       by_tests a b c = if b && is_some (stop_of t) && is_none (own_by a b c) then None else or_else (own_by a b c) None
 
--- what a token that stays in the last stage has then: less of its tail where it is held by Tail, all of it where it was not held so before
-tail_last : (in_mem free none : Bool) (wait tail tailed asked : ℕ) → tail + tailed ≡ asked → (none ≡ true → tail ≡ 0) → (none ≡ false → 0 < tail) → (in_mem ≡ true → 0 < tailed → free ≡ true)
-    → is_some (or_else (if in_mem then (if free then None else Some (Wait wait)) else None) (if none then None else Some (Tail tail))) ≡ true
-    → tail_after (or_else (if in_mem then (if free then None else Some (Wait wait)) else None) (if none then None else Some (Tail tail))) tail
-    + (if Lawful.is_tail (or_else (if in_mem then (if free then None else Some (Wait wait)) else None) (if none then None else Some (Tail tail))) then suc tailed else 0) ≡ asked
-tail_last false free true wait tail tailed asked e z p w h = cc
-tail_last false free false wait tail tailed asked e z p w h = let lt = p refl in omega (arith, e, lt)
-tail_last true true true wait tail tailed asked e z p w h = cc
-tail_last true true false wait tail tailed asked e z p w h = let lt = p refl in omega (arith, e, lt)
-tail_last true false none wait tail zero asked e z p w h = e
-tail_last true false none wait tail (suc j) asked e z p w h = absurd (cc (w refl (omega arith)))
+-- a hold that is not Tail leaves a tail as it is
+other_hold : (o : Option Hold) (n j : ℕ) → Lawful.is_tail o ≡ false → tail_after o n + (if Lawful.is_tail o then suc j else 0) ≡ n
+other_hold None n j p = omega arith
+other_hold (Some (Tail left)) n j p = cc
+other_hold (Some h) n j p = omega arith
+
+-- what a token that stays in the last stage has then: less of its tail where it is held by Tail, all of it where it was not held so before; one whose module is done is not held after it
+tail_last : (in_mem free none : Bool) (wait tail tailed asked : ℕ) (port : Option Hold) → Lawful.is_tail port ≡ false → (tail ≡ 0 → 0 < asked → port ≡ None)
+    → tail + tailed ≡ asked → (none ≡ true → tail ≡ 0) → (none ≡ false → 0 < tail) → (in_mem ≡ true → 0 < tailed → free ≡ true)
+    → is_some (or_else (if in_mem then (if free then None else Some (Wait wait)) else None) (or_else (if none then None else Some (Tail tail)) port)) ≡ true
+    → tail_after (or_else (if in_mem then (if free then None else Some (Wait wait)) else None) (or_else (if none then None else Some (Tail tail)) port)) tail
+    + (if Lawful.is_tail (or_else (if in_mem then (if free then None else Some (Wait wait)) else None) (or_else (if none then None else Some (Tail tail)) port)) then suc tailed else 0) ≡ asked
+tail_last in_mem free none wait tail tailed asked port plain done e z p w h = by_case in_mem free none z p w h where
+  -- held by what is met beside the stages
+  ported : tail ≡ 0 → is_some port ≡ true → tail_after port tail + (if Lawful.is_tail port then suc tailed else 0) ≡ asked
+  ported q s = by_asked asked refl where
+    by_asked : (a : ℕ) → asked ≡ a → tail_after port tail + (if Lawful.is_tail port then suc tailed else 0) ≡ asked
+    by_asked zero f = other_hold port tail tailed plain ∙ omega (arith, q, f)
+    by_asked (suc a) f = let none : port ≡ None = done q (omega (arith, f)) in cc (none, s)
+
+  by_case : (in_mem free none : Bool) → (none ≡ true → tail ≡ 0) → (none ≡ false → 0 < tail) → (in_mem ≡ true → 0 < tailed → free ≡ true)
+      → is_some (or_else (if in_mem then (if free then None else Some (Wait wait)) else None) (or_else (if none then None else Some (Tail tail)) port)) ≡ true
+      → tail_after (or_else (if in_mem then (if free then None else Some (Wait wait)) else None) (or_else (if none then None else Some (Tail tail)) port)) tail
+      + (if Lawful.is_tail (or_else (if in_mem then (if free then None else Some (Wait wait)) else None) (or_else (if none then None else Some (Tail tail)) port)) then suc tailed else 0) ≡ asked
+  by_case false free true z p w h = ported (z refl) h
+  by_case false free false z p w h = let lt = p refl in omega (arith, e, lt)
+  by_case true true true z p w h = ported (z refl) h
+  by_case true true false z p w h = let lt = p refl in omega (arith, e, lt)
+  by_case true false none z p w h = by_tailed tailed refl where
+    by_tailed : (j : ℕ) → tailed ≡ j → tail + 0 ≡ asked
+    by_tailed zero f = omega (arith, e, f)
+    by_tailed (suc j) f = absurd (cc (w refl (omega (arith, f))))
 
 zero_of : (n : ℕ) → (n == 0) ≡ true → n ≡ 0
 zero_of n h = grind (arith, nat_tests)
@@ -117,12 +138,11 @@ zero_of n h = grind (arith, nat_tests)
 some_of : (n : ℕ) → (n == 0) ≡ false → 0 < n
 some_of n h = grind (arith, nat_tests)
 
-pub tail_stays : (in_mem : Bool) (t : Token) (tailed : ℕ) → t.tail + tailed ≡ t.asks.tail → (in_mem ≡ true → 0 < tailed → (t.wait == 0) ≡ true) → t.cell.hold ≡ or_else (if in_mem then memory_hold t else None) (tail_hold t) → is_some t.cell.hold ≡ true
-    → tail_after t.cell.hold t.tail + (if Lawful.is_tail t.cell.hold then suc tailed else 0) ≡ t.asks.tail
-tail_stays in_mem t tailed e w d h =
-    let hold = or_else (if in_mem then memory_hold t else None) (tail_hold t) in
+pub tail_stays : (in_mem : Bool) (t : Token) (tailed : ℕ) → Lawful.is_tail t.beside.port ≡ false → (t.tail ≡ 0 → 0 < t.asks.tail → t.beside.port ≡ None) → t.tail + tailed ≡ t.asks.tail → (in_mem ≡ true → 0 < tailed → (t.wait == 0) ≡ true)
+    → t.cell.hold ≡ or_else (if in_mem then memory_hold t else None) (ending_hold t) → is_some t.cell.hold ≡ true → tail_after t.cell.hold t.tail + (if Lawful.is_tail t.cell.hold then suc tailed else 0) ≡ t.asks.tail
+tail_stays in_mem t tailed plain done e w d h =
     ap (λ o. tail_after o t.tail + (if Lawful.is_tail o then suc tailed else 0)) d
-    ∙ tail_last in_mem (t.wait == 0) (t.tail == 0) t.wait t.tail tailed t.asks.tail e (zero_of t.tail) (some_of t.tail) w (sym (ap (λ o. is_some o) d) ∙ h)
+    ∙ tail_last in_mem (t.wait == 0) (t.tail == 0) t.wait t.tail tailed t.asks.tail t.beside.port plain done e (zero_of t.tail) (some_of t.tail) w (sym (ap (λ o. is_some o) d) ∙ h)
 
 module _ (k : Setting) (ready : IsReady k) (earlier : List Row) (m : Machine) (row : Row) (inv : Inv k earlier m) (is : IsRowOf k m row) where
   -- a token that has not come to the last stage was not held there, by the rows before
@@ -132,6 +152,10 @@ module _ (k : Setting) (ready : IsReady k) (earlier : List Row) (m : Machine) (r
   -- one that was waits for the memory no more
   abbrev pub HasEnded : Type 0
   HasEnded = (t : Token) (older : Slots) → drop (shape_of k).mem (seen_by k m) ≡ Some t ∷ older → 0 < Lawful.tailed (judged k) earlier t.cell.serial → (t.wait == 0) ≡ true
+
+  -- a token whose module is done meets no port. Where it does, the row does not show Tail, and the count of rows in succession begins anew
+  abbrev pub IsDone : Type 0
+  IsDone = (n : ℕ) (t : Token) (older : Slots) → drop n (seen_by k m) ≡ Some t ∷ older → suc n ≡ (shape_of k).stages → t.tail ≡ 0 → 0 < t.asks.tail → t.beside.port ≡ None
 
   within : (n : ℕ) (l older : Slots) (s : Option Token) → drop n l ≡ s ∷ older → n < length l
   within zero [] older s e = cc

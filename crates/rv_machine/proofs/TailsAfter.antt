@@ -23,9 +23,10 @@ use Rattle.rv_machine.proofs.Telling as T
 use Rattle.rv_machine.proofs.Tails.{Moved, stayed, went, moved_from, last_hold, tail_stays}
 use Rattle.rv_machine.proofs.Tails as L
 use Rattle.rv_machine.proofs.GoesNext.{TailsAfter}
-use Rattle.rv_machine.proofs.Idle.{alone, alone_is, idle_outstanding, quiet_unit}
 use Rattle.rv_machine.proofs.Meeting.{seen_meets, meets_at}
-use Rattle.rv_machine.proofs.Bound.{lone_ending}
+use Rattle.rv_asks.specs.declared.asks.Asks.{Asks}
+use Rattle.rv_unit.specs.Entries.{is_frozen}
+use Rattle.rv_engine.specs.Owing.{Outstanding, paying, unit_hold, port_serial, port_hold, retiring_hold, beside_of}
 
 -- ---- below the last stage no hold is Tail
 
@@ -100,6 +101,17 @@ plain_shown k stage t older e =
     plain_unless (stops_now k stage t older) (or_else (own_hold k stage t older) (if is_blocked k (suc stage) older then Some H.Behind else None))
     (plain_or (own_hold k stage t older) (if is_blocked k (suc stage) older then Some H.Behind else None) (plain_own k stage t older e) (plain_if (is_blocked k (suc stage) older) (Some H.Behind) refl))
 
+-- nor is what is met beside the stages
+plain_met : (k : Shape) (o : Outstanding) (stage : ℕ) (a : Asks) → IsPlain (beside_of k o stage a).port
+plain_met k o stage a = plain_if (suc stage == k.stages) (retiring_hold o a) (plain_or (unit_hold o a.unit) (port_hold (port_serial (paying o)) a.destination) (plain_unit a.unit) (plain_port (port_serial (paying o)))) where
+  plain_unit : (u : Option ℕ) → IsPlain (unit_hold o u)
+  plain_unit None = refl
+  plain_unit (Some u) = plain_if (is_frozen o.lasts o.entries u) (Some (H.UnitFull u)) refl
+
+  plain_port : (s : Option ℕ) → IsPlain (port_hold s a.destination)
+  plain_port None = refl
+  plain_port (Some j) = plain_unless (a.destination == 0) (Some (H.Port j)) refl
+
 plain_tail : (o : Option Hold) (n : ℕ) → IsPlain o → tail_after o n ≡ n
 plain_tail None n p = refl
 plain_tail (Some (H.Tail left)) n p = cc
@@ -122,8 +134,8 @@ module _ (k : Setting) (ready : IsReady k) (earlier : List Row) (m : Machine) (r
   empty [] h = refl
   empty (s ∷ l) h = absurd (omega (arith, h))
 
-  pub tails_after : L.IsUntailed k ready earlier m row inv is → L.HasEnded k ready earlier m row inv is → TailsAfter k (row ∷ earlier) (advanced None (seen_by k m))
-  tails_after untailed ended n u older e = elim (moved_from n None (seen_by k m) older u e) [ inl x ↦ by_move x | inr c ↦ cc (c.1) ] where
+  pub tails_after : L.IsUntailed k ready earlier m row inv is → L.HasEnded k ready earlier m row inv is → L.IsDone k ready earlier m row inv is → TailsAfter k (row ∷ earlier) (advanced None (seen_by k m))
+  tails_after untailed ended done n u older e = elim (moved_from n None (seen_by k m) older u e) [ inl x ↦ by_move x | inr c ↦ cc (c.1) ] where
     long : length (seen_by k m) ≡ (shape_of k).stages
     long = B.seen_length k ready earlier m inv
 
@@ -137,11 +149,11 @@ module _ (k : Setting) (ready : IsReady k) (earlier : List Row) (m : Machine) (r
         let z : 0 + i ≡ i = omega arith in
         (subst (λ l. Decided k i l) d (subst (λ b. Decided k b (drop i (seen_by k m))) z (decided_drop k 0 i (seen_by k m) (B.seen_decided k ready earlier m inv)))).0
 
-    -- nothing is met beside the stages
-    alone_at : (i : ℕ) (t : Token) (rest : Slots) → drop i (seen_by k m) ≡ Some t ∷ rest → t.beside ≡ alone
-    alone_at i t rest d =
-        alone_is k (outstanding_in k m) i t (idle_outstanding k m inv.idle) (quiet_unit k ready t.cell.word t.asks (T.at_rest k ready earlier m row inv is i t rest d).0.asks)
-        (meets_at (shape_of k) (outstanding_in k m) i (seen_by k m) rest t (seen_meets k m (B.struck_inside k ready earlier m inv)) d)
+    met_at : (i : ℕ) (t : Token) (rest : Slots) → drop i (seen_by k m) ≡ Some t ∷ rest → IsPlain t.beside.port
+    met_at i t rest d =
+        let o = outstanding_in k m in
+        ap (λ b. Lawful.is_tail b.port) (meets_at (shape_of k) o i (seen_by k m) rest t (seen_meets k m (B.struck_inside k ready earlier m inv)) d)
+        ∙ plain_met (shape_of k) o i t.asks
 
     stay : (t : Token) (rest : Slots) → drop n (seen_by k m) ≡ Some t ∷ rest → is_some t.cell.hold ≡ true → (b : Bool) → (suc n == (shape_of k).stages) ≡ b → tail_after t.cell.hold t.tail + Lawful.tailed (judged k) (row ∷ earlier) t.cell.serial ≡ t.asks.tail
     stay t rest d h false q =
@@ -159,10 +171,9 @@ module _ (k : Setting) (ready : IsReady k) (earlier : List Row) (m : Machine) (r
         let no_rd = higher n (shape_of k).rd (omega (arith, a, b, last)) in
         let no_ex = higher n (shape_of k).ex (omega (arith, b, last)) in
         ap (λ j. tail_after t.cell.hold t.tail + j) (L.shown_last k ready earlier m row inv is n t rest d last)
-        ∙ tail_stays (n == (shape_of k).mem) t (Lawful.tailed (judged k) earlier t.cell.serial) (T.modules_told k ready earlier m row inv is n t rest d)
+        ∙ tail_stays (n == (shape_of k).mem) t (Lawful.tailed (judged k) earlier t.cell.serial) (met_at n t rest d) (done n t rest d last) (T.modules_told k ready earlier m row inv is n t rest d)
         (λ at some. ended t rest (ap (λ i. drop i (seen_by k m)) (sym (test_eq n (shape_of k).mem at)) ∙ d) some)
-        (held_at n t rest d ∙ ap (λ l. shown (shape_of k) n t l) none ∙ last_hold (shape_of k) n t no_rd no_ex q
-        ∙ ap (λ o. or_else (if n == (shape_of k).mem then memory_hold t else None) o) (lone_ending t (alone_at n t rest d))) h where
+        (held_at n t rest d ∙ ap (λ l. shown (shape_of k) n t l) none ∙ last_hold (shape_of k) n t no_rd no_ex q) h where
           higher : (a b : ℕ) → b < a → (a == b) ≡ false
           higher a b lt = grind (arith, nat_tests)
 

@@ -20,17 +20,23 @@ use Rattle.rv_tried.specs.declared.trial.Trial.{Trial}
 use Rattle.rv_tried.specs.Tried.{tried}
 use Rattle.rv_holds.specs.declared.token.Token.{Token}
 use Rattle.rv_holds.specs.Tokens.{Slots, or_else}
-use Rattle.rv_holds.specs.Holds.{oldest, is_late, writes_late, custom, waits_for_custom, first_from, custom_hold, late, late_hold, waiting_hold}
+use Rattle.rv_holds.specs.Holds.{oldest, is_late, writes_late, custom, waits_for_custom, first_from, custom_hold, late, late_hold, waiting_hold, register_count, spawner, least_from, register_at}
 use Rattle.rv_engine.specs.Settings.{Setting, shape_of, tree_of}
-use Rattle.rv_engine.specs.Rows.{tried_with, seeing, is_ripe, trying}
+use Rattle.rv_engine.specs.Rows.{tried_with, seeing, is_ripe, trying, is_pending}
 use Rattle.rv_lawful.specs.Sight.{asked, IsSeen, IsEarly, AreWords}
-use Rattle.rv_machine.specs.Owing.{judged}
-use Rattle.rv_machine.specs.Placed.{run, count, expected, late_in_answer, paid_late, IsFuture, IsTried, IsExact, IsPlaced, IsPlacedSlot, Placed, IsReady}
-use Rattle.rv_machine.proofs.Deciding.{or_else_none, or_else_none_b, test_eq, waits_operand, waits_custom, waits_late, address_of_run}
+use Rattle.rv_machine.specs.Owing.{judged, IsApart, Apart}
+use Rattle.rv_machine.specs.Placed.{run, count, expected, pending_in_answer, paid_late, IsFuture, IsTried, IsExact, IsPlaced, IsPlacedSlot, Placed, IsReady}
+use Rattle.rv_machine.proofs.Deciding.{or_else_none, or_else_none_b, test_eq, waits_operand, waits_board, waits_custom, waits_late, address_of_run}
 use Rattle.rv_machine.proofs.Asking.{used_few}
 use Rattle.rv_machine.proofs.Runs.{answer, step_word, access_word, trial_word}
-use Rattle.rv_machine.proofs.Reading.{ReadSlot, Read, placed_alike, trying_alike}
+use Rattle.rv_machine.proofs.Reading.{ReadSlot, Read, first_few, second_few, placed_alike, trying_alike}
 use Rattle.rv_machine.proofs.Operands.{on_path, operands_ready}
+use Rattle.rv_machine.proofs.Unboarded.{board_parts}
+use Rattle.rv_engine.specs.declared.owing.Owed.{Owed}
+use Rattle.rv_engine.specs.Owing.{holder, board_of}
+use Rattle.rv_lawful.specs.Outstanding.{touches, has_target}
+use Rattle.rv_machine.proofs.Apart.{reads_apart, at_stage}
+use Rattle.rv_machine.proofs.Numbers.{custom_at}
 
 -- ---- what a word is tried to with what agrees with the run
 
@@ -91,33 +97,66 @@ custom_clear older a r lt h u = by_case (get_or a.customs r false) u (sym (ap (w
 pub late_clear : (older : Slots) → late_hold older ≡ None → oldest is_late older ≡ None
 late_clear older h = late_none (oldest is_late older) h
 
--- who does not write a register late owes it nothing
-pub not_late : (a : Asks) (own : List Bool) (reg : ℕ) (y : StepAnswer) → get_or a.late_customs reg false ≡ false → late_in_answer a own reg y ≡ Absent
-not_late a own reg (Done c) h = ap (λ (b : Bool). if b && get_or own reg false then get_or c.custom reg Absent else Absent) h
-not_late a own reg (Stopped stop) h = refl
-
 last_none : (o : Option ℕ) (b : Bool) (n : ℕ) → or_else o (if b then Some n else None) ≡ None → (o ≡ None) × (b ≡ false)
 last_none None true n h = cc
 last_none None false n h = (refl, refl)
 last_none (Some m) b n h = cc
 
--- where none writes it late, nothing is owed to it
-pub none_owes : (k : Setting) (r reg : ℕ) (gone : Slots) (v : Bits) → oldest (writes_late reg) gone ≡ None → paid_late k r reg gone v ≡ v
+-- who writes a register neither late nor by `spawn` owes it nothing
+pub not_pending : (a : Asks) (own : List Bool) (reg : ℕ) (y : StepAnswer) → is_pending a reg ≡ false → pending_in_answer a own reg y ≡ Absent
+not_pending a own reg (Done c) h = ap (λ (b : Bool). if b && get_or own reg false then get_or c.custom reg Absent else Absent) h
+not_pending a own reg (Stopped stop) h = refl
+
+-- it writes the register behind EX
+abbrev pub pends : ℕ → Token → Bool
+pends reg t = is_pending t.asks reg
+
+-- it writes it by `spawn`
+abbrev pub spawns_custom : ℕ → Token → Bool
+spawns_custom reg t = get_or t.asks.spawned_customs reg false
+
+-- where none writes it late, and none by `spawn`, none does behind EX
+pub none_pends : (reg : ℕ) (older : Slots) → oldest (writes_late reg) older ≡ None → oldest (spawns_custom reg) older ≡ None → oldest (pends reg) older ≡ None
+none_pends reg [] a b = refl
+none_pends reg (None ∷ older) a b = none_pends reg older a b
+none_pends reg (Some t ∷ older) a b =
+    let x = last_none (oldest (writes_late reg) older) (writes_late reg t) t.cell.serial a in
+    let y = last_none (oldest (spawns_custom reg) older) (spawns_custom reg t) t.cell.serial b in
+    rw (none_pends reg older x.0 y.0, x.1, y.1) refl
+
+-- where none does, nothing is owed to it
+pub none_owes : (k : Setting) (r reg : ℕ) (gone : Slots) (v : Bits) → oldest (pends reg) gone ≡ None → paid_late k r reg gone v ≡ v
 none_owes k r reg [] v h = refl
 none_owes k r reg (None ∷ older) v h = none_owes k r reg older v h
 none_owes k r reg (Some t ∷ older) v h =
-    let e = last_none (oldest (writes_late reg) older) (writes_late reg t) t.cell.serial h in
-    ap (λ s. with_slot (paid_late k r reg older v) s) (not_late t.asks ((judged k).course.own (r + count older)) reg ((judged k).course.answer (r + count older)) e.1)
+    let e = last_none (oldest (pends reg) older) (pends reg t) t.cell.serial h in
+    ap (λ s. with_slot (paid_late k r reg older v) s) (not_pending t.asks ((judged k).course.own (r + count older)) reg ((judged k).course.answer (r + count older)) e.1)
     ∙ none_owes k r reg older v e.0
 
 past_rd : (stage rd ex : ℕ) → (stage == rd) ≡ false → rd ≤ ex → stage ≡ ex → rd < stage
 past_rd stage rd ex h le e = grind (arith, nat_tests)
 
+-- where nothing owes a register, both files have it
+abbrev pub UnowedFile : List Owed → List Bits → List Bits → Type 0
+UnowedFile owed paid future = (reg : ℕ) → reg < 16 → holder (32 + reg) owed ≡ None → get_or paid reg zero_bit ≡ get_or future reg zero_bit
+
+-- at RD a token meets what is owed
+abbrev pub BoardAt : Setting → List Owed → ℕ → Token → Type 0
+BoardAt k owed stage t = t.beside.board ≡ (if stage == (shape_of k).rd then board_of owed t.asks else None)
+
+abbrev pub BoardSlot : Setting → List Owed → ℕ → Option Token → Type 0
+BoardSlot k owed stage None = Unit {0}
+BoardSlot k owed stage (Some t) = BoardAt k owed stage t
+
+abbrev pub Boards : Setting → List Owed → ℕ → Slots → Type 0
+Boards k owed stage [] = Unit {0}
+Boards k owed stage (s ∷ older) = BoardSlot k owed stage s × Boards k owed (suc stage) older
+
 -- ---- the token of EX, tried
 
 module _ (k : Setting) (ready : IsReady k) (r stage : ℕ) (older : Slots) (t : Token) (memory : List ℕ) (future : List Bits)
     (here : IsPlaced k (r + count older) (expected k r (suc stage) older) stage older t) (behind : Placed k r (suc stage) older) (read : ReadSlot k (run k r).x stage (Some t)) (at_ex : stage ≡ (shape_of k).ex)
-    (free : waiting_hold (shape_of k) stage t older ≡ None) (file : IsFuture k r future older) (wide : AreWide (tree_of k) future) where
+    (free : waiting_hold (shape_of k) stage t older ≡ None) (paid : List Bits) (file : IsFuture k r paid older) (wide : AreWide (tree_of k) future) (owed : List Owed) (same : UnowedFile owed paid future) (apart : (shape_of k).rd < stage → IsApart owed older t) (board : BoardAt k owed stage t) where
   no_late : oldest is_late older ≡ None
   no_late = late_clear older (waits_late (shape_of k) stage t older free at_ex)
 
@@ -130,9 +169,17 @@ module _ (k : Setting) (ready : IsReady k) (r stage : ℕ) (older : Slots) (t : 
   word_there : word_at k.image (run k (r + count older)).pc ≡ Some t.cell.word
   word_there = ap (λ a. word_at k.image a) (sym address) ∙ here.word
 
-  ready_operands : stage ≡ (shape_of k).rd → (slice_index (run k r).x t.asks.first ≡ slice_index (run k (r + count older)).x t.asks.first) × (slice_index (run k r).x t.asks.second ≡ slice_index (run k (r + count older)).x t.asks.second)
+  -- nothing outstanding owes it a register, and no older token spawns one
+  unboarded : stage ≡ (shape_of k).rd → (t.beside.board ≡ None) × (least_from (spawner older t.asks) 0 register_count ≡ None)
+  unboarded e = board_parts t older (waits_board (shape_of k) stage t older free e)
+
+  free_board : stage ≡ (shape_of k).rd → t.beside.board ≡ None
+  free_board e = (unboarded e).0
+
+  ready_operands : stage ≡ (shape_of k).rd
+      → (t.asks.first < 32 → slice_index (run k r).x t.asks.first ≡ slice_index (run k (r + count older)).x t.asks.first) × (t.asks.second < 32 → slice_index (run k r).x t.asks.second ≡ slice_index (run k (r + count older)).x t.asks.second)
   ready_operands e =
-      operands_ready k ready r (suc stage) older t.asks (omega (arith, at_ex)) behind (on_path k r (suc stage) older (omega (arith, at_ex)) behind) (waits_operand (shape_of k) stage t older free e)
+      operands_ready k ready r (suc stage) older t.asks (omega (arith, at_ex)) behind (on_path k r (suc stage) older (omega (arith, at_ex)) behind) (waits_operand (shape_of k) stage t older free e) (unboarded e).1
 
   first_is : rs1_of t.cell.word ≡ t.asks.first → t.inputs.rs1 ≡ slice_index (run k (r + count older)).x (rs1_of t.cell.word)
   first_is e = by_case (stage == (shape_of k).rd) refl where
@@ -140,10 +187,10 @@ module _ (k : Setting) (ready : IsReady k) (r stage : ℕ) (older : Slots) (t : 
     by_case false q = here.first (past_rd stage (shape_of k).rd (shape_of k).ex q ready.rd_ex at_ex) e
     by_case true q =
         let same = test_eq stage (shape_of k).rd q in
-        (read same).0
+        (read same (free_board same)).0 (ap rs1_of here.input_word ∙ e)
         ∙ ap (λ w. slice_index (run k r).x (rs1_of w)) here.input_word
         ∙ ap (λ n. slice_index (run k r).x n) e
-        ∙ (ready_operands same).0
+        ∙ (ready_operands same).0 (subst (λ n. n < 32) e (first_few t.cell.word))
         ∙ ap (λ n. slice_index (run k (r + count older)).x n) (sym e)
 
   second_is : rs2_of t.cell.word ≡ t.asks.second → t.inputs.rs2 ≡ slice_index (run k (r + count older)).x (rs2_of t.cell.word)
@@ -152,16 +199,29 @@ module _ (k : Setting) (ready : IsReady k) (r stage : ℕ) (older : Slots) (t : 
     by_case false q = here.second (past_rd stage (shape_of k).rd (shape_of k).ex q ready.rd_ex at_ex) e
     by_case true q =
         let same = test_eq stage (shape_of k).rd q in
-        (read same).1
+        (read same (free_board same)).1 (ap rs2_of here.input_word ∙ e)
         ∙ ap (λ w. slice_index (run k r).x (rs2_of w)) here.input_word
         ∙ ap (λ n. slice_index (run k r).x n) e
-        ∙ (ready_operands same).1
+        ∙ (ready_operands same).1 (subst (λ n. n < 32) e (second_few t.cell.word))
         ∙ ap (λ n. slice_index (run k (r + count older)).x n) (sym e)
+
+  -- it touches nothing that is owed
+  is_apart : IsApart owed older t
+  is_apart = by_case (stage == (shape_of k).rd) refl where
+    by_case : (b : Bool) → (stage == (shape_of k).rd) ≡ b → IsApart owed older t
+    by_case false q = apart (past_rd stage (shape_of k).rd (shape_of k).ex q ready.rd_ex at_ex)
+    by_case true q = let e = test_eq stage (shape_of k).rd q in reads_apart owed older t (board ∙ at_stage stage (shape_of k).rd (board_of owed t.asks) None e) (waits_board (shape_of k) stage t older free e)
 
   customs_are : (reg : ℕ) → get_or t.asks.customs reg false ≡ true → get_or future reg zero_bit ≡ get_or (run k (r + count older)).custom reg zero_bit
   customs_are reg u =
       let lt = used_few k.design t.cell.word reg (sym (ap (λ (a : Asks). get_or a.customs reg false) here.asks) ∙ u) in
-      sym (none_owes k r reg older (get_or future reg zero_bit) (no_custom reg u)) ∙ file reg lt
+      let away = is_apart in
+      let at = custom_at reg in
+      let touched : touches t.asks (register_at (32 + reg)) ≡ true = ap (λ g. touches t.asks g) (sym at) ∙ u in
+      let unspawned : oldest (spawns_custom reg) older ≡ None = ap (λ g. oldest (λ (v : Token). has_target v.asks g) older) at ∙ away.tokens (32 + reg) (omega (arith, lt)) touched in
+      sym (same reg lt (away.entries (32 + reg) (omega (arith, lt)) touched))
+      ∙ sym (none_owes k r reg older (get_or paid reg zero_bit) (none_pends reg older (no_custom reg u) unspawned))
+      ∙ file reg lt
 
   words_are : AreWords (seeing future t.inputs)
   words_are = let w = here.words in record { word = w.word; rs1 = w.rs1; rs2 = w.rs2; pc = w.pc }
@@ -228,11 +288,12 @@ ripe_parts k stage t older h = by_case (stage == k.ex) (is_none t.trial) (waitin
   by_case true false o e w q = cc
   by_case false b o e w q = cc
 
-pub trying_placed : (k : Setting) (ready : IsReady k) (r stage : ℕ) (slots : Slots) (memory : List ℕ) (future : List Bits) → AreWide (tree_of k) future → Placed k r stage slots → Read k (run k r).x stage slots → AtEx k r future stage slots
+pub trying_placed : (k : Setting) (ready : IsReady k) (r stage : ℕ) (slots : Slots) (memory : List ℕ) (future paid : List Bits) (owed : List Owed) → UnowedFile owed paid future → AreWide (tree_of k) future → Placed k r stage slots → Read k (run k r).x stage slots → AtEx k r paid stage slots
+    → Apart k owed stage slots → Boards k owed stage slots
     → Placed k r stage (trying (tree_of k) (shape_of k) future memory stage slots)
-trying_placed k ready r stage [] memory future wide h read f = tt
-trying_placed k ready r stage (None ∷ older) memory future wide h read f = (tt, trying_placed k ready r (suc stage) older memory future wide h.1 read.1 f.1)
-trying_placed k ready r stage (Some t ∷ older) memory future wide h read f = (by_case (is_ripe (shape_of k) stage t older) refl, trying_placed k ready r (suc stage) older memory future wide h.1 read.1 f.1) where
+trying_placed k ready r stage [] memory future paid owed same wide h read f away boards = tt
+trying_placed k ready r stage (None ∷ older) memory future paid owed same wide h read f away boards = (tt, trying_placed k ready r (suc stage) older memory future paid owed same wide h.1 read.1 f.1 away boards.1)
+trying_placed k ready r stage (Some t ∷ older) memory future paid owed same wide h read f away boards = (by_case (is_ripe (shape_of k) stage t older) refl, trying_placed k ready r (suc stage) older memory future paid owed same wide h.1 read.1 f.1 away.1 boards.1) where
   later : Slots
   later = trying (tree_of k) (shape_of k) future memory (suc stage) older
 
@@ -242,5 +303,5 @@ trying_placed k ready r stage (Some t ∷ older) memory future wide h read f = (
   by_case : (b : Bool) → is_ripe (shape_of k) stage t older ≡ b → IsPlacedSlot k (r + count later) (expected k r (suc stage) later) stage later (if b then Some (tried_with (tree_of k) memory (seeing future t.inputs) t) else Some t)
   by_case true e =
       let x = ripe_parts (shape_of k) stage t older e in
-      over (tried_with (tree_of k) memory (seeing future t.inputs) t) (try_one k ready r stage older t memory future h.0 h.1 read.0 x.0 x.1 (f.0 x.0) wide)
+      over (tried_with (tree_of k) memory (seeing future t.inputs) t) (try_one k ready r stage older t memory future h.0 h.1 read.0 x.0 x.1 paid (f.0 x.0) wide owed same away.0 boards.0)
   by_case false e = over t h.0

@@ -36,7 +36,7 @@ left_there n slots o (Some u) t rest g e = by_hold (is_some u.cell.hold) g where
   by_hold false q = let same : u ≡ t = cc (e, q) in here_of slots [] u n rest ∙ ap (λ (v : Token). Some (Some v)) same
 
 module _ (k : Setting) (ready : IsReady k) (earlier : List Row) (m : Machine) (row : Row) (inv : Inv k earlier m) (is : IsRowOf k m row) where
-  left_here : (t : Token) → left_by k m ≡ Some t → slice_get (seen_by k m) ((shape_of k).stages - 1) ≡ Some (Some t)
+  pub left_here : (t : Token) → left_by k m ≡ Some t → slice_get (seen_by k m) ((shape_of k).stages - 1) ≡ Some (Some t)
   left_here t e =
       let a = ready.ex_last in
       let long = R.seen_length k ready earlier m row inv is in

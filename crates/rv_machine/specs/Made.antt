@@ -1,16 +1,14 @@
 -- What is known of a row that a machine makes, so that it can be shown to be lawful (this project's choice).
-use Rattle.std.specs.Prelude.{◌≡◌, ℕ, suc, ◌+◌, ◌<◌, List, ◌∷◌, drop, length, Some, None, true, false, ◌||◌, if◌then◌else◌, is_some, slice_get}
+use Rattle.std.specs.Prelude.{◌≡◌, ℕ, suc, ◌+◌, ◌<◌, List, ◌∷◌, drop, length, Some, None, true, false, slice_get}
 use Rattle.rv_seq.specs.declared.commit.Commit.{Commit}
 use Rattle.rv_trace.specs.declared.row.Row.{Row}
 use Rattle.rv_trace.specs.Trace.{has_serial, retirements}
 use Rattle.rv_trace.specs.RowParts.{AscendFrom, names_of}
 use Rattle.rv_holds.specs.declared.token.Token.{Token}
-use Rattle.rv_holds.specs.Tokens.{Slots, or_else, cells_of, commit_of}
-use Rattle.rv_seq.specs.declared.commit.Stop.TheVariants.{Fetch}
-use Rattle.rv_seq.specs.Steps.{word_at}
-use Rattle.rv_holds.specs.Flushing.{next_of, settles, struck, slot_stop, remains}
+use Rattle.rv_holds.specs.Tokens.{Slots, cells_of, commit_of}
+use Rattle.rv_holds.specs.Flushing.{next_of, settles, struck}
 use Rattle.rv_engine.specs.Settings.{Setting, Machine, shape_of}
-use Rattle.rv_engine.specs.Rows.{fill_first, new_by, loaded_by, turn_by, seen_by, fetch_by, left_by, retired_of, IsRowOf}
+use Rattle.rv_engine.specs.Rows.{fill_first, new_by, loaded_by, turn_by, seen_by, left_by, retired_of, stop_after, IsRowOf}
 use Rattle.rv_machine.specs.Placed.{run, count, Serials, Inv}
 use Rattle.rv_machine.specs.Told.{Decided, Told}
 use Rattle.rv_tried.specs.Parts.{shown}
@@ -21,8 +19,7 @@ pub record Made (k : Setting) (earlier : List Row) (m : Machine) (row : Row) : T
   pub is : IsRowOf k m row
   pub told : Told k earlier row (seen_by k m)
   pub struck_is : told.flushed ≡ struck (turn_by k m)
-  -- nothing is outstanding after the row
-  pub stop_is : row.stop ≡ or_else (slot_stop (shape_of k) 0 (seen_by k m)) (if remains (seen_by k m) || is_some (word_at k.image (fetch_by k m)) then None else Some Fetch)
+  pub stop_is : row.stop ≡ stop_after k m
   -- the slots before the flush
   pub long : length (loaded_by k m) ≡ (shape_of k).stages
   pub decided : Decided k 0 (loaded_by k m)

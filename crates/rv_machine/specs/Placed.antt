@@ -1,5 +1,5 @@
 -- Where the tokens of a pipeline with an extension stand in the sequential run, and what ties its machine to the rows before (this project's choice).
-use Rattle.std.specs.Prelude.{◌≡◌, ℕ, zero, suc, ◌+◌, ◌-◌, ◌%◌, ◌^◌, ◌<◌, ◌≤◌, List, [], ◌∷◌, drop, length, get_or, Option, Some, None, Bool, true, false, if◌then◌else◌, ◌==◌, nat_lt, slice_get, slice_index}
+use Rattle.std.specs.Prelude.{◌≡◌, ℕ, zero, suc, ◌+◌, ◌-◌, ◌%◌, ◌^◌, ◌<◌, ◌≤◌, List, [], ◌∷◌, drop, length, get_or, Option, Some, None, Bool, true, false, ◌&&◌, if◌then◌else◌, ◌==◌, nat_lt, slice_get, slice_index}
 use Rattle.ix_bits.specs.declared.number.Bits.{Bits}
 use Rattle.ix_extension.specs.Extensions.{ExtensionTree}
 use Rattle.rv_core.specs.declared.Shape.{Shape}
@@ -26,10 +26,12 @@ use Rattle.rv_holds.specs.declared.token.Token.{Token}
 use Rattle.rv_holds.specs.Tokens.{Slots, cell_of, cells_of, stop_in}
 use Rattle.rv_holds.specs.Holds.{oldest, is_late, writes_late}
 use Rattle.rv_engine.specs.Settings.{Setting, Machine, shape_of, tree_of}
-use Rattle.rv_engine.specs.Rows.{late_write, first_slot, owed_by}
+use Rattle.ix_eval.specs.Tables.{table}
+use Rattle.rv_engine.specs.declared.owing.Owed.{Owed}
+use Rattle.rv_engine.specs.Rows.{is_pending, first_slot, owed_by}
 use Rattle.rv_lawful.specs.Settings as Lawful
-use Rattle.rv_machine.specs.Owing.{judged, repaid, Owing, RetiredAs, Distinct, Apart}
-use Rattle.rv_lawful.specs.Outstanding.{architecture, outstanding, units_after}
+use Rattle.rv_machine.specs.Owing.{judged, repaid, paid_owed, Owing, RetiredAs, Distinct, Apart}
+use Rattle.rv_lawful.specs.Outstanding.{architecture, outstanding, units_after, is_written}
 use Rattle.rv_unit.specs.Numbering.{lasts_of}
 use Rattle.rv_unit.specs.Slots.{units_of}
 use Rattle.rv_unit.specs.Timed.{IsTimed}
@@ -38,6 +40,7 @@ use Rattle.rv_sight.specs.InUnits.{AreInUnits}
 use Rattle.rv_lawful.specs.LawfulTrace.{fetch_address, next_serial, IsWordOf}
 use Rattle.rv_lawful.specs.Sight.{asked, HasWords, AreWords, IsEarly, EarlyLaw, ExactLaw, KeepsLaw, TailLaw, QuietLaw}
 use Rattle.rv_effect.specs.WordEffects.{AreWide}
+use Rattle.rv_sight.specs.Written.{WrittenLaw}
 
 -- the state after so many steps of the run
 abbrev pub run : Setting → ℕ → Arch
@@ -62,6 +65,7 @@ pub record IsReady (k : Setting) : Type 0 where
   pub tails : TailLaw k.design
   pub quiet : QuietLaw k.design
   pub in_units : AreInUnits k.design
+  pub written : WrittenLaw k.design
   pub whole : WholeLaw
   pub blocks_wide : WideLaw
   pub answers : AnswerLaw
@@ -161,14 +165,14 @@ tail (s ∷ older) = older
 abbrev pub past_ex : Setting → Slots → Slots
 past_ex k slots = drop (suc (shape_of k).ex) slots
 
--- what a step with this answer, which itself writes these custom registers, writes late to one of them; a stop writes nothing
-abbrev pub late_in_answer : Asks → List Bool → ℕ → StepAnswer → Slot Bits
-late_in_answer a own reg (Done c) = late_write a own c reg
-late_in_answer a own reg (Stopped stop) = Absent
+-- what a step with this answer, which itself writes these custom registers, writes to one of them behind EX, late or by `spawn`; a stop writes nothing
+abbrev pub pending_in_answer : Asks → List Bool → ℕ → StepAnswer → Slot Bits
+pending_in_answer a own reg (Done c) = if is_pending a reg && get_or own reg false then get_or c.custom reg Absent else Absent
+pending_in_answer a own reg (Stopped stop) = Absent
 
--- what the step of a place owes a custom register: its late write
+-- what the step of a place owes a custom register behind EX
 abbrev pub owed_write : Setting → Asks → ℕ → ℕ → Slot Bits
-owed_write k a p reg = late_in_answer a ((judged k).course.own p) reg ((judged k).course.answer p)
+owed_write k a p reg = pending_in_answer a ((judged k).course.own p) reg ((judged k).course.answer p)
 
 -- a custom register with what the tokens past EX still owe it, the oldest first
 abbrev pub paid_late : Setting → ℕ → ℕ → Slots → Bits → Bits
@@ -176,7 +180,11 @@ paid_late k r reg [] v = v
 paid_late k r reg (None ∷ older) v = paid_late k r reg older v
 paid_late k r reg (Some t ∷ older) v = with_slot (paid_late k r reg older v) (owed_write k t.asks (r + count older) reg)
 
--- with what is owed the future file has each custom register as the run has it behind these
+-- a future file with what is owed beside the stages
+abbrev pub paid_file : List Owed → List Bits → List Bits
+paid_file owed file = table (λ reg. paid_owed reg owed (get_or file reg zero_bit)) 16
+
+-- with what is owed by the tokens past EX a future file has each custom register as the run has it behind these
 abbrev pub IsFuture : Setting → ℕ → List Bits → Slots → Type 0
 IsFuture k r future gone = (reg : ℕ) → reg < 16 → paid_late k r reg gone (get_or future reg zero_bit) ≡ get_or (run k (r + count gone)).custom reg zero_bit
 
@@ -218,6 +226,8 @@ pub record Inv (k : Setting) (earlier : List Row) (m : Machine) : Type 0 where
   pub stages : length m.slots ≡ (shape_of k).stages
   -- with what is owed its state is the run's
   pub arch : repaid m.owed m.arch ≡ run k (retirements earlier)
+  -- and each of its x registers has a word
+  pub ranged : (reg : ℕ) → slice_index m.arch.x reg < 2 ^ 32
   pub next_place : place earlier m.next ≡ retirements earlier + count m.slots
   pub next_first : serial_after m.next (cell_of (first_slot m.slots)) ≡ m.next
   pub fetch : m.fetch ≡ expected k (retirements earlier) 1 (tail m.slots)
@@ -227,7 +237,7 @@ pub record Inv (k : Setting) (earlier : List Row) (m : Machine) : Type 0 where
   pub accesses : m.accesses ≡ Lawful.accesses_before (judged k).course (retirements earlier + count (drop (suc (shape_of k).mem) m.slots))
   pub stood_is : (t : Token) (older : Slots) → drop (shape_of k).mem m.slots ≡ Some t ∷ older → m.stood ≡ Lawful.stood (judged k) earlier t.cell.serial
   pub tail_is : (n : ℕ) (t : Token) (older : Slots) → drop n m.slots ≡ Some t ∷ older → t.tail + Lawful.tailed (judged k) earlier t.cell.serial ≡ t.asks.tail
-  pub future : IsFuture k (retirements earlier) m.future (past_ex k m.slots)
+  pub future : IsFuture k (retirements earlier) (paid_file m.owed m.future) (past_ex k m.slots)
   pub future_wide : AreWide (tree_of k) m.future
   pub placed : Placed k (retirements earlier) 0 m.slots
   pub serials : Serials earlier (retirements earlier) m.slots
@@ -245,6 +255,8 @@ pub record Inv (k : Setting) (earlier : List Row) (m : Machine) : Type 0 where
   pub timed : IsTimed (shape_of k).stages (lasts_of k.design.plans) m.entries
   pub distinct : Distinct m.owed
   pub apart : Apart k m.owed 0 m.slots
+  -- what is written was retired
+  pub paid : (s : ℕ) → is_written earlier s ≡ true → is_retired earlier s ≡ true
   pub few_entries : length m.entries ≤ most_entries k
   -- nothing is, yet
   pub idle : (m.entries ≡ []) × (m.owed ≡ [])

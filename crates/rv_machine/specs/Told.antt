@@ -52,6 +52,8 @@ pub record IsBeside (k : Setting) (earlier : List Row) (row : Row) (seen : Slots
   pub written : row.written ≡ written_of (paying o)
   -- what is retired is not flushed
   pub alive : (s : ℕ) → is_flushed earlier s ≡ false → is_retired earlier s ≡ true → is_flushed (row ∷ earlier) s ≡ false
+  -- and what is written is retired
+  pub paid : (s : ℕ) → Out.is_written earlier s ≡ true → is_retired earlier s ≡ true
   pub meets : (stage : ℕ) (t : Token) (older : Slots) → drop stage seen ≡ Some t ∷ older → t.beside ≡ beside_of (shape_of k) o stage t.asks
 
 -- what is told of a row with these slots, of which the first stages are flushed

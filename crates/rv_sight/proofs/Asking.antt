@@ -1,6 +1,6 @@
 -- What is asked of an instruction, operation by operation.
 use Rattle.std.proofs.Common.{inl, inr, Option, ◌≡◌, refl, sym, ap, subst, ◌∙◌, ⊎_elim, ℕ, zero, suc, ◌+◌, ◌<◌, ◌≤◌, arith, List, [], ◌∷◌, ◌++◌, get_or, length, drop, Some, None, Bool, true, false}
-use Rattle.std.specs.Prelude.{◌⊎◌, option_map, slice_get, slice_index, slice_index_or, ◌||◌, ◌&&◌, nat_lt, Contains}
+use Rattle.std.specs.Prelude.{◌⊎◌, option_map, slice_get, slice_index, slice_index_or, ◌||◌, ◌&&◌, nat_lt}
 use Rattle.std.specs.List.{list_any}
 use Rattle.std.proofs.lemmas.Bool.{or_left, or_right, or_cases, false≢true, ltb-false, eq-eqb}
 use Rattle.std.proofs.lemmas.Option.{same_Some, get_or_from_slice_get, slice_get-map}
@@ -9,7 +9,6 @@ use Rattle.ix_graph.specs.declared.kind.Kind.TheVariants as k
 use Rattle.ix_graph.specs.declared.graph.Op.{Op}
 use Rattle.ix_plan.specs.declared.design.Plan.{Plan}
 use Rattle.ix_plan.specs.declared.design.Design.{Design}
-use Rattle.ix_sheet.specs.Behaviours.{IsSpawning}
 use Rattle.rv_core.specs.declared.Shape.{Shape}
 use Rattle.rv_isa.specs.declared.base.Base.{Base}
 use Rattle.rv_isa.specs.Fields.{rs1_of, rs2_of}

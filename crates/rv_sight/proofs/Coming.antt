@@ -29,6 +29,7 @@ use Rattle.rv_tried.specs.Tried.{effect_seen, whole_seen, tried_instruction, tri
 use Rattle.rv_lawful.specs.Settings.{does_access}
 use Rattle.rv_lawful.specs.Outstanding.{is_register}
 use Rattle.rv_lawful.specs.Sight.{IsEarlyCommit, IsEarly, IsKept}
+use Rattle.rv_sight.specs.Written.{IsAskedFor}
 use Rattle.rv_sight.proofs.Parts.{effect_from, table_get, table_none}
 
 -- ---- effects behind those of always-blocks
@@ -139,6 +140,7 @@ base_stop b e f l t p =
 -- ---- what a record keeps
 pub record IsUnasked (a : Asks) (code : ℕ) (e b : Effect) : Type 0 where
   pub rd : (v : ℕ) → e.rd ≡ Some v → (a.destination ≡ rd_of code) ⊎ (a.spawned ≡ Some (rd_of code))
+  pub target : (r : ℕ) → a.spawned ≡ Some r → rd_of code ≡ r
   pub own : (r : ℕ) → r < 16 → get_or a.customs r false ≡ false → get_or e.custom r None ≡ None
   pub blocks : (r : ℕ) → r < 16 → get_or a.customs r false ≡ false → get_or b.custom r None ≡ None
   pub store : a.stores ≡ false → e.store ≡ None
@@ -158,7 +160,32 @@ neither a r rd other unspawned same h = elim h [
   | inr e ↦ false≢true (sym unspawned ∙ ap (λ (o : Option ℕ). is_register o r) e ∙ eq-eqb rd r same)
 ]
 
-pub kept_from : (a : Asks) (s : Arch) (code : ℕ) (e b : Effect) → IsUnasked a code e b → IsKept a s code (commit_of s.pc code (over e b))
+-- what a record keeps, and which x register it writes
+pub record IsHeld (a : Asks) (s : Arch) (code : ℕ) (c : Commit) : Type 0 where
+  pub kept : IsKept a s code c
+  pub asked : IsAskedFor a c
+
+x_some : (rd : ℕ) (o : Option ℕ) (v : ℕ) → x_slot rd o ≡ Now v → x_index rd o ≢ 0
+x_some rd None v e = cc
+x_some rd (Some u) v e = λ zero_is. by (nat_eq rd 0) (eq-eqb rd 0 zero_is) e
+  where
+    by : (b : Bool) → b ≡ true → (cond b Absent (Now u)) ≡ Now v → ⊥
+    by true q h = cc h
+    by false q h = cc q
+
+x_own : (a : Asks) (rd : ℕ) (o : Option ℕ) (v : ℕ) → ((u : ℕ) → o ≡ Some u → (a.destination ≡ rd) ⊎ (a.spawned ≡ Some rd)) → x_slot rd o ≡ Now v → (x_index rd o ≡ a.destination) ⊎ (a.spawned ≡ Some (x_index rd o))
+x_own a rd None v h e = cc
+x_own a rd (Some u) v h e = elim (h u refl) [ inl d ↦ inl (sym d) | inr d ↦ inr d ]
+
+x_target : (rd : ℕ) (o : Option ℕ) (v r : ℕ) → rd ≡ r → x_slot rd o ≡ Now v → x_index rd o ≡ r
+x_target rd None v r h e = cc
+x_target rd (Some u) v r h e = h
+
+asked_from : (a : Asks) (s : Arch) (code : ℕ) (e b : Effect) → IsUnasked a code e b → IsAskedFor a (commit_of s.pc code (over e b))
+unfolding over commit_of
+asked_from a s code e b h = record { some = λ v is. x_some (rd_of code) e.rd v is; own = λ v is. x_own a (rd_of code) e.rd v h.rd is; spawned = λ v r is target. x_target (rd_of code) e.rd v r (h.target r target) is }
+
+kept_from : (a : Asks) (s : Arch) (code : ℕ) (e b : Effect) → IsUnasked a code e b → IsKept a s code (commit_of s.pc code (over e b))
 unfolding over commit_of applied
 kept_from a s code e b h =
     record {
@@ -175,10 +202,13 @@ kept_from a s code e b h =
       memory = λ none. ap (with_store s.mem) (h.store none);
     }
 
+pub held_from : (a : Asks) (s : Arch) (code : ℕ) (e b : Effect) → IsUnasked a code e b → IsHeld a s code (commit_of s.pc code (over e b))
+held_from a s code e b h = record { kept = kept_from a s code e b h; asked = asked_from a s code e b h }
+
 done_is : (o : Option Stop) (c d : Commit) → unless_stopped o (Done c) ≡ Done d → c ≡ d
 done_is None c d e = cc
 done_is (Some stop) c d e = cc
 
-pub kept_by : (a : Asks) (x : ExtensionTree) (s : Arch) (code : ℕ) (d : Decoded) (c : Commit) → IsKept a s code (commit_of s.pc code (whole_effect x s code d)) → of_decoded x s code (Some d) ≡ Done c → IsKept a s code c
+pub held_by : (a : Asks) (x : ExtensionTree) (s : Arch) (code : ℕ) (d : Decoded) (c : Commit) → IsHeld a s code (commit_of s.pc code (whole_effect x s code d)) → of_decoded x s code (Some d) ≡ Done c → IsHeld a s code c
 unfolding attempted
-kept_by a x s code d c h e = subst (IsKept a s code) (done_is (stop_of d (own_effect x s code d)) (commit_of s.pc code (whole_effect x s code d)) c e) h
+held_by a x s code d c h e = subst (IsHeld a s code) (done_is (stop_of d (own_effect x s code d)) (commit_of s.pc code (whole_effect x s code d)) c e) h

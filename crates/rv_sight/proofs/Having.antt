@@ -1,19 +1,22 @@
--- An instruction whose `spawn` body writes a register has a unit of the design, and touches the register.
+-- An instruction whose `spawn` body writes a register has a unit of the design, and touches the register; one with a unit writes such a register.
 use Rattle.std.proofs.Common.{◌≡◌, refl, sym, ap, ◌∙◌, subst, ⊎_elim, ℕ, zero, suc, ◌+◌, ◌<◌, arith, List, [], ◌∷◌, length, take, get_or, Option, Some, None, is_some, Bool, true, false, Contains}
 use Rattle.std.specs.Prelude.{slice_index_or, ◌||◌}
 use Rattle.std.specs.List.{list_any}
 use Rattle.std.proofs.lemmas.Bool.{or_left, or_right, or_cases, and_parts, true≢false, false≢true}
 use Rattle.ix_extension.specs.Extensions.{ExtensionTree, view_extension}
+use Rattle.ix_behaviour.specs.declared.which.Which.TheVariants as W
 use Rattle.ix_behaviour.specs.Laws.{FewLaw}
 use Rattle.ix_depends.specs.Laws.{TimesLaw}
 use Rattle.ix_graph.specs.declared.kind.Kind.{Kind}
 use Rattle.ix_graph.specs.declared.kind.Kind.TheVariants as k
+use Rattle.ix_graph.specs.declared.graph.Mode.{Mode}
+use Rattle.ix_graph.specs.declared.graph.Mode.TheVariants.{InPipeline, Tight, Decoupled, Always}
 use Rattle.ix_graph.specs.declared.graph.Op.{Op}
 use Rattle.ix_plan.specs.declared.design.Plan.{Plan}
 use Rattle.ix_plan.specs.declared.design.Design.{Design}
 use Rattle.ix_plan.specs.declared.design.Target.{Target}
 use Rattle.ix_plan.specs.declared.design.Target.TheVariants.{X, Custom}
-use Rattle.ix_sheet.specs.Behaviours.{IsSpawning}
+use Rattle.ix_sheet.specs.Behaviours.{IsSpawning, IsModeOf}
 use Rattle.ix_standing.specs.Standing.{Stands}
 use Rattle.rv_isa.specs.Fields.{rd_of}
 use Rattle.rv_unit.specs.Numbering.{is_decoupled, lasts_of, unit_after, unit_of}
@@ -31,6 +34,7 @@ use Rattle.rv_sight.specs.InUnits.{AreInUnits}
 use Rattle.rv_sight.proofs.Plans.{plan_of, own_within}
 use Rattle.rv_sight.proofs.Asking.{asks_of, own_asks}
 use Rattle.rv_sight.proofs.Units.{none_quiet, base_quiet}
+use Rattle.rv_sight.proofs.Targets.{some_target, custom_within}
 use Rattle.rv_sight.proofs.Lasting.{spawning_decoupled, units_can_be}
 
 -- ---- flags
@@ -136,6 +140,40 @@ module _ (d : Design) (stands : Stands d) where
       let same = own_asks d word n r.plan r.there in
       (law d.plans n u r.plan (subst (λ (z : Asks). z.unit ≡ Some u) same h) r.there).0
 
+  -- a decoupled instruction has a write of a spawn body
+  unit_spawns : (count u : ℕ) (p : Plan) → IsModeOf p.graph d.sheet false p.mode → unit_after count (Some p) ≡ Some u → IsSpawning p.graph
+  unit_spawns count u p mode h = by p.mode mode h
+    where
+      by : (m : Mode) → IsModeOf p.graph d.sheet false m → some_so (is_decoupled m) count ≡ Some u → IsSpawning p.graph
+      by Decoupled mode h = mode.1
+      by InPipeline mode h = cc
+      by Tight mode h = cc
+      by Always mode h = cc
+
+  having_at : FewLaw → TimesLaw → (word : ℕ) (o : Option Decoded) → decoded_in x word ≡ o → (u : ℕ) → (asks_in d word o).unit ≡ Some u → (t : Target) × (has_target (asks_in d word o) t ≡ true)
+  having_at few times word None is u h = absurd (no_unit (asks_in d word None) (none_quiet d word) u h)
+  having_at few times word (Some (D.Base b)) is u h = absurd (no_unit (asks_in d word (Some (D.Base b))) (base_quiet d word b) u h)
+  having_at few times word (Some (D.Own n)) is u h =
+      let l = own_within x word n is in
+      let r = plan_of d stands n l in
+      let same = own_asks d word n r.plan r.there in
+      let count : ℕ = length (lasts_of (take n d.plans)) in
+      let unit : unit_of d.plans n ≡ unit_after count (Some r.plan) = ap (unit_after count) r.there in
+      let spawning = unit_spawns count u r.plan r.planned.mode (sym unit ∙ subst (λ (z : Asks). z.unit ≡ Some u) same h) in
+      let registers = (few stands.well_formed.0 x stands.well_formed.1).registers in
+      let timely = times stands.well_formed.0 x d.sheet (W.Instruction n) r.plan stands.well_formed.1 l stands.sheet r.planned in
+      let found = some_target x d.sheet (W.Instruction n) r.plan r.planned timely registers spawning d word (unit_of d.plans n) in
+      (found.0, subst (λ (z : Asks). has_target z found.0 ≡ true) (sym same) found.1)
+
+  few_at : (word : ℕ) (o : Option Decoded) → decoded_in x word ≡ o → (c : ℕ) → has_target (asks_in d word o) (Custom c) ≡ true → c < length x.registers
+  few_at word None is c h = absurd (no_target (asks_in d word None) (none_quiet d word) (Custom c) h)
+  few_at word (Some (D.Base b)) is c h = absurd (no_target (asks_in d word (Some (D.Base b))) (base_quiet d word b) (Custom c) h)
+  few_at word (Some (D.Own n)) is c h =
+      let r = plan_of d stands n (own_within x word n is) in
+      let same = own_asks d word n r.plan r.there in
+      custom_within x d.sheet (W.Instruction n) r.plan r.planned c
+      (flag_found (λ q. list_any (acts.spawns_custom q) (acts.acts_of r.plan)) 16 c (subst (λ (z : Asks). has_target z (Custom c) ≡ true) same h))
+
   pub in_units : FewLaw → TimesLaw → UnitsLaw → NumberingLaw → AreInUnits d
   in_units few times units numbers =
       record {
@@ -143,4 +181,6 @@ module _ (d : Design) (stands : Stands d) where
         spawning = λ word t h. spawning_at word (decoded_in x word) refl t h;
         touching = λ word t h. touching_at word (decoded_in x word) refl t h;
         numbering = λ word u h. numbering_at numbers word (decoded_in x word) refl u h;
+        having = λ word u h. having_at few times word (decoded_in x word) refl u h;
+        few = λ word c h. few_at word (decoded_in x word) refl c h;
       }

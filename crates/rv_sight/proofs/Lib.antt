@@ -9,4 +9,5 @@ mod Seeing
 mod Sights
 mod Units
 mod Lasting
+mod Targets
 mod Having

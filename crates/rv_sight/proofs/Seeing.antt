@@ -8,7 +8,6 @@ use Rattle.ix_bits.specs.declared.number.Bits.{Bits}
 use Rattle.ix_graph.specs.declared.kind.Kind.{Kind}
 use Rattle.ix_graph.specs.declared.kind.Kind.TheVariants as k
 use Rattle.ix_graph.specs.declared.graph.Op.{Op}
-use Rattle.ix_sheet.specs.Behaviours.{IsSpawning}
 use Rattle.ix_extension.specs.Extensions.{ExtensionTree, view_extension}
 use Rattle.ix_mean.specs.declared.evaluate.State.{State}
 use Rattle.ix_mean.specs.Given.{inputs_of, raw_seen}
@@ -41,11 +40,11 @@ use Rattle.rv_seq.specs.States.{zero_bit, state_at, inputs_at}
 use Rattle.rv_seq.specs.Steps.{of_decoded}
 use Rattle.rv_tried.specs.Tried.{tried}
 use Rattle.rv_lawful.specs.Settings.{does_access}
-use Rattle.rv_lawful.specs.Sight.{IsSeen, HasWords, AreWords, IsKept}
+use Rattle.rv_lawful.specs.Sight.{IsSeen, HasWords, AreWords}
 use Rattle.rv_sight.proofs.Parts.{effect_from, rd_same, pc_same, custom_same, customs_same, load_same, store_same, rd_none, store_none, custom_none, table_none, are_inputs, raw_of_custom}
 use Rattle.rv_sight.proofs.Asking.{asks_of, flags_at, not_any, asks_first, asks_second, asks_loads, asks_stores, asks_customs, writes_any, asks_late, asks_late_customs, blocks_any, target_is_pc, target_is_rd, target_is_memory, target_is_custom}
 use Rattle.rv_sight.proofs.Base.{SameUsed, base_same, base_rd_same, base_rd_writes, names}
-use Rattle.rv_sight.proofs.Coming.{IsSameBlocks, over_blocks, IsEarlyEffect, kept_from}
+use Rattle.rv_sight.proofs.Coming.{IsSameBlocks, over_blocks, IsEarlyEffect, IsHeld, held_from}
 use Rattle.rv_sight.proofs.Plans.{plan_of, plan_of_block}
 use Rattle.rv_seq.specs.Commits.{commit_of}
 
@@ -146,16 +145,21 @@ module _ (laws : Laws) (d : Design) (stands : Stands d) where
         table_none (λ q. option_or (get_or (effect_at x (W.Block m) there).custom q None) (get_or (blocks_effect x there m).custom q None)) 16 r None
         (λ less. ap (λ (z : Option Bits). option_or z (get_or (blocks_effect x there m).custom r None)) here ∙ rest)
 
+    named_target : (b : Bool) (n r : ℕ) → some_so b n ≡ Some r → n ≡ r
+    named_target true n r e = cc
+    named_target false n r e = cc
+
     pub keeps_own : (n : ℕ) (l : n < length x.instructions)
-        → IsKept (asks_of d code (unit_of d.plans n) (plan_of d stands n l).plan) s code (commit_of s.pc code (over (effect_at x (W.Instruction n) there) (blocks_effect x there (length x.blocks))))
+        → IsHeld (asks_of d code (unit_of d.plans n) (plan_of d stands n l).plan) s code (commit_of s.pc code (over (effect_at x (W.Instruction n) there) (blocks_effect x there (length x.blocks))))
     keeps_own n l =
         let p = plan_of d stands n l in
         let w = W.Instruction n in
         let a = asks_of d code (unit_of d.plans n) p.plan in
         let unwritten = laws.unwritten stands.well_formed.0 x w p.plan.graph.ops there stands.well_formed.1 l p.planned.graph.ops (there_inputs w) in
-        kept_from a s code (effect_at x w there) (blocks_effect x there (length x.blocks))
+        held_from a s code (effect_at x w there) (blocks_effect x there (length x.blocks))
         (record {
           rd = λ v is. by v is (list_any acts.writes_own (acts.acts_of p.plan)) (list_any acts.spawns_x (acts.acts_of p.plan)) refl refl;
+          target = λ r e. named_target (list_any acts.spawns_x (acts.acts_of p.plan)) (rd_of code) r e;
           own = λ r few none. custom_none x w there r (unwritten (3 + r)
               (λ m o e t. not_any (get_or a.customs r false) none (asks_customs d code (unit_of d.plans n) p.plan r few m o e (ap (acts.is_custom r) (target_is_custom o.kind r t) ∙ eq-eqb r r refl))));
           blocks = λ r few none. blocks_none a (own_blocks code (unit_of d.plans n) p.plan) r few none (length x.blocks) (omega arith);
@@ -183,12 +187,13 @@ module _ (laws : Laws) (d : Design) (stands : Stands d) where
     store_absent b m n (Some size) e = cc
 
     pub keeps_base : (b : Base) → decoded code ≡ Some b
-        → IsKept (base_asks d.sheet.shape (blank_in d).customs b) s code (commit_of s.pc code (over (base_effect b there) (blocks_effect x there (length x.blocks))))
+        → IsHeld (base_asks d.sheet.shape (blank_in d).customs b) s code (commit_of s.pc code (over (base_effect b there) (blocks_effect x there (length x.blocks))))
     keeps_base b is =
         let a = base_asks d.sheet.shape (blank_in d).customs b in
-        kept_from a s code (base_effect b there) (blocks_effect x there (length x.blocks))
+        held_from a s code (base_effect b there) (blocks_effect x there (length x.blocks))
         (record {
           rd = λ v e. inl ((names b code is).target (base_rd_writes b there v e));
+          target = λ r e. cc e;
           own = λ r few none. none_repeated 16 r;
           blocks = λ r few none. blocks_none a (base_blocks b) r few none (length x.blocks) (omega arith);
           store = λ none. store_absent b there.rs1 there.rs2 (store_at b) none;

@@ -28,9 +28,10 @@ use Rattle.rv_seq.specs.States.{inputs_at, state_at}
 use Rattle.rv_seq.specs.Steps.{own_effect, whole_effect, of_decoded}
 use Rattle.rv_tried.specs.Tried.{effect_seen, whole_seen, tried}
 use Rattle.rv_lawful.specs.Settings.{does_access}
-use Rattle.rv_lawful.specs.Sight.{IsSeen, HasWords, AreWords, IsEarlyCommit, IsEarly, EarlyLaw, ExactLaw, IsKept, KeepsLaw, TailLaw}
+use Rattle.rv_lawful.specs.Sight.{IsSeen, HasWords, AreWords, IsEarlyCommit, IsEarly, EarlyLaw, ExactLaw, KeepsLaw, TailLaw}
 use Rattle.rv_sight.proofs.Asking.{asks_of, own_asks, base_asks_are, none_asks}
-use Rattle.rv_sight.proofs.Coming.{over_same, exact_answer, early_commit, early_answer, same_access, same_blocks, same_own, none_blocks, none_writes, own_stop, base_stop, kept_by, IsEarlyEffect}
+use Rattle.rv_sight.specs.Written.{WrittenLaw}
+use Rattle.rv_sight.proofs.Coming.{over_same, exact_answer, early_commit, early_answer, same_access, same_blocks, same_own, none_blocks, none_writes, own_stop, base_stop, IsHeld, held_by, IsEarlyEffect}
 use Rattle.rv_sight.proofs.Plans.{plan_of, own_within, base_decoded}
 use Rattle.rv_sight.proofs.Seeing.{Laws, own_is, base_is, none_tried, own_blocks, base_blocks, keeps_own, keeps_base, all_blocks, exact_own, early_own, exact_base, early_base}
 use Rattle.rv_seq.specs.declared.answer.StepAnswer.{StepAnswer}
@@ -141,22 +142,22 @@ module _ (laws : Laws) (d : Design) (stands : Stands d) where
         } in
         subst (λ (z : Asks). Early (Some (D.Base b)) z) (sym e) done
 
-  keeps_of : (code : ℕ) (s : Arch) (c : Commit) → AreWide x s.custom → HasWords s → code < 2 ^ 32 → s.pc < 2 ^ 32 → (o : Option Decoded) → decoded_in x code ≡ o → of_decoded x s code o ≡ Done c
-      → IsKept (asks_in d code o) s code c
-  keeps_of code s c ws hw word pc None is e = cc
-  keeps_of code s c ws hw word pc (Some (D.Own n)) is e =
+  held_of : (code : ℕ) (s : Arch) (c : Commit) → AreWide x s.custom → HasWords s → code < 2 ^ 32 → s.pc < 2 ^ 32 → (o : Option Decoded) → decoded_in x code ≡ o → of_decoded x s code o ≡ Done c
+      → IsHeld (asks_in d code o) s code c
+  held_of code s c ws hw word pc None is e = cc
+  held_of code s c ws hw word pc (Some (D.Own n)) is e =
       let l = own_within x code n is in
       let p = plan_of d stands n l in
       let there : Inputs = inputs_at code s in
       let kept = keeps_own laws d stands code s ws hw word pc n l in
-      let P : Effect → Type 0 = λ z. IsKept (asks_of d code (unit_of d.plans n) p.plan) s code (commit_of s.pc code (over z (blocks_effect x there (length x.blocks)))) in
-      subst (λ (z : Asks). IsKept z s code c) (sym (own_asks d code n p.plan p.there)) (kept_by (asks_of d code (unit_of d.plans n) p.plan) x s code (D.Own n) c (subst P (sym (own_is x n there)) kept) e)
-  keeps_of code s c ws hw word pc (Some (D.Base b)) is e =
+      let P : Effect → Type 0 = λ z. IsHeld (asks_of d code (unit_of d.plans n) p.plan) s code (commit_of s.pc code (over z (blocks_effect x there (length x.blocks)))) in
+      subst (λ (z : Asks). IsHeld z s code c) (sym (own_asks d code n p.plan p.there)) (held_by (asks_of d code (unit_of d.plans n) p.plan) x s code (D.Own n) c (subst P (sym (own_is x n there)) kept) e)
+  held_of code s c ws hw word pc (Some (D.Base b)) is e =
       let there : Inputs = inputs_at code s in
       let kept = keeps_base laws d stands code s ws hw word pc b (base_decoded x code b is) in
       let a = base_asks d.sheet.shape (blank_in d).customs b in
-      let P : Effect → Type 0 = λ z. IsKept a s code (commit_of s.pc code (over z (blocks_effect x there (length x.blocks)))) in
-      subst (λ (z : Asks). IsKept z s code c) (sym (base_asks_are d code b)) (kept_by a x s code (D.Base b) c (subst P (sym (base_is x b there)) kept) e)
+      let P : Effect → Type 0 = λ z. IsHeld a s code (commit_of s.pc code (over z (blocks_effect x there (length x.blocks)))) in
+      subst (λ (z : Asks). IsHeld z s code c) (sym (base_asks_are d code b)) (held_by a x s code (D.Base b) c (subst P (sym (base_is x b there)) kept) e)
 
   tail_most : (mode : Mode) (stages last : ℕ) → last ≤ 64 → tail_of mode stages last ≤ 64
   tail_most Tight stages last l = omega (arith, l)
@@ -184,7 +185,10 @@ module _ (laws : Laws) (d : Design) (stands : Stands d) where
       record { answer = r.answer; accesses = r.accesses; blocks = r.blocks }
 
   pub keeps_law : KeepsLaw d
-  keeps_law code s c ws hw word pc e = keeps_of code s c ws hw word pc (decoded_in x code) refl e
+  keeps_law code s c ws hw word pc e = (held_of code s c ws hw word pc (decoded_in x code) refl e).kept
+
+  pub written_law : WrittenLaw d
+  written_law code s c ws hw word pc e = (held_of code s c ws hw word pc (decoded_in x code) refl e).asked
 
   pub tail_law : TailLaw d
   tail_law code = tail_at code (decoded_in x code) refl

@@ -1,1 +1,2 @@
 pub mod InUnits
+pub mod Written

@@ -2,7 +2,7 @@ use Rattle.rv_sight.proofs.Quiet.{quiet_design}
 use Rattle.rv_sight.proofs.Seeing.{Laws}
 use Rattle.rv_sight.proofs.Units.{quiet_law}
 use Rattle.rv_sight.proofs.Having.{in_units}
-use Rattle.rv_sight.proofs.Sights.{early_law, exact_law, keeps_law, tail_law}
+use Rattle.rv_sight.proofs.Sights.{early_law, exact_law, keeps_law, written_law, tail_law}
 use Rattle.rv_sight.proofs.laws.sight_laws.Goals as goal
 
 pub returns-clause-early : goal.returns-clause-early
@@ -19,6 +19,11 @@ pub returns-clause-keeps : goal.returns-clause-keeps
 returns-clause-keeps c d stands =
     let laws : Laws = record { depends = c.depend_laws.ensures.depends; by_execute = c.depend_laws.ensures.by_execute; times = c.depend_laws.ensures.times; blind = c.depend_laws.ensures.blind; unwritten = c.depend_laws.ensures.unwritten } in
     keeps_law laws d stands
+
+pub returns-clause-written : goal.returns-clause-written
+returns-clause-written c d stands =
+    let laws : Laws = record { depends = c.depend_laws.ensures.depends; by_execute = c.depend_laws.ensures.by_execute; times = c.depend_laws.ensures.times; blind = c.depend_laws.ensures.blind; unwritten = c.depend_laws.ensures.unwritten } in
+    written_law laws d stands
 
 pub returns-clause-quiet : goal.returns-clause-quiet
 returns-clause-quiet c d stands quiet = quiet_law d stands (quiet_design d stands quiet)
