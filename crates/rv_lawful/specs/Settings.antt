@@ -112,7 +112,7 @@ has_tail None s = false
 has_tail (Some None) s = false
 has_tail (Some (Some c)) s = (c.serial == s) && is_tail c.hold
 
--- for how many rows in succession, up to the last of these, the cell of this serial was held by Tail
+-- for how many of these rows the cell of this serial was held by Tail
 unfoldable pub tailed : Setting → List Row → ℕ → ℕ
 tailed k [] s = 0
-tailed k (row ∷ earlier) s = if has_tail (slice_get (stages_of k row) (k.shape.stages - 1)) s then suc (tailed k earlier s) else 0
+tailed k (row ∷ earlier) s = if has_tail (slice_get (stages_of k row) (k.shape.stages - 1)) s then suc (tailed k earlier s) else tailed k earlier s

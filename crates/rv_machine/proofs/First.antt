@@ -15,11 +15,12 @@ use Rattle.rv_holds.specs.Tokens.{Slots, cell_of, cells_of}
 use Rattle.rv_engine.specs.Settings.{Setting, shape_of, first_machine}
 use Rattle.rv_engine.specs.Rows.{first_slot, owed_by}
 use Rattle.rv_lawful.specs.Settings.{Course, accesses_before}
-use Rattle.rv_lawful.specs.Outstanding.{architecture, is_written}
+use Rattle.rv_lawful.specs.Outstanding.{architecture, is_written, decoupled, units_after}
 use Rattle.rv_lawful.specs.LawfulTrace.{fetch_address, next_serial}
-use Rattle.rv_machine.specs.Owing.{judged}
+use Rattle.rv_machine.specs.Owing.{judged, Apart}
 use Rattle.rv_machine.specs.Placed.{run, count, tail, expected, past_ex, paid_late, to_go, Placed, Serials, IsReady, Inv}
-use Rattle.rv_machine.proofs.Idle.{idle_owing, idle_units, idle_apart}
+use Rattle.rv_unit.proofs.Numbered.{first_law}
+use Rattle.rv_engine.specs.declared.owing.Owed.{Owed}
 
 abbrev nothing : ℕ → Slots
 nothing n = replicate n None
@@ -86,8 +87,12 @@ no_accesses run (suc p) e = absurd (omega (arith, e))
 none_below : (s : ℕ) → nat_lt s 0 ≡ false
 none_below s = grind (arith, nat_tests)
 
+apart_none : (k : Setting) (owed : List Owed) (stage n : ℕ) → Apart k owed stage (nothing n)
+apart_none k owed stage zero = tt
+apart_none k owed stage (suc n) = apart_none k owed (suc stage) n
+
 pub first : (k : Setting) (ready : IsReady k) → Inv k [] (first_machine k)
-unfolding retirements is_flushed is_retired is_written place fetch_address next_serial seq_run first_state architecture rows_without
+unfolding retirements is_flushed is_retired is_written decoupled units_after place fetch_address next_serial seq_run first_state architecture rows_without
 first k ready =
     let n = (shape_of k).stages in
     let most = ready.most in
@@ -122,15 +127,14 @@ first k ready =
       fresh = λ s word h. absurd h;
       retired = λ s alive. sym (none_below (place [] s));
       unflushed = λ s le. refl;
-      owing = idle_owing k ready [] (first_machine k) (refl, refl);
+      owing = tt;
       worded = λ s word h. absurd h;
-      units = idle_units k ready [] (first_machine k) (refl, refl);
+      units = sym (first_law (shape_of k).stages k.design.plans);
       timed = tt;
       distinct = tt;
-      apart = idle_apart k ready (first_machine k) 0 (refl, refl) (placed_none k 0 n);
+      apart = apart_none k [] 0 n;
       paid = λ s e. cc e;
       few_entries = omega arith;
-      idle = (refl, refl);
       state = refl;
       progress = rw g (omega arith);
     }

@@ -73,7 +73,6 @@ module _ (k : Setting) (ready : IsReady k) (earlier : List Row) (m : Machine) (r
         distinct = A.distinct_next k ready earlier m row inv is;
         apart = A.apart_next k ready earlier m row inv is (N.no_stop k ready earlier m row inv is e);
         few_entries = few_next k ready earlier m row inv is;
-        idle = R.idle_next k ready earlier m row inv is;
         state = R.architecture_now k ready earlier m row inv is;
         progress = progress;
       }

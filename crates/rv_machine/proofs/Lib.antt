@@ -59,12 +59,10 @@ pub mod EachRow
 pub mod First
 pub mod GoesOn
 pub mod Lawful
-pub mod ModuleWaits
 pub mod NextCounts
 pub mod OneMore
 pub mod Succeeding
 pub mod Turns
-pub mod Untailed
 pub mod WideFuture
 mod Promised
 pub mod Worded

@@ -18,7 +18,7 @@ use Rattle.rv_lawful.specs.Headline.{Headline}
 use Rattle.rv_sight.specs.InUnits.{AreInUnits}
 use Rattle.rv_lawful.specs.Sight.{EarlyLaw, ExactLaw, KeepsLaw, TailLaw, QuietLaw}
 use Rattle.rv_machine.specs.Running.{AreRows, machine_at}
-use Rattle.rv_machine.specs.Promises.{IsInOrder, RowsLaw, TextLaw}
+use Rattle.rv_machine.specs.Promises.{IsRunnable, RowsLaw, TextLaw}
 use Rattle.rv_tried.specs.Whole.{WholeLaw, WideLaw}
 use Rattle.rv_machine.specs.Owing.{judged}
 use Rattle.rv_machine.specs.Placed.{Inv, IsReady, AnswerLaw}
@@ -44,7 +44,7 @@ pub record Sights : Type 0 where
   pub answers : AnswerLaw
 
 -- so a design that stands is ready
-ready_of : Sights → (d : Design) (image waits : List ℕ) → IsInOrder d image → IsReady (setting d image waits)
+ready_of : Sights → (d : Design) (image waits : List ℕ) → IsRunnable d image → IsReady (setting d image waits)
 ready_of sights d image waits h =
     let law = d.sheet.shape.lawful in
     let a = law.memory_late in
@@ -62,7 +62,6 @@ ready_of sights d image waits h =
       exact = sights.exact d h.stands;
       keeps = sights.keeps d h.stands;
       tails = sights.tails d h.stands;
-      quiet = sights.quiet d h.stands h.quiet;
       in_units = sights.units d h.stands;
       written = sights.written d h.stands;
       whole = sights.whole;
@@ -106,15 +105,15 @@ pub text_law : Sights → TextLaw
 text_law sights d image waits cycles text h t =
     record {
       rows = t.rows;
-      headline = rows_law sights d image waits t.rows h t.are_rows;
+      headline = rows_law sights d image waits t.rows (record { stands = h.stands; words = h.words }) t.are_rows;
       few = t.few;
       whole = t.whole;
       text_is =
           let k = setting d image waits in
           let x = view_extension d.extension in
-          let ready = ready_of sights d image waits h in
+          let ready = ready_of sights d image waits (record { stands = h.stands; words = h.words }) in
           t.text_is
           ∙ ap (λ (a : Arch). trace_text d.sheet.shape.stages 0 (reverse t.rows) ++ state_text x [] a) (arch_is k ready t.rows t.are_rows)
           ∙ ap (λ (l : List Decoupled). trace_text d.sheet.shape.stages 0 (reverse t.rows) ++ state_text x (flat_map (owed_targets (judged k)) (reverse l)) (architecture x (judged k) t.rows))
-          (sym (outstanding_none (judged k) ready.quiet.asks t.rows));
+          (sym (outstanding_none (judged k) (sights.quiet d h.stands h.quiet).asks t.rows));
     }

@@ -1,6 +1,6 @@
 -- What goes out of the last stage retires the next record of the run; and what is told of a row that the machine makes.
-use Rattle.std.proofs.Common.{◌≡◌, ◌≢◌, ℕ, zero, suc, ◌+◌, ◌-◌, ◌<◌, ◌≤◌, List, [], ◌∷◌, drop, length, Option, Some, None, Bool, true, false, refl, sym, ap, ◌∙◌, subst, arith, add-zero, ◌⊎◌, inl, inr, IfSome}
-use Rattle.std.specs.Prelude.{◌||◌, if◌then◌else◌, ◌==◌, is_some, nat_lt, IfSome}
+use Rattle.std.proofs.Common.{◌≡◌, ◌≢◌, ℕ, zero, suc, ◌+◌, ◌-◌, ◌<◌, ◌≤◌, List, [], ◌∷◌, drop, length, Option, Some, None, Bool, true, false, refl, sym, ap, ◌∙◌, subst, arith, add-zero, ◌⊎◌, inl, inr}
+use Rattle.std.specs.Prelude.{◌||◌, if◌then◌else◌, ◌==◌, is_some, nat_lt}
 use Rattle.std.proofs.lemmas.Bool.Decides.{nat_tests}
 use Rattle.rv_seq.specs.declared.answer.StepAnswer.{StepAnswer}
 use Rattle.rv_seq.specs.declared.answer.StepAnswer.TheVariants.{Done, Stopped}
@@ -13,7 +13,7 @@ use Rattle.rv_holds.specs.declared.token.Token.{Token}
 use Rattle.rv_holds.specs.Tokens.{Slots, stop_in, commit_in, tried_commit, commit_of}
 use Rattle.rv_holds.specs.Flushing.{next_of, settles, struck, cleared}
 use Rattle.rv_engine.specs.Settings.{Setting, Machine, shape_of, tree_of, outstanding_in}
-use Rattle.rv_engine.specs.Rows.{going, leaving, with_serial, retired_of, owed_by, turn_by, seen_by, left_by, IsRowOf, native_of, outstanding_by, arch_retired, arch_paid, written_of, paid_by, native_in, native_tried, entering_of, machine_after, into_unit, owed_tried, owed_in}
+use Rattle.rv_engine.specs.Rows.{going, leaving, with_serial, retired_of, owed_by, turn_by, seen_by, left_by, IsRowOf, native_of, arch_retired, arch_paid, written_of, paid_by, native_in, native_tried, entering_of, machine_after, into_unit, owed_tried, owed_in}
 use Rattle.rv_lawful.specs.Outstanding.{architecture, after_retired, after_written}
 use Rattle.rv_machine.specs.Owing.{judged}
 use Rattle.rv_machine.specs.Placed.{run, one_more, count, settling_stage, Serials, IsPlaced, IsPlacedSlot, IsReady, Inv}
@@ -27,7 +27,6 @@ use Rattle.rv_machine.proofs.Going.{AreSeen}
 use Rattle.rv_machine.proofs.Moves.{leaving_placed, past_ex}
 use Rattle.rv_machine.proofs.Clearing.{cleared_drop, cleared_placed, cleared_decided, cleared_loaded}
 use Rattle.rv_machine.proofs.Settling.{settles_parts, settled_next, seen_rest}
-use Rattle.rv_machine.proofs.Idle.{idle_outstanding, idle_after, quiet_unit}
 use Rattle.rv_machine.proofs.Meeting.{seen_meets, meets_at}
 use Rattle.rv_machine.proofs.Before as B
 use Rattle.rv_machine.proofs.Flushing as F
@@ -296,7 +295,6 @@ module _ (k : Setting) (ready : IsReady k) (earlier : List Row) (m : Machine) (r
         modules = T.modules_told k ready earlier m row inv is;
         outstanding = outstanding_in k m;
         beside = beside_told;
-        idle = idle_outstanding k m inv.idle;
         decided = B.seen_decided k ready earlier m inv;
         serials = F.seen_serials k ready earlier m row inv is;
         words = F.words_now k ready earlier m row inv is;
@@ -307,16 +305,6 @@ module _ (k : Setting) (ready : IsReady k) (earlier : List Row) (m : Machine) (r
   pub told_struck : told.flushed ≡ struck (turn_by k m)
   unfolding told
   told_struck = refl
-
-  -- nothing is outstanding after the row
-  left_unit : IfSome (left_by k m) (λ t. t.asks.unit ≡ None)
-  left_unit = by_slot (left_by k m) left_placed where
-    by_slot : (o : Option Token) → IsPlacedSlot k r (run k r).pc (shape_of k).stages [] o → IfSome o (λ t. t.asks.unit ≡ None)
-    by_slot None h = tt
-    by_slot (Some t) h = quiet_unit k ready t.cell.word t.asks h.asks
-
-  pub idle_next : ((outstanding_by k m).entries ≡ []) × ((outstanding_by k m).owed ≡ [])
-  idle_next = idle_after k m inv.idle left_unit
 
   -- ---- the state after the row
 

@@ -1,13 +1,13 @@
 -- For how many rows each module still goes on after a row.
-use Rattle.std.proofs.Common.{◌≡◌, ℕ, zero, suc, ◌+◌, ◌<◌, ◌≤◌, List, [], ◌∷◌, drop, length, Option, Some, None, Bool, true, false, refl, sym, ap, ◌∙◌, subst, arith, inl, inr}
-use Rattle.std.specs.Prelude.{if◌then◌else◌, ◌==◌, is_some, get_or, min, max}
+use Rattle.std.proofs.Common.{◌≡◌, ℕ, zero, suc, ◌+◌, ◌<◌, ◌≤◌, List, [], ◌∷◌, drop, length, Option, Some, None, Bool, true, false, refl, sym, ap, ◌∙◌, subst, arith, inl, inr, ◌-◌}
+use Rattle.std.specs.Prelude.{if◌then◌else◌, ◌==◌, is_some, get_or, min, max, ◌&&◌, slice_get}
 use Rattle.std.proofs.lemmas.Bool.Decides.{nat_tests}
 use Rattle.rv_core.specs.declared.Shape.{Shape}
 use Rattle.rv_trace.specs.declared.row.Row.{Row}
 use Rattle.rv_trace.specs.declared.row.Hold.{Hold}
 use Rattle.rv_trace.specs.declared.row.Hold.TheVariants as H
 use Rattle.rv_holds.specs.declared.token.Token.{Token}
-use Rattle.rv_holds.specs.Tokens.{Slots, or_else, stop_of}
+use Rattle.rv_holds.specs.Tokens.{Slots, or_else, stop_of, cells_of}
 use Rattle.rv_holds.specs.Holds.{oldest, operand, does_write, waits_for, operand_hold, custom, writes_late, waits_for_custom, first_from, custom_hold, late, is_late, late_hold, waiting_hold, drain, drain_hold, store_ahead, does_store, store_hold, memory_hold, own_hold, stops_now, is_blocked, shown, board, reading_hold, left_behind, board_hold, ending_hold, lower_of, least_from, spawner, register_count}
 use Rattle.rv_engine.specs.Settings.{Setting, Machine, shape_of, outstanding_in}
 use Rattle.rv_engine.specs.Rows.{tail_after, advanced, seen_by, IsRowOf}
@@ -15,18 +15,22 @@ use Rattle.rv_lawful.specs.Settings as Lawful
 use Rattle.rv_machine.specs.Owing.{judged}
 use Rattle.rv_machine.specs.Placed.{IsReady, Inv}
 use Rattle.rv_machine.specs.Told.{Decided}
-use Rattle.rv_machine.proofs.Deciding.{test_eq}
-use Rattle.rv_machine.proofs.Standing.{decided_drop}
+use Rattle.rv_machine.proofs.Deciding.{test_eq, same_test}
+use Rattle.rv_machine.proofs.Standing.{decided_drop, here_of, cell_here}
 use Rattle.rv_machine.proofs.Moves.{advanced_length}
 use Rattle.rv_machine.proofs.Before as B
 use Rattle.rv_machine.proofs.Telling as T
-use Rattle.rv_machine.proofs.Tails.{Moved, stayed, went, moved_from, last_hold, tail_stays}
-use Rattle.rv_machine.proofs.Tails as L
+use Rattle.rv_machine.proofs.Tails.{Moved, stayed, went, moved_from, last_hold}
 use Rattle.rv_machine.proofs.GoesNext.{TailsAfter}
 use Rattle.rv_machine.proofs.Meeting.{seen_meets, meets_at}
 use Rattle.rv_asks.specs.declared.asks.Asks.{Asks}
 use Rattle.rv_unit.specs.Entries.{is_frozen}
 use Rattle.rv_engine.specs.Owing.{Outstanding, paying, unit_hold, port_serial, port_hold, retiring_hold, beside_of}
+use Rattle.rv_trace.specs.declared.row.Cell.{Cell}
+use Rattle.rv_trace.specs.Trace.{retirements}
+use Rattle.rv_machine.proofs.Places.{token_order}
+use Rattle.rv_machine.proofs.Flushing.{alike_get, new_serial, fetched_serial}
+use Rattle.rv_machine.proofs.Flushing as F
 
 -- ---- below the last stage no hold is Tail
 
@@ -96,13 +100,13 @@ plain_own k stage t older e =
     (plain_or (memory_hold t) (store_hold older t.asks) (plain_unless (t.wait == 0) (Some (H.Wait t.wait)) refl) (plain_if t.asks.loads (store_ahead (oldest does_store older)) (plain_store (oldest does_store older)))))
     (ap (λ (b : Bool). Lawful.is_tail (if b then ending_hold t else None)) e)))
 
-plain_shown : (k : Shape) (stage : ℕ) (t : Token) (older : Slots) → (suc stage == k.stages) ≡ false → IsPlain (shown k stage t older)
+pub plain_shown : (k : Shape) (stage : ℕ) (t : Token) (older : Slots) → (suc stage == k.stages) ≡ false → IsPlain (shown k stage t older)
 plain_shown k stage t older e =
     plain_unless (stops_now k stage t older) (or_else (own_hold k stage t older) (if is_blocked k (suc stage) older then Some H.Behind else None))
     (plain_or (own_hold k stage t older) (if is_blocked k (suc stage) older then Some H.Behind else None) (plain_own k stage t older e) (plain_if (is_blocked k (suc stage) older) (Some H.Behind) refl))
 
 -- nor is what is met beside the stages
-plain_met : (k : Shape) (o : Outstanding) (stage : ℕ) (a : Asks) → IsPlain (beside_of k o stage a).port
+pub plain_met : (k : Shape) (o : Outstanding) (stage : ℕ) (a : Asks) → IsPlain (beside_of k o stage a).port
 plain_met k o stage a = plain_if (suc stage == k.stages) (retiring_hold o a) (plain_or (unit_hold o a.unit) (port_hold (port_serial (paying o)) a.destination) (plain_unit a.unit) (plain_port (port_serial (paying o)))) where
   plain_unit : (u : Option ℕ) → IsPlain (unit_hold o u)
   plain_unit None = refl
@@ -112,18 +116,65 @@ plain_met k o stage a = plain_if (suc stage == k.stages) (retiring_hold o a) (pl
   plain_port None = refl
   plain_port (Some j) = plain_unless (a.destination == 0) (Some (H.Port j)) refl
 
-plain_tail : (o : Option Hold) (n : ℕ) → IsPlain o → tail_after o n ≡ n
-plain_tail None n p = refl
-plain_tail (Some (H.Tail left)) n p = cc
-plain_tail (Some h) n p = refl
+-- a row held by Tail takes one
+one_less : (o : Option Hold) (tail held asked : ℕ) → (Lawful.is_tail o ≡ true → 0 < tail) → tail + held ≡ asked → tail_after o tail + (if Lawful.is_tail o then suc held else held) ≡ asked
+one_less None tail held asked p e = e
+one_less (Some (H.Tail left)) tail held asked p e = let lt = p refl in omega (arith, lt, e)
+one_less (Some h) tail held asked p e = e
 
-not_equal : (a b : ℕ) → (a == b) ≡ false → a < b → a < b
-not_equal a b h lt = lt
+-- a token of the last stage shows Tail for its module alone
+some_tail : (in_mem : Bool) (t : Token) → Lawful.is_tail t.beside.port ≡ false → Lawful.is_tail (or_else (if in_mem then memory_hold t else None) (ending_hold t)) ≡ true → 0 < t.tail
+some_tail in_mem t plain h = by_case in_mem (t.wait == 0) (t.tail == 0) refl h where
+  above : (n : ℕ) → (n == 0) ≡ false → 0 < n
+  above n h = grind (arith, nat_tests)
 
-lower_test : (a b : ℕ) → a < b → (a == b) ≡ false
-lower_test a b lt = grind (arith, nat_tests)
+  by_case : (a b c : Bool) → (t.tail == 0) ≡ c → Lawful.is_tail (or_else (if a then (if b then None else Some (H.Wait t.wait)) else None) (or_else (if c then None else Some (H.Tail t.tail)) t.beside.port)) ≡ true → 0 < t.tail
+  by_case a b false q e = above t.tail q
+  by_case false b true q e = cc (plain, e)
+  by_case true true true q e = cc (plain, e)
+  by_case true false true q e = cc
 
 module _ (k : Setting) (ready : IsReady k) (earlier : List Row) (m : Machine) (row : Row) (inv : Inv k earlier m) (is : IsRowOf k m row) where
+  -- the row shows another token in the last stage
+  below_last : (n : ℕ) (t : Token) (older : Slots) → drop n (seen_by k m) ≡ Some t ∷ older → suc n < (shape_of k).stages → Lawful.tailed (judged k) (row ∷ earlier) t.cell.serial ≡ Lawful.tailed (judged k) earlier t.cell.serial
+  unfolding Lawful.tailed
+  below_last n t older e lt =
+      let here = here_of (seen_by k m) older t n e in
+      let x = F.left_from k ready earlier m row inv is n t here in
+      let le = x.0 in
+      ap (λ o. if Lawful.has_tail o t.cell.serial then suc (Lawful.tailed (judged k) earlier t.cell.serial) else Lawful.tailed (judged k) earlier t.cell.serial) (F.stands_at k ready earlier m row inv is ((shape_of k).stages - 1) (omega (arith, le, lt)))
+      ∙ by_slot (slice_get (cells_of (seen_by k m)) ((shape_of k).stages - 1)) refl where
+        other : (x y : ℕ) → x < y → (x == y) ≡ false
+        other x y lt = grind (arith, nat_tests)
+
+        token_there : (l : Slots) (i : ℕ) (c : Cell) → slice_get (cells_of l) i ≡ Some (Some c) → (w : Token) × (slice_get l i ≡ Some (Some w)) × (w.cell ≡ c)
+        token_there [] i c q = cc
+        token_there (None ∷ l) zero c q = cc
+        token_there (Some w ∷ l) zero c q = (w, refl, same_cell w.cell c q) where
+          same_cell : (a b : Cell) → ◌≡◌ {A = Option (Option Cell)} (Some (Some a)) (Some (Some b)) → a ≡ b
+          same_cell a b z = cc
+        token_there (s ∷ l) (suc i) c q = token_there l i c q
+
+        by_slot : (o : Option (Option Cell)) → slice_get (cells_of (seen_by k m)) ((shape_of k).stages - 1) ≡ o → (if Lawful.has_tail o t.cell.serial then suc (Lawful.tailed (judged k) earlier t.cell.serial) else Lawful.tailed (judged k) earlier t.cell.serial) ≡ Lawful.tailed (judged k) earlier t.cell.serial
+        by_slot None q = refl
+        by_slot (Some None) q = refl
+        by_slot (Some (Some c)) q =
+            let w = token_there (seen_by k m) ((shape_of k).stages - 1) c q in
+            let less = token_order (row ∷ earlier) (retirements earlier) n ((shape_of k).stages - 1) (seen_by k m) t w.0 (F.seen_serials k ready earlier m row inv is) (omega (arith, lt)) (here_of (seen_by k m) older t n e) w.1 in
+            let same = ap (λ (d : Cell). d.serial) w.2 in
+            ap (λ (b : Bool). if b && Lawful.is_tail c.hold then suc (Lawful.tailed (judged k) earlier t.cell.serial) else Lawful.tailed (judged k) earlier t.cell.serial) (other c.serial t.cell.serial (omega (arith, less, same)))
+
+  -- a token of the last stage is shown there
+  at_last : (n : ℕ) (t : Token) (older : Slots) → drop n (seen_by k m) ≡ Some t ∷ older → suc n ≡ (shape_of k).stages → Lawful.tailed (judged k) (row ∷ earlier) t.cell.serial ≡ (if Lawful.is_tail t.cell.hold then suc (Lawful.tailed (judged k) earlier t.cell.serial) else Lawful.tailed (judged k) earlier t.cell.serial)
+  unfolding Lawful.tailed
+  at_last n t older e last =
+      let here = here_of (seen_by k m) older t n e in
+      let x = F.left_from k ready earlier m row inv is n t here in
+      let i : (shape_of k).stages - 1 ≡ n = omega (arith, last) in
+      ap (λ o. if Lawful.has_tail o t.cell.serial then suc (Lawful.tailed (judged k) earlier t.cell.serial) else Lawful.tailed (judged k) earlier t.cell.serial)
+      (ap (λ j. slice_get (Lawful.stages_of (judged k) row) j) i ∙ F.stands_at k ready earlier m row inv is n x.0 ∙ cell_here (seen_by k m) n t here)
+      ∙ ap (λ (b : Bool). if b && Lawful.is_tail t.cell.hold then suc (Lawful.tailed (judged k) earlier t.cell.serial) else Lawful.tailed (judged k) earlier t.cell.serial) (same_test t.cell.serial t.cell.serial refl)
+
   within : (n : ℕ) (l older : Slots) (s : Option Token) → drop n l ≡ s ∷ older → n + suc (length older) ≡ length l
   within zero [] older s e = cc
   within zero (x ∷ l) older s e = let h = ap length e in omega (arith, h)
@@ -134,52 +185,48 @@ module _ (k : Setting) (ready : IsReady k) (earlier : List Row) (m : Machine) (r
   empty [] h = refl
   empty (s ∷ l) h = absurd (omega (arith, h))
 
-  pub tails_after : L.IsUntailed k ready earlier m row inv is → L.HasEnded k ready earlier m row inv is → L.IsDone k ready earlier m row inv is → TailsAfter k (row ∷ earlier) (advanced None (seen_by k m))
-  tails_after untailed ended done n u older e = elim (moved_from n None (seen_by k m) older u e) [ inl x ↦ by_move x | inr c ↦ cc (c.1) ] where
-    long : length (seen_by k m) ≡ (shape_of k).stages
-    long = B.seen_length k ready earlier m inv
+  held_at : (i : ℕ) (t : Token) (rest : Slots) → drop i (seen_by k m) ≡ Some t ∷ rest → t.cell.hold ≡ shown (shape_of k) i t rest
+  held_at i t rest d =
+      let z : 0 + i ≡ i = omega arith in
+      (subst (λ l. Decided k i l) d (subst (λ b. Decided k b (drop i (seen_by k m))) z (decided_drop k 0 i (seen_by k m) (B.seen_decided k ready earlier m inv)))).0
 
-    below : (i : ℕ) (t : Token) (rest : Slots) → drop i (seen_by k m) ≡ Some t ∷ rest → suc i < (shape_of k).stages → t.tail + Lawful.tailed (judged k) (row ∷ earlier) t.cell.serial ≡ t.asks.tail
-    below i t rest d lt =
-        ap (λ j. t.tail + j) (L.not_last k ready earlier m row inv is untailed i t rest d lt ∙ sym (L.seen_untailed k ready earlier m row inv is untailed i t rest d lt))
-        ∙ T.modules_told k ready earlier m row inv is i t rest d
+  -- what it meets is not Tail
+  met_at : (i : ℕ) (t : Token) (rest : Slots) → drop i (seen_by k m) ≡ Some t ∷ rest → Lawful.is_tail t.beside.port ≡ false
+  met_at i t rest d =
+      let o = outstanding_in k m in
+      ap (λ b. Lawful.is_tail b.port) (meets_at (shape_of k) o i (seen_by k m) rest t (seen_meets k m (B.struck_inside k ready earlier m inv)) d)
+      ∙ plain_met (shape_of k) o i t.asks
 
-    held_at : (i : ℕ) (t : Token) (rest : Slots) → drop i (seen_by k m) ≡ Some t ∷ rest → t.cell.hold ≡ shown (shape_of k) i t rest
-    held_at i t rest d =
-        let z : 0 + i ≡ i = omega arith in
-        (subst (λ l. Decided k i l) d (subst (λ b. Decided k b (drop i (seen_by k m))) z (decided_drop k 0 i (seen_by k m) (B.seen_decided k ready earlier m inv)))).0
+  stays_counted : (n : ℕ) (t : Token) (rest : Slots) → drop n (seen_by k m) ≡ Some t ∷ rest → (b : Bool) → (suc n == (shape_of k).stages) ≡ b → tail_after t.cell.hold t.tail + Lawful.tailed (judged k) (row ∷ earlier) t.cell.serial ≡ t.asks.tail
+  stays_counted n t rest d false q =
+      let w = within n (seen_by k m) rest (Some t) d in
+      let long = B.seen_length k ready earlier m inv in
+      let plain : Lawful.is_tail t.cell.hold ≡ false = ap (λ o. Lawful.is_tail o) (held_at n t rest d) ∙ plain_shown (shape_of k) n t rest q in
+      ap (λ j. tail_after t.cell.hold t.tail + j) (below_last n t rest d (less (suc n) (shape_of k).stages q (omega (arith, w, long))) ∙ ap (λ (b : Bool). if b then suc (Lawful.tailed (judged k) earlier t.cell.serial) else Lawful.tailed (judged k) earlier t.cell.serial) (sym plain))
+      ∙ one_less t.cell.hold t.tail (Lawful.tailed (judged k) earlier t.cell.serial) t.asks.tail (λ e. cc (plain, e)) (T.modules_told k ready earlier m row inv is n t rest d) where
+        less : (a b : ℕ) → (a == b) ≡ false → a ≤ b → a < b
+        less a b x le = grind (arith, nat_tests)
+  stays_counted n t rest d true q =
+      let last = test_eq (suc n) (shape_of k).stages q in
+      let w = within n (seen_by k m) rest (Some t) d in
+      let long = B.seen_length k ready earlier m inv in
+      let none = empty rest (omega (arith, w, long, last)) in
+      let a = ready.rd_ex in
+      let b = ready.ex_last in
+      let no_rd = higher n (shape_of k).rd (omega (arith, a, b, last)) in
+      let no_ex = higher n (shape_of k).ex (omega (arith, b, last)) in
+      let shows = held_at n t rest d ∙ ap (λ l. shown (shape_of k) n t l) none ∙ last_hold (shape_of k) n t no_rd no_ex q in
+      ap (λ j. tail_after t.cell.hold t.tail + j) (at_last n t rest d last)
+      ∙ one_less t.cell.hold t.tail (Lawful.tailed (judged k) earlier t.cell.serial) t.asks.tail (λ e. some_tail (n == (shape_of k).mem) t (met_at n t rest d) (sym (ap (λ o. Lawful.is_tail o) shows) ∙ e)) (T.modules_told k ready earlier m row inv is n t rest d) where
+        higher : (a b : ℕ) → b < a → (a == b) ≡ false
+        higher a b lt = grind (arith, nat_tests)
 
-    met_at : (i : ℕ) (t : Token) (rest : Slots) → drop i (seen_by k m) ≡ Some t ∷ rest → IsPlain t.beside.port
-    met_at i t rest d =
-        let o = outstanding_in k m in
-        ap (λ b. Lawful.is_tail b.port) (meets_at (shape_of k) o i (seen_by k m) rest t (seen_meets k m (B.struck_inside k ready earlier m inv)) d)
-        ∙ plain_met (shape_of k) o i t.asks
-
-    stay : (t : Token) (rest : Slots) → drop n (seen_by k m) ≡ Some t ∷ rest → is_some t.cell.hold ≡ true → (b : Bool) → (suc n == (shape_of k).stages) ≡ b → tail_after t.cell.hold t.tail + Lawful.tailed (judged k) (row ∷ earlier) t.cell.serial ≡ t.asks.tail
-    stay t rest d h false q =
-        let w = within n (seen_by k m) rest (Some t) d in
-        ap (λ j. j + Lawful.tailed (judged k) (row ∷ earlier) t.cell.serial) (ap (λ o. tail_after o t.tail) (held_at n t rest d) ∙ plain_tail (shown (shape_of k) n t rest) t.tail (plain_shown (shape_of k) n t rest q))
-        ∙ below n t rest d (less (suc n) (shape_of k).stages q (omega (arith, w, long))) where
-          less : (a b : ℕ) → (a == b) ≡ false → a ≤ b → a < b
-          less a b x le = grind (arith, nat_tests)
-    stay t rest d h true q =
-        let last = test_eq (suc n) (shape_of k).stages q in
-        let w = within n (seen_by k m) rest (Some t) d in
-        let none = empty rest (omega (arith, w, long, last)) in
-        let a = ready.rd_ex in
-        let b = ready.ex_last in
-        let no_rd = higher n (shape_of k).rd (omega (arith, a, b, last)) in
-        let no_ex = higher n (shape_of k).ex (omega (arith, b, last)) in
-        ap (λ j. tail_after t.cell.hold t.tail + j) (L.shown_last k ready earlier m row inv is n t rest d last)
-        ∙ tail_stays (n == (shape_of k).mem) t (Lawful.tailed (judged k) earlier t.cell.serial) (met_at n t rest d) (done n t rest d last) (T.modules_told k ready earlier m row inv is n t rest d)
-        (λ at some. ended t rest (ap (λ i. drop i (seen_by k m)) (sym (test_eq n (shape_of k).mem at)) ∙ d) some)
-        (held_at n t rest d ∙ ap (λ l. shown (shape_of k) n t l) none ∙ last_hold (shape_of k) n t no_rd no_ex q) h where
-          higher : (a b : ℕ) → b < a → (a == b) ≡ false
-          higher a b lt = grind (arith, nat_tests)
-
+  pub tails_after : TailsAfter k (row ∷ earlier) (advanced None (seen_by k m))
+  tails_after n u older e = elim (moved_from n None (seen_by k m) older u e) [ inl x ↦ by_move x | inr c ↦ cc (c.1) ] where
     by_move : Moved n (seen_by k m) u → u.tail + Lawful.tailed (judged k) (row ∷ earlier) u.cell.serial ≡ u.asks.tail
-    by_move (stayed t rest d h q) = subst (λ (v : Token). v.tail + Lawful.tailed (judged k) (row ∷ earlier) v.cell.serial ≡ v.asks.tail) q (stay t rest d h (suc n == (shape_of k).stages) refl)
+    by_move (stayed t rest d h q) = subst (λ (v : Token). v.tail + Lawful.tailed (judged k) (row ∷ earlier) v.cell.serial ≡ v.asks.tail) q (stays_counted n t rest d (suc n == (shape_of k).stages) refl)
     by_move (went i rest q d h) =
         let w = within n (advanced None (seen_by k m)) older (Some u) e in
         let a = advanced_length None (seen_by k m) in
-        below i u rest d (omega (arith, q, w, a, long))
+        let long = B.seen_length k ready earlier m inv in
+        ap (λ j. u.tail + j) (below_last i u rest d (omega (arith, q, w, a, long))) ∙ T.modules_told k ready earlier m row inv is i u rest d

@@ -118,7 +118,7 @@ ripe_rest k base (suc n) (s ∷ l) rest h e =
 
 -- ---- for how many rows a module goes on
 
-rest_of : (l : Slots) (n : ℕ) (t : Token) → slice_get l n ≡ Some (Some t) → (older : Slots) × (drop n l ≡ Some t ∷ older)
+pub rest_of : (l : Slots) (n : ℕ) (t : Token) → slice_get l n ≡ Some (Some t) → (older : Slots) × (drop n l ≡ Some t ∷ older)
 rest_of [] n t e = cc
 rest_of (None ∷ l) zero t e = cc
 rest_of (Some u ∷ l) zero t e = (l, ap (λ (v : Token). Some v ∷ l) (same_here u t e)) where
@@ -130,14 +130,14 @@ rest_of (s ∷ l) (suc n) t e = rest_of l n t e
 none_tailed : (k : Lawful.Setting) (rows : List Row) (s : ℕ) → ((word : ℕ) → IsWordOf k rows s word → ⊥) → Lawful.tailed k rows s ≡ 0
 unfolding Lawful.tailed
 none_tailed k [] s none = refl
-none_tailed k (row ∷ rows) s none = by_slot (slice_get (Lawful.stages_of k row) (k.shape.stages - 1)) refl where
-  by_slot : (o : Option (Option Cell)) → slice_get (Lawful.stages_of k row) (k.shape.stages - 1) ≡ o → (if Lawful.has_tail o s then suc (Lawful.tailed k rows s) else 0) ≡ 0
-  by_slot None e = refl
-  by_slot (Some None) e = refl
-  by_slot (Some (Some c)) e = by_test (c.serial == s) refl where
-    by_test : (b : Bool) → (c.serial == s) ≡ b → (if b && Lawful.is_tail c.hold then suc (Lawful.tailed k rows s) else 0) ≡ 0
+none_tailed k (row ∷ rows) s none = by_slot (slice_get (Lawful.stages_of k row) (k.shape.stages - 1)) refl (none_tailed k rows s (λ word w. none word (inr w))) where
+  by_slot : (o : Option (Option Cell)) → slice_get (Lawful.stages_of k row) (k.shape.stages - 1) ≡ o → Lawful.tailed k rows s ≡ 0 → (if Lawful.has_tail o s then suc (Lawful.tailed k rows s) else Lawful.tailed k rows s) ≡ 0
+  by_slot None e z = z
+  by_slot (Some None) e z = z
+  by_slot (Some (Some c)) e z = by_test (c.serial == s) refl where
+    by_test : (b : Bool) → (c.serial == s) ≡ b → (if b && Lawful.is_tail c.hold then suc (Lawful.tailed k rows s) else Lawful.tailed k rows s) ≡ 0
     by_test true q = absurd (none c.word (inl (k.shape.stages - 1, c, e, test_eq c.serial s q, refl)))
-    by_test false q = refl
+    by_test false q = z
 
 module _ (k : Setting) (ready : IsReady k) (earlier : List Row) (m : Machine) (row : Row) (inv : Inv k earlier m) (is : IsRowOf k m row) where
   seen_left : (i : ℕ) (t : Token) → slice_get (seen_by k m) i ≡ Some (Some t) → (struck (turn_by k m) ≤ i) × (slice_get (loaded_by k m) i ≡ Some (Some t))
@@ -210,7 +210,7 @@ module _ (k : Setting) (ready : IsReady k) (earlier : List Row) (m : Machine) (r
       ∙ ap (λ n. wait_at k.waits (Lawful.accesses_before (judged k).course (retirements earlier + count older)) - n) (stood_told t older (drop (shape_of k).mem m.slots) refl h)
 
   -- and for how many a module still goes on
-  new_tail : (o : Option ℕ) (u : Token) → fetched k.design m.future m.next m.fetch o ≡ Some u → u.tail ≡ u.asks.tail
+  pub new_tail : (o : Option ℕ) (u : Token) → fetched k.design m.future m.next m.fetch o ≡ Some u → u.tail ≡ u.asks.tail
   new_tail None u e = cc
   new_tail (Some word) u e = subst (λ (v : Token). v.tail ≡ v.asks.tail) (same_token _ u e) refl where
     same_token : (v w : Token) → ◌≡◌ {A = Option Token} (Some v) (Some w) → v ≡ w

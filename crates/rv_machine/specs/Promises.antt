@@ -12,7 +12,12 @@ use Rattle.rv_machine.specs.Running.{AreRows}
 use Rattle.rv_machine.specs.DesignText.{IsDesignText}
 use Rattle.rv_machine.specs.LawfulText.{IsLawfulText}
 
--- a design that stands, in whose extension no `spawn` stands, and an image of words
+-- a design that stands, and an image of words
+pub record IsRunnable (d : Design) (image : List ℕ) : Type 0 where
+  pub stands : Stands d
+  pub words : (at word : ℕ) → word_at image at ≡ Some word → word < 2 ^ 32
+
+-- .. in whose extension no `spawn` stands
 pub record IsInOrder (d : Design) (image : List ℕ) : Type 0 where
   pub stands : Stands d
   pub quiet : first_spawning (view_extension d.extension) ≡ None
@@ -20,7 +25,7 @@ pub record IsInOrder (d : Design) (image : List ℕ) : Type 0 where
 
 -- the headline holds of the rows of their machine
 abbrev pub RowsLaw : Type 0
-RowsLaw = (d : Design) (image waits : List ℕ) (rows : List Row) → IsInOrder d image → AreRows (setting d image waits) rows → Headline d image waits rows
+RowsLaw = (d : Design) (image waits : List ℕ) (rows : List Row) → IsRunnable d image → AreRows (setting d image waits) rows → Headline d image waits rows
 
 -- and its text is that of such rows
 abbrev pub TextLaw : Type 0

@@ -8,7 +8,7 @@ use Rattle.rv_waits.specs.Waits.{wait_at}
 use Rattle.rv_holds.specs.declared.token.Token.{Token}
 use Rattle.rv_holds.specs.Tokens.{Slots, cells_of, makes_access}
 use Rattle.rv_holds.specs.Holds.{waiting_hold, stops_now, shown}
-use Rattle.rv_engine.specs.Owing.{Outstanding, IsOwingOf, outstanding_of, paying, beside_of}
+use Rattle.rv_engine.specs.Owing.{Outstanding, IsOwingOf, paying, beside_of}
 use Rattle.rv_engine.specs.Rows.{written_of}
 use Rattle.rv_unit.specs.Slots.{units_of}
 use Rattle.rv_unit.specs.Timed.{IsTimed}
@@ -74,7 +74,6 @@ pub record Told (k : Setting) (earlier : List Row) (row : Row) (seen : Slots) : 
   -- what each meets beside the stages
   pub outstanding : Outstanding
   pub beside : IsBeside k earlier row seen outstanding
-  pub idle : outstanding ≡ outstanding_of k.design [] []
   pub decided : Decided k 0 seen
   pub serials : Serials (row ∷ earlier) (retirements earlier) seen
   pub words : (s word : ℕ) → IsWordOf (judged k) (row ∷ earlier) s word → HasWord seen s word

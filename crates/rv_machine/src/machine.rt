@@ -3,7 +3,7 @@ ghost use Rattle.ix_standing.specs.Standing.{Stands};
 ghost use Rattle.rv_trace.specs.Trace.{newest};
 ghost use Rattle.rv_lawful.specs.Headline.{Headline};
 ghost use Rattle.rv_machine.specs.Running.{AreRows, machine_at};
-ghost use Rattle.rv_machine.specs.Promises.{IsInOrder};
+ghost use Rattle.rv_machine.specs.Promises.{IsRunnable};
 
 use crate::laws::rows_laws;
 use ix_behaviour::behaviour_laws;
@@ -86,7 +86,7 @@ impl<'a> Machine<'a> {
         ensures setting { self.new.setting ≡ self.old.setting }
         ensures spare { self.new.spare + 1 ≡ self.old.spare }
         ensures are_rows { AreRows self.new.setting self.new.rows }
-        ensures headline { IsInOrder self.new.setting.design self.new.setting.image → Headline self.new.setting.design self.new.setting.image self.new.setting.waits self.new.rows }
+        ensures headline { IsRunnable self.new.setting.design self.new.setting.image → Headline self.new.setting.design self.new.setting.image self.new.setting.waits self.new.rows }
     {
         rows_laws();
         let row = make_row(
