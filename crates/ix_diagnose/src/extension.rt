@@ -95,9 +95,6 @@ fn whole_sentence(kind: &str) -> Option<&'static str> {
         "TooManyOps" => Some(
             "this behaviour has more than 256 operations: write fewer turns of its loops, or two instructions",
         ),
-        "Decoupled" => Some(
-            "`run` does not take a `spawn`: write the assignment without it, or run the program by `seq`",
-        ),
         _ => None,
     }
 }

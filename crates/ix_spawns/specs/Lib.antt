@@ -1,2 +1,1 @@
-pub mod Spawns
 pub mod Targets

@@ -1,9 +1,6 @@
-//! The behaviours of an extension in which a `spawn` stands, and what it writes.
+//! What a `spawn` body writes in a text that breaks no rule.
 #![tactic(auto)]
 
-mod first;
 mod laws;
-mod statements;
 
-pub use first::first_spawning;
 pub use laws::spawn_laws;

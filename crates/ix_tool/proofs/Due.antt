@@ -9,14 +9,13 @@ use Rattle.ix_tool.specs.declared.status.Status.TheVariants.{Usage, ReadFault, S
 use Rattle.ix_tool.specs.declared.command.Command.TheVariants.{RunImage, Check, Certify, Assemble, Seq, Schedule, Build, Sweep, RunExtension}
 use Rattle.ix_tool.specs.declared.command.Command.{Command}
 use Rattle.ix_tool.specs.declared.command.FileKind.{FileKind}
-use Rattle.ix_tool.specs.declared.command.FileKind.TheVariants.{Image, Report, Extension, InOrder, Sheet, PlainSheet, Source as source_kind, Waits}
+use Rattle.ix_tool.specs.declared.command.FileKind.TheVariants.{Image, Report, Extension, Sheet, PlainSheet, Source as source_kind, Waits}
 use Rattle.ix_tool.specs.declared.command.Slot.{Slot}
 use Rattle.ix_tool.specs.declared.command.Slot.TheVariants.{Number, File}
 use Rattle.ix_tool.specs.Readings.{Reading, number_read, image_read, report_read, extension_read, sheet_read, source_read, waits_read}
 use Rattle.ix_tool.specs.CommandLine.{command_of, slots_of, behind, number_within}
 use Rattle.ix_tool.specs.CommandOutput.{IsRefusedText, IsReadAs, IsFile, IsRead, AreRead, IsRefusedFile, not_read, too_long, bad_text, IsFirstRefused, IsSourceRefusal, IsToldAs, Schedules, IsScheduleRefusal, IsSweepRefusal, IsPipelineOutput, IsOwnRefusal, IsOutput, IsAnswer, IsDue, due_usage, due_file, due_answer, NoneRises, NoFileRises}
 use Rattle.ix_listing.proofs.OneExtension.{same_extension, extension_not_refused}
-use Rattle.ix_spawns.specs.Spawns.{first_spawning}
 use Rattle.rv_asm.proofs.WaitLemmas.{one_text, text_not_refused as waits_not_refused}
 use Rattle.rv_asm.proofs.ImageLemmas.{image_not_refused}
 use Rattle.rv_asm.proofs.Placing.{only_memory}
@@ -70,16 +69,6 @@ text_apart Sheet bytes line (extension_read x) r bad = r
 text_apart Sheet bytes line (source_read x) r bad = r
 text_apart Sheet bytes line (waits_read x) r bad = r
 text_apart source_kind bytes line v r bad = bad
-text_apart InOrder bytes line (extension_read x) r (inl bad) = extension_not_refused bytes x bad.0 r.0 bad.1
-text_apart InOrder bytes line (extension_read x) r (inr bad) =
-    let same : x ≡ bad.extension = same_extension bytes x bad.extension r.0 bad.elaborates in
-    both (first_spawning bad.extension) bad.which bad.first (subst (λ y. first_spawning y ≡ None) same r.1)
-text_apart InOrder bytes line (image_read x) r bad = r
-text_apart InOrder bytes line (number_read x) r bad = r
-text_apart InOrder bytes line report_read r bad = r
-text_apart InOrder bytes line (sheet_read x) r bad = r
-text_apart InOrder bytes line (source_read x) r bad = r
-text_apart InOrder bytes line (waits_read x) r bad = r
 text_apart PlainSheet bytes line (sheet_read x) r (inl bad) = sheet_not_refused bytes x bad.0 r.0.sheet_is bad.1
 text_apart PlainSheet bytes line (sheet_read x) r (inr bad) =
     let same : x ≡ bad.sheet = one_sheet bytes x bad.sheet r.0 bad.read in
@@ -178,19 +167,6 @@ text_one PlainSheet bytes report_read u r s = absurd r
 text_one PlainSheet bytes (extension_read x) u r s = absurd r
 text_one PlainSheet bytes (source_read x) u r s = absurd r
 text_one PlainSheet bytes (waits_read x) u r s = absurd r
-text_one InOrder bytes (extension_read x) (extension_read y) r s = ap (λ z. extension_read z) (same_extension bytes x y r.0 s.0)
-text_one InOrder bytes (extension_read x) (image_read y) r s = absurd s
-text_one InOrder bytes (extension_read x) (number_read y) r s = absurd s
-text_one InOrder bytes (extension_read x) report_read r s = absurd s
-text_one InOrder bytes (extension_read x) (sheet_read y) r s = absurd s
-text_one InOrder bytes (extension_read x) (source_read y) r s = absurd s
-text_one InOrder bytes (extension_read x) (waits_read y) r s = absurd s
-text_one InOrder bytes (image_read x) u r s = absurd r
-text_one InOrder bytes (number_read x) u r s = absurd r
-text_one InOrder bytes report_read u r s = absurd r
-text_one InOrder bytes (sheet_read x) u r s = absurd r
-text_one InOrder bytes (source_read x) u r s = absurd r
-text_one InOrder bytes (waits_read x) u r s = absurd r
 text_one Waits bytes (waits_read x) (waits_read y) r s = ap (λ z. waits_read z) (one_text bytes x y r s)
 text_one Waits bytes (waits_read x) (image_read y) r s = absurd s
 text_one Waits bytes (waits_read x) (number_read y) r s = absurd s

@@ -14,7 +14,6 @@ use Rattle.ix_listing.specs.Listing.{listing_text}
 use Rattle.rv_text.specs.RunText.{run_text}
 use Rattle.ix_listing.proofs.OneExtension.{is_well_formed}
 use Rattle.ix_tool.specs.CommandLine.{word_of, command_of, commands, first_command, is_command, slots_of, fits_slots, behind, number_within, run_of, run_command, SeqCommand, seq_command, seq_of, AsmCommand, ScheduleCommand, extension_of, report_of, source_of, schedule_of, build_of, sweep_of}
-use Rattle.ix_spawns.specs.Spawns.{first_spawning}
 use Rattle.rv_asm.specs.ImageText.{IsImageText}
 use Rattle.rv_machine.specs.Promises.{TextLaw}
 use Rattle.ix_tool.proofs.ImageWords.{words_of_text}
@@ -136,7 +135,7 @@ plain_lawful law program image cycles text read h =
     record {
       design = h.design;
       plain = h.plain;
-      runs = law h.design image [] cycles text (record { stands = h.plain.stands; quiet = ap (λ y. first_spawning y) h.plain.extension_is; words = words_of_text program image read }) h.runs;
+      runs = law h.design image [] cycles text (record { stands = h.plain.stands; words = words_of_text program image read }) h.runs;
     }
 
 headline_of : TextLaw → (files : Option NamedFiles) (words : List (List ℕ)) (before now : Option (List ℕ)) (command : Command) (vs : List Reading) (text : List ℕ) → is_command command words ≡ true → AreRead files (slots_of command) (behind words) vs → IsOutput command vs text → Appends before now text

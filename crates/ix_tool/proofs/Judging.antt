@@ -7,7 +7,7 @@ use Rattle.ix_io.specs.Shelf.{NamedFiles, told_file}
 use Rattle.ix_tool.specs.declared.status.Status.{Status}
 use Rattle.ix_tool.specs.declared.status.Status.TheVariants.{ReadFault, TooLong, Certificate, Extension as extension_status, Sheet as sheet_status}
 use Rattle.ix_tool.specs.declared.command.FileKind.{FileKind}
-use Rattle.ix_tool.specs.declared.command.FileKind.TheVariants.{Report, Extension, InOrder, Sheet, PlainSheet}
+use Rattle.ix_tool.specs.declared.command.FileKind.TheVariants.{Report, Extension, Sheet, PlainSheet}
 use Rattle.ix_cert.specs.declared.report.CertErr.{CertErr}
 use Rattle.ix_cert.specs.declared.report.CertErr.TheVariants.{Memory as cert_memory}
 use Rattle.ix_cert.specs.Certificates.{IsRefused as IsRefusedReport}
@@ -18,7 +18,6 @@ use Rattle.ix_elab.specs.Elaborating.{Elaborates}
 use Rattle.ix_extension.specs.Extensions.{ExtensionTree}
 use Rattle.ix_behaviour.specs.declared.which.Which.{Which}
 use Rattle.ix_standing.specs.Standing.{name_at}
-use Rattle.ix_spawns.specs.Spawns.{first_spawning}
 use Rattle.ix_listing.specs.RefusalLine.{refusal_line}
 use Rattle.ix_sheet.specs.declared.sheet.SheetErr.{SheetErr}
 use Rattle.ix_sheet.specs.declared.sheet.SheetErr.TheVariants.{Memory as sheet_memory, Core as core_missing}
@@ -28,7 +27,7 @@ use Rattle.ix_tool.specs.declared.command.Slot.TheVariants.{File}
 use Rattle.ix_tool.specs.declared.value.Value.{Value}
 use Rattle.ix_tool.specs.declared.value.Refusal.{Refusal}
 use Rattle.ix_tool.specs.declared.value.Refusal.TheVariants as refusal
-use Rattle.ix_tool.specs.CommandOutput.{decoupled_line, file_line, certificate_line, sheet_line, IsSheetRead, IsRefusedText, refusal_status, Refuses, Judged, IsFile, IsRefusedFile, not_read, too_long, bad_text, WordRead}
+use Rattle.ix_tool.specs.CommandOutput.{file_line, certificate_line, sheet_line, IsSheetRead, IsRefusedText, refusal_status, Refuses, Judged, IsFile, IsRefusedFile, not_read, too_long, bad_text, WordRead}
 
 -- the parts of a line, joined from the left or from the right
 pub line_joined : (number kind : List ℕ) → number ++ 32 ∷ (kind ++ 10 ∷ []) ≡ number ++ 32 ∷ [] ++ kind ++ 10 ∷ []
@@ -53,18 +52,6 @@ pub extension_judged : (bytes : List ℕ) (e : FrontErr) (why : Refusal) → IsC
 extension_judged bytes e refusal.Memory cause memory told = tt
 extension_judged bytes e (refusal.Line status text) cause memory told =
     judged_err Extension bytes (refusal_line e) (refusal.Line status text) (e, record { some = λ m. line_no_memory status text (memory m); cause = cause }, refl) told
-
--- the same of an extension in which no `spawn` may stand
-pub in_order_judged : (bytes : List ℕ) (e : FrontErr) (why : Refusal) → IsCause bytes e → (e ≡ front_memory → why ≡ refusal.Memory) → Refuses extension_status (refusal_line e) why → Judged InOrder bytes (Err why)
-in_order_judged bytes e refusal.Memory cause memory told = tt
-in_order_judged bytes e (refusal.Line status text) cause memory told =
-    judged_err InOrder bytes (refusal_line e) (refusal.Line status text) (inl (e, record { some = λ m. line_no_memory status text (memory m); cause = cause }, refl)) told
-
--- and of the first behaviour in which one stands
-pub decoupled_judged : (bytes : List ℕ) (x : ExtensionTree) (which : Which) (name : List ℕ) (why : Refusal) → Elaborates bytes x → first_spawning x ≡ Some which → name ≡ name_at x which → Refuses extension_status (decoupled_line name) why → Judged InOrder bytes (Err why)
-decoupled_judged bytes x which name why elaborates first is told =
-    judged_err InOrder bytes (decoupled_line (name_at x which)) why (inr (record { extension = x; elaborates = elaborates; which = which; first = first; line_is = refl }))
-    (subst (λ n. Refuses extension_status (decoupled_line n) why) is told)
 
 -- a datasheet is refused with the line of its error, or memory was not found
 pub sheet_judged : (bytes : List ℕ) (e : SheetErr) (why : Refusal) → (e ≢ sheet_memory → IsRefusalOf bytes e) → (e ≡ sheet_memory → why ≡ refusal.Memory) → Refuses sheet_status (sheet_line e) why → Judged Sheet bytes (Err why)

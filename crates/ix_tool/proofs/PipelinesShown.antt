@@ -12,7 +12,6 @@ use Rattle.ix_tool.specs.declared.command.Command.{Command}
 use Rattle.ix_tool.specs.declared.command.Command.TheVariants.{RunImage, Check, Certify, Schedule, Build, Sweep, Seq, Assemble, RunExtension}
 use Rattle.ix_tool.specs.Readings.{Reading, extension_read, sheet_read, image_read, waits_read, number_read}
 use Rattle.ix_tool.specs.CommandLine.{is_command, slots_of, behind, number_within, PipelineCommand, pipeline_command, pipeline_of}
-use Rattle.ix_spawns.specs.Spawns.{first_spawning}
 use Rattle.rv_asm.specs.ImageText.{IsImageText}
 use Rattle.rv_machine.specs.Promises.{TextLaw}
 use Rattle.ix_tool.specs.CommandOutput.{AreRead, IsExtensionRun, IsLawfulRun, IsPipelineOutput, IsOutput, OutputAnswer, PipelineAnswer}
@@ -58,14 +57,14 @@ run_of_parts x y s t i j w v n m text e h =
     subst (λ z. IsExtensionRun z s i w n text) (sym a) (subst (λ z. IsExtensionRun y z i w n text) (sym b) (subst (λ z. IsExtensionRun y t z w n text) (sym c) (subst (λ z. IsExtensionRun y t j z n text) (sym d) (subst (λ z. IsExtensionRun y t j v z text) (sym f) h))))
 
 -- the rows of a run of an image's text are lawful
-lawful_run : TextLaw → (x : ExtensionTree) (sheet : Sheet) (program image waits : List ℕ) (cycles : ℕ) (text : List ℕ) → IsImageText program image → first_spawning x ≡ None → IsExtensionRun x sheet image waits cycles text → IsLawfulRun x sheet image waits cycles text
-lawful_run law x sheet program image waits cycles text read in_order h =
+lawful_run : TextLaw → (x : ExtensionTree) (sheet : Sheet) (program image waits : List ℕ) (cycles : ℕ) (text : List ℕ) → IsImageText program image → IsExtensionRun x sheet image waits cycles text → IsLawfulRun x sheet image waits cycles text
+lawful_run law x sheet program image waits cycles text read h =
     record {
       design = h.design;
       stands = h.stands;
       extension_is = h.extension_is;
       sheet_is = h.sheet_is;
-      runs = law h.design image waits cycles text (record { stands = h.stands; quiet = ap (λ y. first_spawning y) h.extension_is ∙ in_order; words = words_of_text program image read }) h.runs;
+      runs = law h.design image waits cycles text (record { stands = h.stands; words = words_of_text program image read }) h.runs;
     }
 
 pipelined_of : TextLaw → (files : Option NamedFiles) (words : List (List ℕ)) (before now : Option (List ℕ)) (command : Command) (vs : List Reading) (text : List ℕ) (asked : PipelineCommand) → is_command command words ≡ true → AreRead files (slots_of command) (behind words) vs → IsOutput command vs text → Appends before now text
@@ -113,14 +112,13 @@ pipelined_of law files words before now RunExtension vs text asked is read out a
       file = r.file;
       elaborates = r.elaborates;
       well_formed = is_well_formed r.bytes r.extension r.elaborates;
-      in_order = r.in_order;
       sheet_file = r.sheet_file;
       sheet_read = r.sheet_is;
       image_file = r.program_file;
       image_read = r.text;
       waits_file = r.waits_file;
       waits_read = r.waits_are;
-      runs = lawful_run law r.extension r.sheet r.program r.image r.waits r.cycles text r.text r.in_order runs;
+      runs = lawful_run law r.extension r.sheet r.program r.image r.waits r.cycles text r.text runs;
       written = a;
     })
 

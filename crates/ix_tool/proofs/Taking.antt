@@ -4,11 +4,10 @@ use Rattle.ix_io.specs.Shelf.{NamedFiles}
 use Rattle.ix_cert.specs.Certificates.{IsFaultless}
 use Rattle.ix_tool.specs.declared.command.Command.{Command}
 use Rattle.ix_tool.specs.declared.command.Command.TheVariants.{RunImage, Check, Certify, Schedule, Build, Sweep, Seq, Assemble, RunExtension}
-use Rattle.ix_tool.specs.declared.command.FileKind.TheVariants.{Image, Report, Extension, InOrder, Sheet, PlainSheet, Source as source_kind, Waits}
+use Rattle.ix_tool.specs.declared.command.FileKind.TheVariants.{Image, Report, Extension, Sheet, PlainSheet, Source as source_kind, Waits}
 use Rattle.ix_tool.specs.Readings.{Reading, number_read, image_read, report_read, extension_read, sheet_read, source_read, waits_read}
 use Rattle.rv_asm.specs.ImageText.{IsImageText}
 use Rattle.rv_asm.specs.WaitsText.{IsWaitsText}
-use Rattle.ix_spawns.specs.Spawns.{first_spawning}
 use Rattle.ix_extension.specs.Extensions.{ExtensionTree}
 use Rattle.ix_elab.specs.Elaborating.{Elaborates}
 use Rattle.ix_listing.proofs.OneExtension.{is_well_formed}
@@ -71,15 +70,6 @@ plain_sheet_in bytes report_read r = absurd r
 plain_sheet_in bytes (extension_read x) r = absurd r
 plain_sheet_in bytes (source_read x) r = absurd r
 plain_sheet_in bytes (waits_read x) r = absurd r
-
-in_order_in : (bytes : List ℕ) (v : Reading) → IsReadAs InOrder bytes v → (x : ExtensionTree) × (v ≡ extension_read x) × Elaborates bytes x × (first_spawning x ≡ None)
-in_order_in bytes (extension_read x) r = (x, refl, r.0, r.1)
-in_order_in bytes (image_read x) r = absurd r
-in_order_in bytes (number_read x) r = absurd r
-in_order_in bytes report_read r = absurd r
-in_order_in bytes (sheet_read x) r = absurd r
-in_order_in bytes (source_read x) r = absurd r
-in_order_in bytes (waits_read x) r = absurd r
 
 waits_in : (bytes : List ℕ) (v : Reading) → IsReadAs Waits bytes v → (waits : List ℕ) × (v ≡ waits_read waits) × IsWaitsText bytes waits
 waits_in bytes (waits_read waits) r = (waits, refl, r)
@@ -298,7 +288,6 @@ pub record IsPipelineRead (files : Option NamedFiles) (rest : List (List ℕ)) (
   pub values : vs ≡ extension_read extension ∷ sheet_read sheet ∷ image_read image ∷ waits_read waits ∷ number_read cycles ∷ []
   pub file : IsFile files name bytes
   pub elaborates : Elaborates bytes extension
-  pub in_order : first_spawning extension ≡ None
   pub sheet_file : IsFile files other sheet_bytes
   pub sheet_is : IsSheetRead sheet_bytes sheet
   pub program_file : IsFile files third program
@@ -321,7 +310,7 @@ pipeline_read files (a ∷ b ∷ c ∷ d ∷ e ∷ rest) (v ∷ u ∷ w ∷ z �
 pipeline_read files (a ∷ b ∷ c ∷ d ∷ e ∷ f ∷ rest) (v ∷ u ∷ w ∷ z ∷ y ∷ vs) h = absurd h.1.1.1.1.1
 pipeline_read files (a ∷ b ∷ c ∷ d ∷ e ∷ []) (v ∷ u ∷ w ∷ z ∷ y ∷ t ∷ vs) h = absurd h.1.1.1.1.1
 pipeline_read files (a ∷ b ∷ c ∷ d ∷ e ∷ []) (v ∷ u ∷ w ∷ z ∷ y ∷ []) h =
-    let x = in_order_in h.0.0 v h.0.2 in
+    let x = extension_in h.0.0 v h.0.2 in
     let s = plain_sheet_in h.1.0.0 u h.1.0.2 in
     let i = image_of h.1.1.0.0 w h.1.1.0.2 in
     let m = waits_in h.1.1.1.0.0 z h.1.1.1.0.2 in
@@ -345,7 +334,6 @@ pipeline_read files (a ∷ b ∷ c ∷ d ∷ e ∷ []) (v ∷ u ∷ w ∷ z ∷ 
           ∙ ap (λ r. extension_read x.0 ∷ sheet_read s.0 ∷ image_read i.0 ∷ r ∷ y ∷ []) m.1 ∙ ap (λ r. extension_read x.0 ∷ sheet_read s.0 ∷ image_read i.0 ∷ waits_read m.0 ∷ r ∷ []) h.1.1.1.1.0.2;
       file = h.0.1;
       elaborates = x.2;
-      in_order = x.3;
       sheet_file = h.1.0.1;
       sheet_is = s.2;
       program_file = h.1.1.0.1;

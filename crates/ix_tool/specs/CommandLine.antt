@@ -5,7 +5,7 @@ use Rattle.std.specs.Str.{bytes_eq}
 use Rattle.std.specs.declared.alloc.Global.{Global}
 use Rattle.ix_tool.specs.declared.command.Command.{Command}
 use Rattle.ix_tool.specs.declared.command.Command.TheVariants.{RunImage, Check, Certify, Schedule, Build, Sweep, Seq, Assemble, RunExtension}
-use Rattle.ix_tool.specs.declared.command.FileKind.TheVariants.{Image, Report, Extension, InOrder, Sheet, PlainSheet, Source, Waits}
+use Rattle.ix_tool.specs.declared.command.FileKind.TheVariants.{Image, Report, Extension, Sheet, PlainSheet, Source, Waits}
 use Rattle.ix_tool.specs.declared.command.Slot.{Slot}
 use Rattle.ix_tool.specs.declared.command.Slot.TheVariants.{Number, File}
 
@@ -52,7 +52,7 @@ slots_of Assemble = File Extension ∷ File Source ∷ []
 slots_of Schedule = File Extension ∷ File Sheet ∷ []
 slots_of Build = File Extension ∷ File Sheet ∷ []
 slots_of Sweep = File Extension ∷ File Sheet ∷ []
-slots_of RunExtension = File InOrder ∷ File PlainSheet ∷ File Image ∷ File Waits ∷ Number 200000 ∷ []
+slots_of RunExtension = File Extension ∷ File PlainSheet ∷ File Image ∷ File Waits ∷ Number 200000 ∷ []
 
 -- the commands, in the order in which words are tried
 abbrev pub commands : List Command

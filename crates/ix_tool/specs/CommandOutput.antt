@@ -5,7 +5,7 @@ use Rattle.ix_tool.specs.declared.status.Status.TheVariants.{Ok as ok_status, Us
 use Rattle.ix_tool.specs.declared.command.Command.{Command}
 use Rattle.ix_tool.specs.declared.command.Command.TheVariants.{RunImage, Check, Certify, Schedule, Build, Sweep, Seq, Assemble, RunExtension}
 use Rattle.ix_tool.specs.declared.command.FileKind.{FileKind}
-use Rattle.ix_tool.specs.declared.command.FileKind.TheVariants.{Image, Report, Extension, InOrder, Sheet, PlainSheet, Source as source_kind, Waits}
+use Rattle.ix_tool.specs.declared.command.FileKind.TheVariants.{Image, Report, Extension, Sheet, PlainSheet, Source as source_kind, Waits}
 use Rattle.ix_tool.specs.declared.command.Slot.{Slot}
 use Rattle.ix_tool.specs.declared.command.Slot.TheVariants.{Number, File}
 use Rattle.ix_tool.specs.declared.value.Value.{Value}
@@ -22,7 +22,6 @@ use Rattle.rv_asm.specs.declared.source.AsmErr.{AsmErr}
 use Rattle.rv_asm.specs.declared.source.AsmErr.TheVariants as A
 use Rattle.ix_extension.specs.Extensions.{ExtensionTree, view_extension}
 use Rattle.ix_behaviour.specs.declared.which.Which.{Which}
-use Rattle.ix_spawns.specs.Spawns.{first_spawning}
 use Rattle.ix_plan.specs.declared.design.Design.{Design}
 use Rattle.ix_standing.specs.Standing.{name_at, Stands}
 use Rattle.ix_extension.specs.WellFormed.{IsOf}
@@ -97,10 +96,6 @@ image_line number = codes "refused Image " ++ decimal number ++ codes "\n"
 abbrev pub waits_line : ℕ → List ℕ
 waits_line number = codes "refused Waits " ++ decimal number ++ codes "\n"
 
--- a refusal that names a behaviour in which a `spawn` stands
-abbrev pub decoupled_line : List ℕ → List ℕ
-decoupled_line name = codes "refused Extension Decoupled " ++ name ++ codes "\n"
-
 -- a refusal of a report, which names its line and what fails there
 abbrev pub certificate_line : CertErr → List ℕ
 certificate_line e = codes "refused Certificate " ++ decimal (line_number e) ++ codes " " ++ kind_word e ++ codes "\n"
@@ -138,14 +133,6 @@ pub record IsSheetRead (bytes : List ℕ) (sheet : Datasheet) : Type 0 where
   pub delays : length sheet.delay ≡ 34
   pub windows : length sheet.window ≡ 10
 
--- the text is that of an extension, and this is the first behaviour in which a `spawn` stands
-pub record IsDecoupled (bytes line : List ℕ) : Type 0 where
-  pub extension : ExtensionTree
-  pub elaborates : Elaborates bytes extension
-  pub which : Which
-  pub first : first_spawning extension ≡ Some which
-  pub line_is : line ≡ decoupled_line (name_at extension which)
-
 -- the text is that of a datasheet whose core forwards, for which no pipeline is built yet
 pub record IsForwarding (bytes line : List ℕ) : Type 0 where
   pub sheet : Datasheet
@@ -158,7 +145,6 @@ abbrev pub IsRefusedText : FileKind → List ℕ → List ℕ → Type 0
 IsRefusedText Image bytes line = (number : ℕ) × IsBadLine bytes number × (line ≡ image_line number)
 IsRefusedText Report bytes line = (e : CertErr) × IsRefusedReport bytes e × (line ≡ certificate_line e)
 IsRefusedText Extension bytes line = (e : FrontErr) × IsRefusedExtension bytes e × (line ≡ refusal_line e)
-IsRefusedText InOrder bytes line = ((e : FrontErr) × IsRefusedExtension bytes e × (line ≡ refusal_line e)) ⊎ IsDecoupled bytes line
 IsRefusedText Waits bytes line = (number : ℕ) × IsBadWait bytes number × (line ≡ waits_line number)
 IsRefusedText Sheet bytes line = (e : SheetErr) × IsRefusedSheet bytes e × (line ≡ sheet_line e)
 IsRefusedText PlainSheet bytes line = ((e : SheetErr) × IsRefusedSheet bytes e × (line ≡ sheet_line e)) ⊎ IsForwarding bytes line
@@ -169,7 +155,6 @@ abbrev pub refusal_status : FileKind → Status
 refusal_status Image = image_status
 refusal_status Report = Certificate
 refusal_status Extension = extension_status
-refusal_status InOrder = extension_status
 refusal_status Waits = waits_status
 refusal_status Sheet = sheet_status
 refusal_status PlainSheet = sheet_status
@@ -183,8 +168,6 @@ IsReadAs Report bytes report_read = IsFaultless bytes
 IsReadAs Report bytes v = ⊥
 IsReadAs Extension bytes (extension_read x) = Elaborates bytes x
 IsReadAs Extension bytes v = ⊥
-IsReadAs InOrder bytes (extension_read x) = Elaborates bytes x × (first_spawning x ≡ None)
-IsReadAs InOrder bytes v = ⊥
 IsReadAs Waits bytes (waits_read waits) = IsWaitsText bytes waits
 IsReadAs Waits bytes v = ⊥
 IsReadAs Sheet bytes (sheet_read sheet) = IsSheetRead bytes sheet
@@ -623,7 +606,7 @@ pub record SteppedAnswer (files : Option NamedFiles) (command : SeqCommand) (bef
   pub read : IsImageText program image
   pub written : Appends before now (run_text extension image command.steps)
 
--- The files are the texts of this extension, which is well formed and in which no `spawn` stands, of this datasheet, of this image, and of these waits. A design
+-- The files are the texts of this extension, which is well formed, of this datasheet, of this image, and of these waits. A design
 -- stands for the extension and the datasheet, and the text of rows of which the headline holds was written whole.
 pub record PipelineAnswer (files : Option NamedFiles) (command : PipelineCommand) (before now : Option (List ℕ)) : Type 0 where
   pub bytes : List ℕ
@@ -638,7 +621,6 @@ pub record PipelineAnswer (files : Option NamedFiles) (command : PipelineCommand
   pub file : IsFile files command.extension bytes
   pub elaborates : Elaborates bytes extension
   pub well_formed : (typed : TypedTextTree) × IsOf typed extension
-  pub in_order : first_spawning extension ≡ None
   pub sheet_file : IsFile files command.sheet sheet_bytes
   pub sheet_read : IsSheetRead sheet_bytes sheet
   pub image_file : IsFile files command.image program

@@ -33,8 +33,6 @@ pub enum FileKind {
     Report,
     /// The text of an extension.
     Extension,
-    /// The text of an extension in which no `spawn` stands.
-    InOrder,
     /// A datasheet.
     Sheet,
     /// A datasheet of a core that does not forward.
@@ -94,7 +92,7 @@ const SCHEDULE: [Slot; 2] = [Slot::File(FileKind::Extension), Slot::File(FileKin
 
 /// What stands behind `run` for an image on a core with an extension.
 const RUN_EXTENSION: [Slot; 5] = [
-    Slot::File(FileKind::InOrder),
+    Slot::File(FileKind::Extension),
     Slot::File(FileKind::PlainSheet),
     Slot::File(FileKind::Image),
     Slot::File(FileKind::Waits),

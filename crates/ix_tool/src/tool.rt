@@ -194,7 +194,7 @@ fn run_words<F: Shelf, S: Sink>(
 /// fault. `seq EXT IMAGE STEPS` writes the run of an image one instruction at a time, at most 200,000 of them, on a core with an extension. `asm EXT SOURCE` writes the image of a source with the instructions of an extension.
 /// `schedule EXT SHEET` writes the report of an extension's behaviours on the core of a datasheet, `build EXT SHEET` the Verilog text of their modules, `sweep EXT SHEET` the least period of each of them with the
 /// reports that show it. `run EXT SHEET IMAGE WAITS CYCLES` writes the trace
-/// and the state of a run on the core of a datasheet with an extension in which no `spawn` stands, over a memory with a list of waits of at most 65,536 numbers. The files are read whole and judged one after another, in the order of the words. A refusal writes its one line
+/// and the state of a run on the core of a datasheet with an extension, over a memory with a list of waits of at most 65,536 numbers. The files are read whole and judged one after another, in the order of the words. A refusal writes its one line
 /// alone, but that a behaviour without a schedule is named and then reported; want of memory writes nothing, and comes before the first cycle.
 pub fn run_tool<F: Shelf, S: Sink>(
     alloc: Global,

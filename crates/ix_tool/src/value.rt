@@ -4,10 +4,10 @@ ghost use Rattle.ix_io.specs.Limits.{most_bytes};
 ghost use Rattle.ix_cert.specs.declared.report.CertErr.TheVariants.{Memory};
 ghost use Rattle.ix_listing.specs.RefusalLine.{refusal_line};
 ghost use Rattle.ix_tool.specs.CommandLine.{fits_slot, fits_slots, bytes_of};
-ghost use Rattle.ix_tool.specs.CommandOutput.{image_line, file_line, certificate_line, sheet_text, sheet_line, waits_line, decoupled_line, Refuses, Judged, WordRead, WordsRefused, AreRead, RoseIn};
+ghost use Rattle.ix_tool.specs.CommandOutput.{image_line, file_line, certificate_line, sheet_text, sheet_line, waits_line, Refuses, Judged, WordRead, WordsRefused, AreRead, RoseIn};
 ghost use Rattle.ix_tool.specs.Readings.{reading_of};
 ghost use Rattle.ix_tool.specs.declared.command.FileKind.{FileKind as Kind};
-ghost use Rattle.ix_tool.specs.declared.command.FileKind.TheVariants.{Image as image_kind, Report as report_kind, Extension as extension_kind, Sheet as sheet_kind, PlainSheet as plain_sheet_kind, Source as source_kind, InOrder as in_order_kind, Waits as waits_kind};
+ghost use Rattle.ix_tool.specs.declared.command.FileKind.TheVariants.{Image as image_kind, Report as report_kind, Extension as extension_kind, Sheet as sheet_kind, PlainSheet as plain_sheet_kind, Source as source_kind, Waits as waits_kind};
 
 use crate::command::{FileKind, Slot, number_within};
 use crate::status::Status;
@@ -16,9 +16,7 @@ use ix_cert::{CertErr, certify};
 use ix_elab::{FrontErr, elaborate};
 use ix_io::{ReadErr, Shelf, read_all};
 use ix_listing::refusal;
-use ix_schedules::name_of;
 use ix_sheet::{Sheet, SheetErr, read_sheet};
-use ix_spawns::first_spawning;
 use ix_tree::Extension;
 use rv_asm::{TextErr, read_image, read_waits};
 use rv_isa::Image;
@@ -78,16 +76,6 @@ fn waits_refusal(alloc: Global, number: u32) -> Refusal
 {
     match format!(in alloc; "refused Waits {number}\n") {
         Ok(line) => Refusal::Line(Status::Waits, line),
-        Err(_) => Refusal::Memory,
-    }
-}
-
-/// The refusal of a behaviour in which a `spawn` stands.
-fn decoupled_refusal(alloc: Global, name: &str) -> Refusal
-    ensures { Refuses Status.Extension (decoupled_line name.now) result }
-{
-    match format!(in alloc; "refused Extension Decoupled {name}\n") {
-        Ok(line) => Refusal::Line(Status::Extension, line),
         Err(_) => Refusal::Memory,
     }
 }
@@ -177,20 +165,6 @@ fn judge_extension(alloc: Global, bytes: &[u8]) -> Result<Value, Refusal>
     }
 }
 
-/// An extension in which no `spawn` stands.
-fn judge_in_order(alloc: Global, bytes: &[u8]) -> Result<Value, Refusal>
-    requires { length bytes.now ≤ most_bytes }
-    ensures { Judged in_order_kind bytes.now result }
-{
-    match elaborate(alloc, bytes) {
-        Ok(extension) => match first_spawning(&extension) {
-            None => Ok(Value::Extension(extension)),
-            Some(which) => Err(decoupled_refusal(alloc, name_of(&extension, which))),
-        },
-        Err(error) => Err(extension_refusal(alloc, &error)),
-    }
-}
-
 fn judge_waits(alloc: Global, bytes: &[u8]) -> Result<Value, Refusal>
     ensures { Judged waits_kind bytes.now result }
 {
@@ -248,7 +222,6 @@ fn judge(alloc: Global, kind: FileKind, bytes: &[u8]) -> Result<Value, Refusal>
         FileKind::Sheet => judge_sheet(alloc, bytes),
         FileKind::PlainSheet => judge_plain_sheet(alloc, bytes),
         FileKind::Source => judge_source(alloc, bytes),
-        FileKind::InOrder => judge_in_order(alloc, bytes),
         FileKind::Waits => judge_waits(alloc, bytes),
     }
 }

@@ -37,7 +37,7 @@ pub mod Tails
 pub mod TailsAfter
 pub mod Telling
 pub mod Trying
-pub mod Quiet
+pub mod Unspawned
 pub mod Recorded
 pub mod Unwritten
 pub mod OwingNext
@@ -76,6 +76,7 @@ pub mod UnitBound
 pub mod RankStays
 pub mod Lone
 pub mod Pigeonhole
+pub mod Listed
 pub mod FewOwed
 pub mod FewEntries
 pub mod Repaid

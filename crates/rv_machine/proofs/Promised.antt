@@ -1,27 +1,32 @@
 -- The rows of a machine keep what is promised of them, where its design stands.
-use Rattle.std.proofs.Common.{◌≡◌, ℕ, List, [], ◌∷◌, ◌++◌, None, refl, ap, ◌∙◌, arith, sym}
+use Rattle.std.proofs.Common.{◌≡◌, ℕ, ◌≤◌, List, [], ◌∷◌, ◌++◌, length, take, None, refl, ap, subst, ◌∙◌, arith, sym}
 use Rattle.std.specs.Prelude.{reverse}
-use Rattle.std.specs.List.{flat_map}
-use Rattle.ix_extension.specs.Extensions.{view_extension}
+use Rattle.std.proofs.lemmas.List.{take_all}
+use Rattle.ix_extension.specs.Extensions.{ExtensionTree, view_extension}
 use Rattle.ix_plan.specs.declared.design.Design.{Design}
-use Rattle.ix_spawns.specs.Spawns.{first_spawning}
+use Rattle.ix_plan.specs.declared.design.Target.{Target}
 use Rattle.ix_standing.specs.Standing.{Stands}
 use Rattle.rv_seq.specs.declared.arch.Arch.{Arch}
+use Rattle.rv_seq.specs.Runs.{run}
 use Rattle.rv_trace.specs.declared.row.Row.{Row}
-use Rattle.rv_trace.specs.Trace.{newest}
+use Rattle.rv_trace.specs.Trace.{newest, retirements}
 use Rattle.rv_trace.specs.TraceText.{trace_text}
 use Rattle.rv_text.specs.RunText.{state_text}
 use Rattle.rv_engine.specs.Settings.{Setting, setting, tree_of}
-use Rattle.rv_lawful.specs.Outstanding.{Decoupled, owed_targets, architecture}
-use Rattle.rv_machine.proofs.Quiet.{outstanding_none}
-use Rattle.rv_lawful.specs.Headline.{Headline}
+use Rattle.rv_engine.specs.Rows.{machine_after}
+use Rattle.rv_lawful.specs.Outstanding.{decoupled, outstanding, outstanding_targets, architecture, applied_state}
+use Rattle.rv_lawful.specs.Headline.{Agreeing, Headline}
 use Rattle.rv_sight.specs.InUnits.{AreInUnits}
-use Rattle.rv_lawful.specs.Sight.{EarlyLaw, ExactLaw, KeepsLaw, TailLaw, QuietLaw}
+use Rattle.rv_lawful.specs.Sight.{EarlyLaw, ExactLaw, KeepsLaw, TailLaw}
 use Rattle.rv_machine.specs.Running.{AreRows, machine_at}
-use Rattle.rv_machine.specs.Promises.{IsRunnable, RowsLaw, TextLaw}
+use Rattle.rv_machine.specs.DesignText.{most_targets}
+use Rattle.rv_machine.specs.Promises.{IsRunnable, RowsLaw, StateLaw, TextLaw}
 use Rattle.rv_tried.specs.Whole.{WholeLaw, WideLaw}
-use Rattle.rv_machine.specs.Owing.{judged}
+use Rattle.rv_machine.specs.Owing.{judged, targets_owed}
 use Rattle.rv_machine.specs.Placed.{Inv, IsReady, AnswerLaw}
+use Rattle.rv_machine.proofs.ApartNext as A
+use Rattle.rv_machine.proofs.Listed.{targets_listed, few_targets}
+use Rattle.rv_machine.proofs.OwingNext as O
 use Rattle.rv_machine.proofs.Retiring as R
 use Rattle.rv_machine.proofs.First.{first}
 use Rattle.rv_machine.proofs.GoesOn.{goes_on}
@@ -38,7 +43,6 @@ pub record Sights : Type 0 where
   pub tails : (d : Design) → Stands d → TailLaw d
   pub units : (d : Design) → Stands d → AreInUnits d
   pub written : (d : Design) → Stands d → WrittenLaw d
-  pub quiet : (d : Design) → Stands d → first_spawning (view_extension d.extension) ≡ None → QuietLaw d
   pub whole : WholeLaw
   pub blocks_wide : WideLaw
   pub answers : AnswerLaw
@@ -92,6 +96,24 @@ known k ready (row ∷ earlier) are =
 pub rows_law : Sights → RowsLaw
 rows_law sights d image waits rows h are = (known (setting d image waits) (ready_of sights d image waits h) rows are).headline
 
+-- after rows: the list of what is outstanding, and how long it is
+record IsListed (k : Setting) (rows : List Row) : Type 0 where
+  targets : targets_owed (machine_at k rows).owed ≡ outstanding_targets (judged k) rows
+  few : length (targets_owed (machine_at k rows).owed) ≤ 48
+
+listed : (k : Setting) → IsReady k → (rows : List Row) → AreRows k rows → IsListed k rows
+unfolding machine_at decoupled
+listed k ready [] are = record { targets = refl; few = omega arith }
+listed k ready (row ∷ earlier) are =
+    let m = machine_at k earlier in
+    let inv = (known k ready earlier are.2).going are.1 in
+    let owing = O.owing_next k ready earlier m row inv are.0 in
+    let outs = outstanding (judged k) (row ∷ earlier) in
+    record {
+      targets = targets_listed k (row ∷ earlier) outs (machine_after k m).entries (machine_after k m).owed owing;
+      few = few_targets k ready (row ∷ earlier) outs (machine_after k m).entries (machine_after k m).owed owing (A.distinct_next k ready earlier m row inv are.0);
+    }
+
 -- the state of the machine is that which its rows tell
 arch_is : (k : Setting) → IsReady k → (rows : List Row) → AreRows k rows → (machine_at k rows).arch ≡ architecture (tree_of k) (judged k) rows
 unfolding machine_at architecture
@@ -101,19 +123,37 @@ arch_is k ready (row ∷ earlier) are =
     let inv = (known k ready earlier are.2).going are.1 in
     sym (R.architecture_now k ready earlier m row inv are.0)
 
+-- with what is outstanding it is the run's
+applied_is : (k : Setting) (x : ExtensionTree) (rows : List Row) → Agreeing x (judged k) rows → applied_state x (judged k) rows ≡ run x k.image (retirements rows)
+unfolding architecture decoupled run
+applied_is k x [] h = refl
+applied_is k x (row ∷ earlier) h = h.0.state
+
+pub state_law : Sights → StateLaw
+state_law sights d image waits rows h are =
+    let k = setting d image waits in
+    let ready = ready_of sights d image waits h in
+    let list = listed k ready rows are in
+    record {
+      state = arch_is k ready rows are;
+      applied = applied_is k (view_extension d.extension) rows (rows_law sights d image waits rows h are).agrees;
+      targets = list.targets;
+      few = subst (λ (l : List (ℕ × Target)). length l ≤ 48) list.targets list.few;
+    }
+
 pub text_law : Sights → TextLaw
 text_law sights d image waits cycles text h t =
+    let s = state_law sights d image waits t.rows h t.are_rows in
+    let x = view_extension d.extension in
+    let all = trace_text d.sheet.shape.stages 0 (reverse t.rows) in
+    let whole : take most_targets (targets_owed (machine_at (setting d image waits) t.rows).owed) ≡ outstanding_targets (judged (setting d image waits)) t.rows = ap (take most_targets) s.targets ∙ take_all most_targets _ s.few in
     record {
       rows = t.rows;
-      headline = rows_law sights d image waits t.rows (record { stands = h.stands; words = h.words }) t.are_rows;
+      headline = rows_law sights d image waits t.rows h t.are_rows;
       few = t.few;
       whole = t.whole;
       text_is =
-          let k = setting d image waits in
-          let x = view_extension d.extension in
-          let ready = ready_of sights d image waits (record { stands = h.stands; words = h.words }) in
           t.text_is
-          ∙ ap (λ (a : Arch). trace_text d.sheet.shape.stages 0 (reverse t.rows) ++ state_text x [] a) (arch_is k ready t.rows t.are_rows)
-          ∙ ap (λ (l : List Decoupled). trace_text d.sheet.shape.stages 0 (reverse t.rows) ++ state_text x (flat_map (owed_targets (judged k)) (reverse l)) (architecture x (judged k) t.rows))
-          (sym (outstanding_none (judged k) (sights.quiet d h.stands h.quiet).asks t.rows));
+          ∙ ap (λ (a : Arch). all ++ state_text x (take most_targets (targets_owed (machine_at (setting d image waits) t.rows).owed)) a) s.state
+          ∙ ap (λ (l : List (ℕ × Target)). all ++ state_text x l (architecture x (judged (setting d image waits)) t.rows)) whole;
     }

@@ -10,9 +10,3 @@ pub repaid_memory : (owed : List Owed) (s : Arch) → (repaid owed s).mem ≡ s.
 unfolding paid
 repaid_memory [] s = refl
 repaid_memory (o ∷ older) s = repaid_memory older s
-
--- and no pc
-pub repaid_pc : (owed : List Owed) (s : Arch) → (repaid owed s).pc ≡ s.pc
-unfolding paid
-repaid_pc [] s = refl
-repaid_pc (o ∷ older) s = repaid_pc older s

@@ -29,7 +29,7 @@ use Rattle.rv_machine.specs.Owing.{judged, repaid, IsOwing, Owing, Distinct, Apa
 use Rattle.rv_machine.specs.Placed.{run, IsReady, Inv}
 use Rattle.rv_machine.specs.Told.{out_of}
 use Rattle.rv_machine.proofs.Runs.{answer, run_suc, step_at, step_word, kept_word, whole_word}
-use Rattle.rv_machine.proofs.Quiet.{native_same, record_long}
+use Rattle.rv_machine.proofs.Unspawned.{native_same, record_long}
 use Rattle.rv_machine.proofs.Numbers.{x_at, custom_at}
 use Rattle.rv_machine.proofs.BoardHolds.{spawned_few}
 use Rattle.rv_machine.proofs.Apart.{holder_parts}

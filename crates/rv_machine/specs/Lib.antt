@@ -8,3 +8,4 @@ pub mod Made
 pub mod Left
 pub mod LawfulText
 pub mod Promises
+pub mod Nth

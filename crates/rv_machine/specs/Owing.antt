@@ -1,6 +1,7 @@
 -- What is outstanding beside the stages of a machine, against the rows before (this project's choice).
-use Rattle.std.specs.Prelude.{◌≡◌, ℕ, suc, ◌<◌, List, [], ◌∷◌, get_or, Some, None, true, false, ◌⊎◌}
+use Rattle.std.specs.Prelude.{◌≡◌, ℕ, suc, ◌<◌, List, [], ◌∷◌, ◌++◌, map, get_or, Some, None, true, false, ◌⊎◌}
 use Rattle.ix_bits.specs.declared.number.Bits.{Bits}
+use Rattle.ix_plan.specs.declared.design.Target.{Target}
 use Rattle.rv_seq.specs.declared.arch.Arch.{Arch}
 use Rattle.rv_seq.specs.declared.answer.StepAnswer.TheVariants.{Done}
 use Rattle.rv_seq.specs.declared.commit.Commit.{Commit}
@@ -17,7 +18,7 @@ use Rattle.rv_engine.specs.declared.owing.Owed.{Owed}
 use Rattle.rv_engine.specs.Owing.{holder}
 use Rattle.rv_engine.specs.Settings.{Setting, shape_of}
 use Rattle.rv_lawful.specs.Settings as Lawful
-use Rattle.rv_lawful.specs.Outstanding.{Decoupled, touches, has_target, is_written}
+use Rattle.rv_lawful.specs.Outstanding.{Decoupled, touches, has_target, targets_of, is_written}
 use Rattle.rv_lawful.specs.LawfulTrace.{IsWordOf}
 use Rattle.rv_lawful.specs.Sight.{asked}
 
@@ -29,6 +30,11 @@ judged k = Lawful.setting k.design k.image k.waits
 abbrev pub repaid : List Owed → Arch → Arch
 repaid [] s = s
 repaid (o ∷ older) s = paid o.writes (repaid older s)
+
+-- the registers that these owe, in the order of retirement, each with the serial of its instruction
+abbrev pub targets_owed : List Owed → List (ℕ × Target)
+targets_owed [] = []
+targets_owed (o ∷ older) = targets_owed older ++ map (λ t. (o.serial, t)) (targets_of o.asks)
 
 -- a custom register with what these owe it, the oldest first
 abbrev pub paid_owed : ℕ → List Owed → Bits → Bits

@@ -3,6 +3,7 @@
 
 mod laws;
 mod machine;
+mod outstanding;
 mod running;
 
 pub use laws::rows_laws;

@@ -1,15 +1,21 @@
-ghost use Rattle.std.specs.Prelude.{◌≡◌, ◌+◌, ◌<◌, [], ◌∷◌, None, reverse, IfOk};
+ghost use Rattle.std.specs.Prelude.{◌≡◌, ◌+◌, ◌<◌, [], ◌∷◌, None, reverse, slice_get, IfOk};
+ghost use Rattle.ix_extension.specs.Extensions.{view_extension};
 ghost use Rattle.ix_standing.specs.Standing.{Stands};
-ghost use Rattle.rv_trace.specs.Trace.{newest};
+ghost use Rattle.rv_seq.specs.Runs.{run};
+ghost use Rattle.rv_trace.specs.Trace.{newest, retirements};
+ghost use Rattle.rv_lawful.specs.Settings.{setting as lawful_setting};
+ghost use Rattle.rv_lawful.specs.Outstanding.{architecture, applied_state, outstanding_targets};
 ghost use Rattle.rv_lawful.specs.Headline.{Headline};
+ghost use Rattle.rv_machine.specs.Owing.{targets_owed};
 ghost use Rattle.rv_machine.specs.Running.{AreRows, machine_at};
 ghost use Rattle.rv_machine.specs.Promises.{IsRunnable};
 
 use crate::laws::rows_laws;
+use crate::outstanding::nth_owed;
 use ix_behaviour::behaviour_laws;
 use ix_bits::Memory;
 use ix_eval::Scratch;
-use ix_plan::Design;
+use ix_plan::{Design, Target};
 use rv_asks::{Asking, asking_of};
 use rv_engine::{Kept, first_kept, make_row};
 use rv_isa::Image;
@@ -109,10 +115,27 @@ impl<'a> Machine<'a> {
         &self.trace
     }
 
-    /// The architectural state after the last row.
+    /// The architectural state after the last row: that which the rows make. With the outstanding writes applied in the order of retirement it is that of the run one instruction
+    /// at a time, behind as many instructions as were retired.
     pub fn arch(&self) -> &Arch
-        ensures { result.now ≡ (machine_at self.now.setting self.now.rows).arch }
+        ensures made { result.now ≡ (machine_at self.now.setting self.now.rows).arch }
+        ensures state { IsRunnable self.now.setting.design self.now.setting.image → result.now ≡ architecture (view_extension self.now.setting.design.extension) (lawful_setting self.now.setting.design self.now.setting.image self.now.setting.waits) self.now.rows }
+        ensures applied { IsRunnable self.now.setting.design self.now.setting.image → applied_state (view_extension self.now.setting.design.extension) (lawful_setting self.now.setting.design self.now.setting.image self.now.setting.waits) self.now.rows ≡ run (view_extension self.now.setting.design.extension) self.now.setting.image (retirements self.now.rows) }
     {
+        rows_laws();
         &self.kept.arch
+    }
+
+    /// The k-th register with an outstanding write after the last row, in the order of retirement and the x register of an instruction before its custom ones, with the count of
+    /// fetches before the instruction; none where there are no more than k. Takes no memory.
+    pub fn outstanding(&self, k: u32) -> Option<(u32, Target)>
+        ensures owed { result ≡ slice_get (targets_owed (machine_at self.now.setting self.now.rows).owed) k }
+        ensures listed { IsRunnable self.now.setting.design self.now.setting.image → result ≡ slice_get (outstanding_targets (lawful_setting self.now.setting.design self.now.setting.image self.now.setting.waits) self.now.rows) k }
+    {
+        rows_laws();
+        match nth_owed(self.kept.owing.owed(), k) {
+            Ok(found) => Some(found),
+            Err(_) => None,
+        }
     }
 }

@@ -1,18 +1,22 @@
-ghost use Rattle.std.specs.Prelude.{◌≡◌, ℕ, ◌≤◌, List, [], length, None, OnOk, Err};
+ghost use Rattle.std.specs.Prelude.{◌≡◌, ℕ, ◌≤◌, List, [], length, take, vec_capacity, None, OnOk, Err};
 ghost use Rattle.ix_standing.specs.Standing.{Stands};
 ghost use Rattle.ix_io.specs.Faults.{Rose};
 ghost use Rattle.ix_io.specs.Sink.{Appends, AppendsFront};
 ghost use Rattle.rv_trace.specs.Trace.{newest};
-ghost use Rattle.rv_machine.specs.Running.{AreRows};
-ghost use Rattle.rv_machine.specs.DesignText.{IsDesignText};
+ghost use Rattle.rv_machine.specs.Running.{AreRows, machine_at};
+ghost use Rattle.rv_machine.specs.Owing.{targets_owed};
+ghost use Rattle.rv_machine.specs.DesignText.{most_targets, IsDesignText};
 
 use crate::machine::Machine;
 use ix_io::{Out, Sink};
-use ix_plan::Design;
+use ix_plan::{Design, Target};
 use rv_isa::Image;
 use rv_text::{RunErr, write_trace};
 use rv_waits::Waits;
 use std::alloc::Global;
+
+/// So many registers can have an outstanding write: 32 of the base, and 16 custom ones.
+const MOST_TARGETS: u32 = 48;
 
 /// Makes rows until one has a stop, or no more fit.
 fn run_machine(machine: &mut Machine<'_>, cycles: u32)
@@ -26,6 +30,20 @@ fn run_machine(machine: &mut Machine<'_>, cycles: u32)
         let row = machine.cycle();
         if row.stop.is_some() {
             break;
+        }
+    }
+}
+
+/// Lists the registers with outstanding writes after the last row, in the order of retirement, in reserved room.
+fn list_outstanding(machine: &Machine<'_>, list: &mut Vec<(u32, Target)>)
+    requires empty { list.old.items ≡ [] }
+    requires room { most_targets ≤ vec_capacity list.old }
+    ensures { list.new.items ≡ take most_targets (targets_owed (machine_at machine.now.setting machine.now.rows).owed) }
+{
+    'targets: for k in 0..MOST_TARGETS {
+        match machine.outstanding(k) {
+            Some(one) => list.push(one).unwrap(),
+            None => break,
         }
     }
 }
@@ -48,15 +66,19 @@ pub fn write_design_run<S: Sink>(
     let Ok(mut out) = Out::new(alloc) else {
         return Err(RunErr::Memory);
     };
+    let Ok(mut outstanding) = Vec::with_capacity(alloc, MOST_TARGETS as usize) else {
+        return Err(RunErr::Memory);
+    };
     let Ok(mut machine) = Machine::new(alloc, design, image, waits, cycles) else {
         return Err(RunErr::Memory);
     };
     run_machine(&mut machine, cycles);
+    list_outstanding(&machine, &mut outstanding);
     match write_trace(
         machine.trace(),
         design.sheet.shape,
         design.extension.registers.len(),
-        &[],
+        outstanding.as_slice(),
         machine.arch(),
         &mut out,
         sink,

@@ -3,8 +3,6 @@ mod Asking
 mod Base
 mod Coming
 mod Plans
-mod Spawning
-mod Quiet
 mod Seeing
 mod Sights
 mod Units

@@ -1,6 +1,4 @@
-use Rattle.rv_sight.proofs.Quiet.{quiet_design}
 use Rattle.rv_sight.proofs.Seeing.{Laws}
-use Rattle.rv_sight.proofs.Units.{quiet_law}
 use Rattle.rv_sight.proofs.Having.{in_units}
 use Rattle.rv_sight.proofs.Sights.{early_law, exact_law, keeps_law, written_law, tail_law}
 use Rattle.rv_sight.proofs.laws.sight_laws.Goals as goal
@@ -24,9 +22,6 @@ pub returns-clause-written : goal.returns-clause-written
 returns-clause-written c d stands =
     let laws : Laws = record { depends = c.depend_laws.ensures.depends; by_execute = c.depend_laws.ensures.by_execute; times = c.depend_laws.ensures.times; blind = c.depend_laws.ensures.blind; unwritten = c.depend_laws.ensures.unwritten } in
     written_law laws d stands
-
-pub returns-clause-quiet : goal.returns-clause-quiet
-returns-clause-quiet c d stands quiet = quiet_law d stands (quiet_design d stands quiet)
 
 pub returns-clause-tails : goal.returns-clause-tails
 returns-clause-tails c d stands =

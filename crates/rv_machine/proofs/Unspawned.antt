@@ -1,4 +1,4 @@
--- Where nothing is spawned, nothing is outstanding, and the parts of a record are the whole of it.
+-- Where an instruction spawns nothing, what it writes by itself is the whole record.
 use Rattle.std.proofs.Common.{◌≡◌, ◌∙◌, refl, sym, ap, ℕ, List, [], ◌∷◌, length, get_or, Option, Some, None, Bool, true, false}
 use Rattle.std.specs.Prelude.{if◌then◌else◌, is_some}
 use Rattle.std.proofs.lemmas.Bool.{false≢true}
@@ -38,14 +38,6 @@ unless_so false x y e = refl
 
 -- a table whose entries are those of a list of sixteen is the list
 module _ (a : Asks) (quiet : SpawnsNothing a) (c : Commit) (long : length c.custom ≡ 16) where
-  pub shown_same : shown a c ≡ c
-  unfolding shown
-  shown_same =
-      same_record c.at c.word (shown_index a.spawned c.rd_index) (shown_x a.spawned c.rd) (shown_customs a.spawned_customs c.custom) c refl refl
-      (ap (λ o. shown_index o c.rd_index) quiet.x) (ap (λ o. shown_x o c.rd) quiet.x)
-      (sym (table_is c.custom (λ r. if get_or a.spawned_customs r false then Later else get_or c.custom r Absent) 16 Absent long
-      (λ r less. sym (unless_so (get_or a.spawned_customs r false) Later (get_or c.custom r Absent) (quiet.customs r)))))
-
   pub native_same : (blocks : List (Option Bits)) → native a blocks c ≡ c
   unfolding native
   native_same blocks =
@@ -72,44 +64,3 @@ record_long x image s c e = by (word_at image s.pc) e
     by : (o : Option ℕ) → of_word x s o ≡ Done c → length c.custom ≡ 16
     by None q = cc
     by (Some word) q = long_decoded x s word _ c q
-
--- Targets and units
-
-pub no_target : (a : Asks) → SpawnsNothing a → (t : Target) → has_target a t ≡ true → ⊥
-no_target a quiet (X r) h = false≢true (sym (ap (λ o. is_register o r) quiet.x) ∙ h)
-no_target a quiet (Custom c) h = false≢true (sym (quiet.customs c) ∙ h)
-
--- the state after what is retired
-abbrev pub arch_after : Arch → Option (ℕ × Commit) → Arch
-arch_after s None = s
-arch_after s (Some r) = applied r.1 s
-
-module _ (k : Setting) (quiet : (word : ℕ) → SpawnsNothing (k.asks word)) where
-  none_enters : (o : Option (ℕ × Commit)) → entering k o ≡ None
-  none_enters None = refl
-  none_enters (Some r) = ap (λ u. in_unit r.0 u) (quiet r.1.word).unit
-
-  none_decoupled : (o : Option (ℕ × Commit)) → decoupled_in k o ≡ []
-  none_decoupled None = refl
-  none_decoupled (Some r) = ap (λ (u : Option ℕ). if is_some u then (r.0, r.1.word) ∷ [] else []) (quiet r.1.word).unit
-
-  pub units_none : k.units ≡ [] → (rows : List Row) → units_after k rows ≡ []
-  unfolding units_after
-  units_none none [] = none
-  units_none none (row ∷ earlier) = ap (λ u. next_units (entering k row.retired) u) (units_none none earlier)
-
-  pub written_none : k.units ≡ [] → (rows : List Row) → serial_in (unit_written (units_after k rows)) ≡ None
-  written_none none rows = ap (λ u. serial_in (unit_written u)) (units_none none rows)
-
-  decoupled_none : (rows : List Row) → decoupled k rows ≡ []
-  unfolding decoupled
-  decoupled_none [] = refl
-  decoupled_none (row ∷ earlier) = rw (none_decoupled row.retired, decoupled_none earlier) refl
-
-  pub outstanding_none : (rows : List Row) → outstanding k rows ≡ []
-  outstanding_none rows = ap (λ l. without (is_written rows) l) (decoupled_none rows)
-
-  -- what retires is written whole
-  pub retired_whole : (p : ℕ) (o : Option (ℕ × Commit)) (s : Arch) → ((r : ℕ × Commit) → o ≡ Some r → length r.1.custom ≡ 16) → after_retired k p o s ≡ arch_after s o
-  retired_whole p None s long = refl
-  retired_whole p (Some r) s long = ap (λ c. applied c s) (native_same (k.asks r.1.word) (quiet r.1.word) r.1 (long r refl) (k.course.blocks p))
