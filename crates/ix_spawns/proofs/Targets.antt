@@ -1,9 +1,9 @@
 -- A `spawn` body writes registers alone, statement by statement, and so in each behaviour of a text that breaks no rule.
-use Rattle.std.proofs.Common.{◌≡◌, ◌≢◌, sym, ap, subst, refl, ℕ, zero, suc, ◌+◌, ◌<◌, arith, List, [], ◌∷◌, ◌++◌, length, map, Option, Some, None, Bool, true, false}
-use Rattle.std.specs.Prelude.{slice_get, option_map, not, ◌&&◌}
+use Rattle.std.proofs.Common.{◌≡◌, sym, subst, refl, ℕ, zero, suc, ◌<◌, arith, List, [], ◌∷◌, ◌++◌, length, map, Option, Some, None, Bool, true, false}
+use Rattle.std.specs.Prelude.{slice_get, option_map}
 use Rattle.ix_bits.specs.declared.number.Ty.{Ty}
 use Rattle.ix_bits.specs.declared.operator.BinOp.{BinOp}
-use Rattle.ix_tree.specs.TypedTrees.{TypedExprTree, TypedLvalueTree, tl_name, tl_pc, tl_x, tl_mem, TypedDeclTree, TypedStmtTree, ts_block, ts_empty, ts_locals, ts_assign, ts_if, ts_if_else, ts_spawn, TypedRow, typed_end, typed_more, TypedInstrTree, TypedBlockTree, TypedSectionTree, TypedSectionKindTree, tk_states, tk_instructions, tk_always, TypedTextTree, erased_section, erased_text}
+use Rattle.ix_tree.specs.TypedTrees.{TypedLvalueTree, tl_name, tl_pc, tl_x, tl_mem, TypedDeclTree, TypedStmtTree, ts_block, ts_empty, ts_locals, ts_assign, ts_if, ts_if_else, ts_spawn, TypedRow, typed_end, typed_more, TypedInstrTree, TypedBlockTree, TypedSectionTree, TypedSectionKindTree, tk_states, tk_instructions, tk_always, TypedTextTree, erased_section, erased_text}
 use Rattle.ix_typing.specs.declared.role.Named.{Named}
 use Rattle.ix_typing.specs.declared.state.Setting.{Setting}
 use Rattle.ix_typing.specs.declared.state.State.{State}
@@ -18,8 +18,7 @@ use Rattle.ix_typed.specs.Statements.{IsStmt, IsRow}
 use Rattle.ix_typed.specs.Texts.{IsInstr, AreInstrs, IsBlock, AreBlocks, IsKind, AreSections, IsText}
 use Rattle.ix_extension.specs.Encodings.{pieces_of as pieces_in}
 use Rattle.ix_extension.specs.Extensions.{instrs_in, blocks_in, all_instrs, all_blocks, BehaviourTree, InstructionTree, ExtensionTree, instruction_of, block_of, extension_of}
-use Rattle.ix_extension.specs.WellFormed.{IsOf}
-use Rattle.ix_mean.specs.Core.{Expression, Statement}
+use Rattle.ix_mean.specs.Core.{Expression}
 use Rattle.ix_mean.specs.ByName.{Names, Numbered, register_in}
 use Rattle.ix_mean.specs.EffectByName.{type_of_text}
 use Rattle.ix_mean.specs.Resolving.{Slot, slot_in, resolved}

@@ -77,6 +77,7 @@ pub mod RankStays
 pub mod Lone
 pub mod Pigeonhole
 pub mod Listed
+pub mod Nths
 pub mod FewOwed
 pub mod FewEntries
 pub mod Repaid

@@ -6,7 +6,7 @@ use Rattle.std.proofs.lemmas.Bool.{false≢true}
 use Rattle.std.proofs.lemmas.List.{append-nil, reverse-append, length-append, length-map}
 use Rattle.std.proofs.lemmas.Grind.{flat_map-append}
 use Rattle.ix_plan.specs.declared.design.Target.{Target}
-use Rattle.ix_plan.specs.declared.design.Target.TheVariants.{X, Custom}
+use Rattle.ix_plan.specs.declared.design.Target.TheVariants.{Custom}
 use Rattle.rv_asks.specs.declared.asks.Asks.{Asks}
 use Rattle.rv_trace.specs.declared.row.Row.{Row}
 use Rattle.rv_unit.specs.declared.entry.Entry.{Entry}
@@ -17,7 +17,7 @@ use Rattle.rv_engine.specs.Owing.{holder}
 use Rattle.rv_engine.specs.Settings.{Setting}
 use Rattle.rv_lawful.specs.Outstanding.{Decoupled, has_target, is_register, x_target, custom_targets, targets_of, owed_targets}
 use Rattle.rv_lawful.specs.Sight.{asked}
-use Rattle.rv_machine.specs.Owing.{judged, targets_owed, IsOwing, Owing, Distinct}
+use Rattle.rv_machine.specs.Owing.{judged, targets_owed, Owing, Distinct}
 use Rattle.rv_machine.specs.Placed.{IsReady}
 use Rattle.rv_machine.proofs.Apart.{holder_parts}
 use Rattle.rv_machine.proofs.BoardHolds.{spawned_few}
@@ -102,7 +102,7 @@ record Own (a : Asks) (ns : List ℕ) : Type 0 where
 own : (a : Asks) → ((c : ℕ) → get_or a.spawned_customs c false ≡ true → c < 16) → ((r : ℕ) → is_register a.spawned r ≡ true → r < 32) → Own a (numbers (targets_of a))
 own a few below = by_case a.spawned refl where
   all : Customs a 0 (numbers (custom_targets 0 a.spawned_customs))
-  all = customs a few 0 a.spawned_customs (λ i. refl)
+  all = customs a few 0 a.spawned_customs (λ i. ap (λ n. get_or a.spawned_customs n false) (omega arith))
 
   itself : (r : ℕ) → is_register (Some r) r ≡ true
   itself r = grind arith
@@ -151,13 +151,15 @@ module _ (o : Owed) (older : List Owed) (ns : List ℕ) (rest : AllApart older n
 
 counted : (owed : List Owed) → length (targets_owed owed) ≡ length (all_numbers owed)
 counted [] = refl
-counted (o ∷ older) =
-    let rest = counted older in
-    let a = length-append (targets_owed older) (map (λ (t : Target). (o.serial, t)) (targets_of o.asks)) in
-    let b = length-map (targets_of o.asks) (λ (t : Target). (o.serial, t)) in
-    let c = length-append (numbers (targets_of o.asks)) (all_numbers older) in
-    let d = length-map (targets_of o.asks) target_number in
-    omega (arith, rest, a, b, c, d)
+counted (o ∷ older) = both (targets_owed older) (all_numbers older) (targets_of o.asks) (counted older) where
+  both : (ts : List (ℕ × Target)) (ns : List ℕ) (own : List Target) → length ts ≡ length ns → length (ts ++ map (λ (t : Target). (o.serial, t)) own) ≡ length (numbers own ++ ns)
+  both ts ns own e =
+      let mine : List (ℕ × Target) = map (λ (t : Target). (o.serial, t)) own in
+      let a : length (ts ++ mine) ≡ length ts + length mine = length-append ts mine in
+      let b : length mine ≡ length own = length-map own (λ (t : Target). (o.serial, t)) in
+      let c : length (numbers own ++ ns) ≡ length (numbers own) + length ns = length-append (numbers own) ns in
+      let d : length (numbers own) ≡ length own = length-map own target_number in
+      omega (arith, e, a, b, c, d)
 
 module _ (k : Setting) (ready : IsReady k) where
   own_of : (word : ℕ) (a : Asks) → a ≡ asked k.design word → Own a (numbers (targets_of a))

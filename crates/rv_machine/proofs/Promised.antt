@@ -125,7 +125,7 @@ arch_is k ready (row ∷ earlier) are =
 
 -- with what is outstanding it is the run's
 applied_is : (k : Setting) (x : ExtensionTree) (rows : List Row) → Agreeing x (judged k) rows → applied_state x (judged k) rows ≡ run x k.image (retirements rows)
-unfolding architecture decoupled run
+unfolding architecture decoupled retirements run
 applied_is k x [] h = refl
 applied_is k x (row ∷ earlier) h = h.0.state
 

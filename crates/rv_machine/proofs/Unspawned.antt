@@ -1,30 +1,22 @@
 -- Where an instruction spawns nothing, what it writes by itself is the whole record.
-use Rattle.std.proofs.Common.{◌≡◌, ◌∙◌, refl, sym, ap, ℕ, List, [], ◌∷◌, length, get_or, Option, Some, None, Bool, true, false}
-use Rattle.std.specs.Prelude.{if◌then◌else◌, is_some}
-use Rattle.std.proofs.lemmas.Bool.{false≢true}
+use Rattle.std.proofs.Common.{◌≡◌, ◌∙◌, refl, sym, ap, ℕ, List, length, get_or, Option, Some, None, Bool, true, false}
+use Rattle.std.specs.Prelude.{if◌then◌else◌}
 use Rattle.ix_bits.specs.declared.number.Bits.{Bits}
 use Rattle.ix_eval.proofs.Tables.{table_length, table_is}
 use Rattle.ix_extension.specs.Extensions.{ExtensionTree}
-use Rattle.ix_plan.specs.declared.design.Target.{Target}
-use Rattle.ix_plan.specs.declared.design.Target.TheVariants.{X, Custom}
-use Rattle.ix_plan.specs.Units.{unit_written, next_units}
 use Rattle.rv_asks.specs.declared.asks.Asks.{Asks}
 use Rattle.rv_effect.specs.declared.decoded.Decoded.{Decoded}
 use Rattle.rv_seq.specs.declared.arch.Arch.{Arch}
 use Rattle.rv_seq.specs.declared.answer.StepAnswer.TheVariants.{Done}
 use Rattle.rv_seq.specs.declared.commit.Commit.{Commit}
 use Rattle.rv_seq.specs.declared.commit.Slot.{Slot}
-use Rattle.rv_seq.specs.declared.commit.Slot.TheVariants.{Absent, Later}
+use Rattle.rv_seq.specs.declared.commit.Slot.TheVariants.{Absent}
 use Rattle.rv_seq.specs.declared.commit.Stop.{Stop}
-use Rattle.rv_seq.specs.Commits.{applied, slot_of, commit_of}
+use Rattle.rv_seq.specs.Commits.{slot_of, commit_of}
 use Rattle.rv_seq.specs.Steps.{word_at, own_effect, whole_effect, unless_stopped, attempted, of_decoded, of_word, step}
 use Rattle.rv_seq.specs.Stops.{stop_of}
-use Rattle.rv_tried.specs.Parts.{shown_index, shown_x, shown_customs, shown, native_index, native_x, native_customs, native}
-use Rattle.rv_trace.specs.declared.row.Row.{Row}
-use Rattle.rv_lawful.specs.Settings.{Setting}
+use Rattle.rv_tried.specs.Parts.{native_index, native_x, native_customs, native}
 use Rattle.rv_lawful.specs.Sight.{SpawnsNothing}
-use Rattle.rv_lawful.specs.LawfulTrace.{serial_in}
-use Rattle.rv_lawful.specs.Outstanding.{is_register, has_target, in_unit, entering, units_after, is_written, decoupled_in, decoupled, without, outstanding, after_retired}
 
 -- Records
 

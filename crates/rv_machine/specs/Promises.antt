@@ -11,7 +11,7 @@ use Rattle.rv_engine.specs.Settings.{setting}
 use Rattle.rv_lawful.specs.Settings as Lawful
 use Rattle.rv_lawful.specs.Outstanding.{architecture, applied_state, outstanding_targets}
 use Rattle.rv_lawful.specs.Headline.{Headline}
-use Rattle.rv_machine.specs.Running.{AreRows}
+use Rattle.rv_machine.specs.Running.{AreRows, machine_at}
 use Rattle.rv_machine.specs.Owing.{targets_owed}
 use Rattle.rv_machine.specs.DesignText.{most_targets, IsDesignText}
 use Rattle.rv_machine.specs.LawfulText.{IsLawfulText}

@@ -38,7 +38,8 @@ fn run_machine(machine: &mut Machine<'_>, cycles: u32)
 fn list_outstanding(machine: &Machine<'_>, list: &mut Vec<(u32, Target)>)
     requires empty { list.old.items ≡ [] }
     requires room { most_targets ≤ vec_capacity list.old }
-    ensures { list.new.items ≡ take most_targets (targets_owed (machine_at machine.now.setting machine.now.rows).owed) }
+    ensures few { length list.new.items ≤ most_targets }
+    ensures list { list.new.items ≡ take most_targets (targets_owed (machine_at machine.now.setting machine.now.rows).owed) }
 {
     'targets: for k in 0..MOST_TARGETS {
         match machine.outstanding(k) {

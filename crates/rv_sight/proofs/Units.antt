@@ -1,30 +1,13 @@
 -- What is no instruction of the extension has no spawn target and no unit.
-use Rattle.std.proofs.Common.{◌≡◌, ◌∙◌, refl, sym, subst, ℕ, zero, suc, ◌+◌, arith, List, [], ◌∷◌, length, take, get_or, Option, Some, None, Bool, true, false}
-use Rattle.std.specs.Prelude.{Contains, slice_get, slice_index_or, ◌&&◌, ◌||◌}
+use Rattle.std.proofs.Common.{◌≡◌, refl, sym, subst, ℕ, zero, suc, [], get_or, Some, None, Bool, false}
 use Rattle.std.specs.List.{list_any}
-use Rattle.std.proofs.lemmas.Option.{slice_get_within}
-use Rattle.ix_extension.specs.Extensions.{ExtensionTree, view_extension}
-use Rattle.ix_graph.specs.declared.graph.Op.{Op}
-use Rattle.ix_graph.specs.declared.graph.Mode.{Mode}
-use Rattle.ix_graph.specs.declared.graph.Mode.TheVariants.{InPipeline, Tight, Decoupled, Always}
-use Rattle.ix_plan.specs.declared.design.Plan.{Plan}
 use Rattle.ix_plan.specs.declared.design.Design.{Design}
-use Rattle.ix_plan.specs.Units.{Slots, unit_in, first_units}
-use Rattle.ix_sheet.specs.Behaviours.{IsSpawning, IsModeOf}
-use Rattle.ix_standing.specs.Standing.{behaviours_of, is_block, Stands}
 use Rattle.rv_isa.specs.declared.base.Base.{Base}
-use Rattle.rv_isa.specs.Fields.{rd_of}
-use Rattle.rv_unit.specs.Numbering.{is_decoupled, lasts_of, unit_after, unit_of}
-use Rattle.rv_asks.specs.declared.asks.Act.{Act}
 use Rattle.rv_asks.specs.Acts as acts
-use Rattle.rv_asks.specs.Asks.{flags, some_so, asks_in}
-use Rattle.rv_effect.specs.declared.decoded.Decoded.{Decoded}
+use Rattle.rv_asks.specs.Asks.{flags, asks_in}
 use Rattle.rv_effect.specs.declared.decoded.Decoded.TheVariants as D
-use Rattle.rv_effect.specs.Decoding.{decoded_in}
-use Rattle.rv_lawful.specs.Sight.{SpawnsNothing, QuietLaw}
-use Rattle.rv_sight.proofs.Plans.{there, plan_of, own_within}
-use Rattle.rv_sight.proofs.Asking.{asks_of, own_asks, base_asks_are, none_asks}
-use Rattle.rv_sight.proofs.Spawning.{NeverSpawns}
+use Rattle.rv_lawful.specs.Sight.{SpawnsNothing}
+use Rattle.rv_sight.proofs.Asking.{base_asks_are, none_asks}
 
 all_false : (f : ℕ → Bool) (n r : ℕ) → ((q : ℕ) → f q ≡ false) → get_or (flags f n) r false ≡ false
 all_false f zero r h = refl
