@@ -1,5 +1,5 @@
 -- What the refusal of a file's text says.
-use Rattle.std.proofs.Common.{◌≡◌, ◌≢◌, ℕ, ◌<◌, true, List, [], ◌∷◌, ◌++◌, ◌∙◌, append_assoc, length, Option, Some, inl, inr, refl, sym, subst, Result, Ok, Err}
+use Rattle.std.proofs.Common.{◌≡◌, ◌≢◌, ℕ, ◌<◌, true, List, [], ◌∷◌, ◌++◌, ◌∙◌, append_assoc, length, Option, inl, inr, refl, sym, subst, Result, Ok, Err}
 use Rattle.std.specs.Prelude.{IfSome, codes, string_bytes, String}
 use Rattle.std.specs.declared.alloc.Global.{Global}
 use Rattle.ix_io.specs.Limits.{most_bytes}
@@ -14,10 +14,6 @@ use Rattle.ix_cert.specs.Certificates.{IsRefused as IsRefusedReport}
 use Rattle.ix_elab.specs.declared.error.FrontErr.{FrontErr}
 use Rattle.ix_elab.specs.declared.error.FrontErr.TheVariants.{Memory as front_memory}
 use Rattle.ix_elab.specs.Refusing.{IsCause}
-use Rattle.ix_elab.specs.Elaborating.{Elaborates}
-use Rattle.ix_extension.specs.Extensions.{ExtensionTree}
-use Rattle.ix_behaviour.specs.declared.which.Which.{Which}
-use Rattle.ix_standing.specs.Standing.{name_at}
 use Rattle.ix_listing.specs.RefusalLine.{refusal_line}
 use Rattle.ix_sheet.specs.declared.sheet.SheetErr.{SheetErr}
 use Rattle.ix_sheet.specs.declared.sheet.SheetErr.TheVariants.{Memory as sheet_memory, Core as core_missing}

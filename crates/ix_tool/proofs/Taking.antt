@@ -1,5 +1,5 @@
 -- What the words behind the first of each command are read as, and that a command takes it.
-use Rattle.std.proofs.Common.{◌≡◌, ℕ, List, [], ◌∷◌, Option, Some, None, refl, ap, sym, ◌∙◌, subst}
+use Rattle.std.proofs.Common.{◌≡◌, ℕ, List, [], ◌∷◌, Option, Some, refl, ap, sym, ◌∙◌, subst}
 use Rattle.ix_io.specs.Shelf.{NamedFiles}
 use Rattle.ix_cert.specs.Certificates.{IsFaultless}
 use Rattle.ix_tool.specs.declared.command.Command.{Command}

@@ -21,9 +21,8 @@ use Rattle.rv_asm.specs.WaitsText.{IsWaitsText, IsBadWait}
 use Rattle.rv_asm.specs.declared.source.AsmErr.{AsmErr}
 use Rattle.rv_asm.specs.declared.source.AsmErr.TheVariants as A
 use Rattle.ix_extension.specs.Extensions.{ExtensionTree, view_extension}
-use Rattle.ix_behaviour.specs.declared.which.Which.{Which}
 use Rattle.ix_plan.specs.declared.design.Design.{Design}
-use Rattle.ix_standing.specs.Standing.{name_at, Stands}
+use Rattle.ix_standing.specs.Standing.{Stands}
 use Rattle.ix_extension.specs.WellFormed.{IsOf}
 use Rattle.ix_tree.specs.TypedTrees.{TypedTextTree}
 use Rattle.ix_elab.specs.declared.error.FrontErr.{FrontErr}
