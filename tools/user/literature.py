@@ -304,8 +304,7 @@ def run_case(options, case, room):
 
 
 def run_on_core(options, case, core, image, steps, room):
-    """The run of a case on a core. A program that is not run there yet, since a write of it comes
-    later, has no cycles."""
+    """The run of a case on a core."""
     extension, sheet = FOLDER / f"{case.name}.core_desc", ROOT / "examples" / f"{core}.toml"
     what = f"{case.name} on {core}"
     report = room / "schedule.report"
@@ -320,8 +319,6 @@ def run_on_core(options, case, core, image, steps, room):
     never = room / "none.waits"
     never.write_text("", encoding="utf-8")
     words = ["run", extension, sheet, image, never, MOST_STEPS]
-    if refusal_of(run_program(options.ixt, words)).startswith("refused Extension Decoupled "):
-        return Run([case.name, core, modes, "-", "-", bits], modules)
     sums = run_in_pipeline(options, words, what, steps, room)
     words[4] = WAITS
     run_in_pipeline(options, words, f"{what} with waits", steps, room)
