@@ -4,3 +4,4 @@ pub mod RunLemmas
 pub mod LoadLemmas
 pub mod StateLemmas
 pub mod Simulating
+pub mod Marking

@@ -15,7 +15,7 @@ use Rattle.ix_neteval.specs.Wired.{GateFits, HasPattern, FitWidths, AreWired, Ga
 use Rattle.ix_neteval.proofs.GateLemmas.{gate_fits_map, gate_result-same, gate_result_fits}
 
 -- a list has a number or does not
-contains_cases : (xs : List ℕ) (y : ℕ) → Contains xs y ⊎ (Contains xs y → ⊥)
+pub contains_cases : (xs : List ℕ) (y : ℕ) → Contains xs y ⊎ (Contains xs y → ⊥)
 contains_cases xs y =
     ⊎_elim (λ (t : list_any (λ x. eqb x y) xs ≡ true). inl (list_any-eqb xs y t)) (λ (f : list_any (λ x. eqb x y) xs ≡ false). inr (λ c. false≢true (sym f ∙ list_any-Contains xs y c)))
     (cases_Bool (list_any (λ x. eqb x y) xs))
@@ -82,7 +82,7 @@ unread first gates values k cell x w lk lc never =
     (λ e. never (record { source = lc; reader = lk; reads = (j, l, get_or_default (reads_of (gate_at gates k)) j (first + cell) d l ∙ e) }))))))
 
 -- an earlier part of a list
-contains_longer : (order : List ℕ) (q i c : ℕ) → q ≤ i → Contains (take q order) c → Contains (take i order) c
+pub contains_longer : (order : List ℕ) (q i c : ℕ) → q ≤ i → Contains (take q order) c → Contains (take i order) c
 contains_longer order q i c l h =
     let short : length (take q order) ≤ q = omega (arith, length-take q order) in
     let near : h.0 < q = omega (arith, h.1) in

@@ -1,5 +1,5 @@
 -- A valid net by name and by number.
-use Rattle.std.proofs.Common.{◌≡◌, ℕ, ◌+◌, ◌<◌, ◌^◌, List, ◌++◌, eqb, Option, Some, None, unwrap_or, length, map, get_or, take, drop, replicate, arith, ap, sym, ◌∙◌, subst, All, Contains}
+use Rattle.std.proofs.Common.{◌≡◌, ℕ, zero, suc, ◌+◌, ◌<◌, ◌^◌, List, [], ◌∷◌, ◌++◌, eqb, Option, Some, None, unwrap_or, length, map, get_or, take, drop, replicate, arith, ap, sym, ◌∙◌, subst, All, Contains}
 use Rattle.std.specs.Option.{option_and_then}
 use Rattle.std.specs.Prelude.{slice_get}
 use Rattle.std.proofs.lemmas.Bool.{cond_both}
@@ -300,3 +300,21 @@ output_value net k o values r v valid fit g at read =
     let value : v ≡ value_of net values o.name = read ∙ get_or_default values r v 0 l ∙ ap (λ i. get_or values i 0) at ∙ sym (value_at_number net values o.name o.width wide.0) in
     let P : ℕ → Type 0 = λ x. x < 2 ^ o.width in
     (l, value, subst P (sym value) (value_fits net values fit o.name o.width wide.0))
+
+-- the value at the place of an input is that of its name, and fits its width
+pub input_value :
+    (net : Net) (k : ℕ) (p : Port) (values : List ℕ) → IsValid net → FitPorts (signals net) values → slice_get net.inputs k ≡ Some p
+    → (k < length values) × (get_or values k 0 ≡ value_of net values p.name) × (get_or values k 0 < 2 ^ p.width) × IsWidth p.width
+input_value net k p values valid fit h =
+    let rest : List Port = map cell_port net.cells ++ map bank_port net.banks in
+    let first : slice_get (net.inputs ++ (map cell_port net.cells ++ map bank_port net.banks)) k ≡ Some p = in_front net.inputs rest k p h in
+    let there : slice_get (signals net) k ≡ Some p = ap (λ (l : List Port). slice_get l k) (append_assoc net.inputs (map cell_port net.cells) (map bank_port net.banks)) ∙ first in
+    let within : k < length (signals net) = slice_get_within (signals net) k p there in
+    let size = fit_length (signals net) values fit in
+    let number = place_of-at (signals net) (apart_of net valid.distinct) k p there in
+    (omega (arith, within, size), sym (value_at_place net values p.name k number), fit_at (signals net) values fit k p there, subst IsWidth (ap (λ (q : Port). q.width) (get_or_from_slice_get (signals net) k p p there)) (valid.widths k p within))
+  where
+    in_front : (xs ys : List Port) (i : ℕ) (q : Port) → slice_get xs i ≡ Some q → slice_get (xs ++ ys) i ≡ Some q
+    in_front [] ys i q g = absurd (cc)
+    in_front (x ∷ xs) ys zero q g = g
+    in_front (x ∷ xs) ys (suc i) q g = in_front xs ys i q g

@@ -1,3 +1,4 @@
 pub mod State
 pub mod Wired
+pub mod Marked
 pub mod Simulated

@@ -20,6 +20,10 @@ pub struct Sim<'a> {
     wiring: Wiring,
     banks: Vec<u128>,
     values: Vec<u128>,
+    // Room for the signals that change in a cycle.
+    marks: Vec<bool>,
+    // Whether the values are settled: what has not changed then keeps its value.
+    settled: bool,
 }
 
 impl<'a> Model for Sim<'a> {
@@ -29,7 +33,7 @@ impl<'a> Model for Sim<'a> {
 
     ghost view = { λ s. record { net = s.net.now; banks = s.banks.items; values = s.values.items } };
 
-    ghost invariant = { λ s. IsState s.net.now s.wiring s.banks.items s.values.items };
+    ghost invariant = { λ s. IsState s.net.now s.wiring s.banks.items s.values.items s.marks.items s.settled };
 }
 
 /// Makes a net ready to run, with all banks 0.
@@ -41,11 +45,14 @@ pub fn prepare<'a>(alloc: Global, net: &'a Net) -> Result<Sim<'a>, Memory>
         Some(wiring) => {
             let banks = vec![in alloc; 0u128; net.banks.len()]?;
             let values = vec![in alloc; 0u128; wiring.widths.len()]?;
+            let marks = vec![in alloc; false; wiring.widths.len()]?;
             Ok(Sim {
                 net,
                 wiring,
                 banks,
                 values,
+                marks,
+                settled: false,
             })
         }
         None => unreachable!(),
@@ -75,14 +82,36 @@ impl<'a> Sim<'a> {
         are_of_widths(inputs, self.net.inputs.as_slice())
     }
 
-    /// Gives each name its value in a cycle with these inputs, one pattern of the right width for each input.
+    /// Gives each name its value in a cycle with these inputs, one pattern of the right width for each input. A cell whose operands stand as they were
+    /// settled last is not evaluated again.
     pub fn settle(&mut self, inputs: &[Bits])
         requires { pattern_widths inputs.now ≡ map (λ p. p.width) self.old.net.inputs }
         ensures same_net { self.new.net ≡ self.old.net }
         ensures same_banks { self.new.banks ≡ self.old.banks }
         ensures settled { Settles self.old.net (pattern_values inputs.now) self.old.banks self.new.values }
     {
-        settle_values(&self.wiring, inputs, &self.banks, &mut self.values);
+        settle_values(
+            &self.wiring,
+            inputs,
+            &self.banks,
+            !self.settled,
+            &mut self.marks,
+            &mut self.values,
+        );
+        self.settled = true;
+    }
+
+    /// The value of input `k` as the net was last settled; 0 before that.
+    pub fn input(&self, k: u32) -> Bits
+        requires { k < length self.now.net.inputs }
+        ensures value { (p : Port) → slice_get self.now.net.inputs k ≡ Some p →
+            result.raw ≡ value_of self.now.net self.now.values p.name }
+        ensures width { (p : Port) → slice_get self.now.net.inputs k ≡ Some p → result.width ≡ p.width }
+    {
+        Bits {
+            raw: self.values[k as usize],
+            width: self.net.inputs.as_slice()[k as usize].width,
+        }
     }
 
     /// The value of output `k` as it was last settled; 0 before that.

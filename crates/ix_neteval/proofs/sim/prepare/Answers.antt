@@ -27,4 +27,6 @@ invariant_of-result c =
       wired = found.1;
       banks_fit = subst P (sym zeros) (zeros_fit (map bank_port net.banks) c.len.result size);
       values_fit = subst Q (sym zeros') (zeros_fit (signals net) c.len-in-Some.result size');
+      marks_are = omega (arith, c.in_ok-marks-in-Some.ensures.len, c.len-in-Some-2.ensures, c.in-Some.wiring.widths.ok.0, ap length found.1.widths, length-map (signals net) (λ (p : Port). p.width));
+      holding = λ e. cc;
     }

@@ -61,6 +61,8 @@ invariant_of-self c =
       wired = c.self.invariant.wired;
       banks_fit = subst P (sym (whole ∙ made)) (next_banks_fit net values c.self.invariant.valid c.self.invariant.values_fit);
       values_fit = c.self.invariant.values_fit;
+      marks_are = c.self.invariant.marks_are;
+      holding = c.self.invariant.holding;
     }
 
 pub returns-clause-banks : goal.returns-clause-banks
