@@ -7,16 +7,25 @@ use Rattle.std.proofs.lemmas.List.{append-nil, map-append, length-map, get_or-ma
 use Rattle.std.proofs.lemmas.List.Elements.{Contains-append_left, Contains-append_right, Contains-push, All-push, All-weaker}
 use Rattle.ix_net.specs.declared.netlist.Net.{Net}
 use Rattle.ix_net.specs.declared.netlist.Bank.{Bank}
+use Rattle.ix_net.specs.declared.netlist.Port.{Port}
 use Rattle.ix_net.specs.Signals.{cell_port, bank_port}
-use Rattle.ix_ports.specs.Ports.{enable_name}
+use Rattle.ix_ports.specs.Ports.{enable_port}
 use Rattle.ix_cells.specs.declared.signal.Signal.{Signal}
 use Rattle.ix_cells.specs.declared.signal.Signal.TheVariants.{Register}
 use Rattle.ix_cells.specs.declared.signal.Wire.{Wire}
 use Rattle.ix_cells.specs.Naming.{name_of, code, Ascends, IsBounded}
 use Rattle.ix_net.specs.Declarations.{Has}
 use Rattle.ix_cells.specs.Growth.{AreWires, Extends, Adds}
-use Rattle.ix_netgen.specs.Standing.{Timetable, Scene, Shows, Tells, IsRightBank, IsSound, Keeps, next_bank, with_bank, IsHeld, Holds, IsStored}
+use Rattle.ix_netgen.specs.Standing.{Timetable, Scene, Shows, Tells, HasEnable, IsRightBank, IsSound, Keeps, next_bank, with_bank, IsHeld, Holds, IsStored}
 use Rattle.ix_cells.proofs.Growing.{has_grows, wire_grows, nodes_grow, explains_before, extends_on, extends_same}
+
+-- what a net has as an input it declares
+pub has_input : (net : Net) (q : Port) → Contains net.inputs q → Has net q.name q.width
+has_input net q h = Contains-append_left (net.inputs ++ map cell_port net.cells) (map bank_port net.banks) q (Contains-append_left net.inputs (map cell_port net.cells) q h)
+
+-- an enable stays an input
+pub enable_grows : {old new : Net} → Extends old new → (t : ℕ) → HasEnable old t → HasEnable new t
+enable_grows e t h = subst (λ (is : List Port). Contains is (enable_port t)) (sym e.inputs) h
 
 pub scene_before : {p : Timetable} {old new : Net} {terms : ℕ → ℕ} {t : ℕ} {value : List ℕ → ℕ} → Extends old new → Scene p new terms t value → Scene p old terms t value
 scene_before {p} {old} {new} {terms} {t} {value} e s = record {
@@ -42,7 +51,7 @@ right_grows {p} e b r = record {
   named = r.named;
   wide = r.wide;
   enabled = r.enabled;
-  has_enable = has_grows e (enable_name r.time) 1 r.has_enable;
+  has_enable = enable_grows e r.time r.has_enable;
   fed = r.fed;
   has_source = has_grows e (name_of r.source) b.width r.has_source;
   stands = shows_grow p e r.time r.source (λ terms. terms r.op) r.stands;
@@ -108,7 +117,7 @@ module _ (p : Timetable) (old : Net) (k t : ℕ) (w : Wire) where
   }
 
   pub bank_sound :
-      (hi : ℕ) → k < 2 ^ 64 → t + 1 < 2 ^ 64 → p.shape.rd ≤ t → Has old (enable_name t) 1 → Tells p old t w (λ terms. terms k) → hi ≤ code (Register k (t + 1))
+      (hi : ℕ) → k < 2 ^ 64 → t + 1 < 2 ^ 64 → p.shape.rd ≤ t → HasEnable old t → Tells p old t w (λ terms. terms k) → hi ≤ code (Register k (t + 1))
       → IsSound p hi old → IsSound p (code (Register k (t + 1)) + 1) (with_bank old (next_bank k t w))
   unfolding name_of
   bank_sound hi bk bt rd enable h l s =
@@ -122,7 +131,7 @@ module _ (p : Timetable) (old : Net) (k t : ℕ) (w : Wire) where
         named = refl;
         wide = h.wire.wide;
         enabled = refl;
-        has_enable = has_grows grown (enable_name t) 1 enable;
+        has_enable = enable_grows grown t enable;
         fed = refl;
         has_source = has_grows grown (name_of w.signal) w.width h.wire.has;
         stands = shows_grow p grown t w.signal (λ terms. terms k) h.shows;
@@ -198,7 +207,7 @@ holds_next k w from t old mid new ws cur next low bt h at stored =
           let same : now.wire ≡ cur = same_Some now.wire cur (sym now.at ∙ at) in
           let T : Wire → Type 0 = λ y. Tells p mid t y (λ terms. terms k) in
           let told : Tells p mid t cur (λ terms. terms k) = subst T same now.tells in
-          let enable = has_grows h.extends (enable_name t) 1 (enables t low (omega arith)) in
+          let enable = enable_grows h.extends t (enables t low (omega arith)) in
           let wide : cur.width ≡ w.width = ap (λ (y : Wire). y.width) (sym same) ∙ now.wide in (
             bank_sound p mid k t cur (code (Register k t) + 1) bk bt (omega arith) enable told (omega arith) prev.0,
             λ u a b. ⊎_elim

@@ -13,7 +13,7 @@ use Rattle.ix_net.specs.declared.netlist.Port.{Port}
 use Rattle.ix_net.specs.declared.netlist.Cell.{Cell}
 use Rattle.ix_net.specs.declared.netlist.Bank.{Bank}
 use Rattle.ix_net.specs.Name.{is_letter, is_mark}
-use Rattle.ix_net.specs.Signals.{signals, cell_port, bank_port}
+use Rattle.ix_net.specs.Signals.{signals, cell_port}
 use Rattle.ix_net.specs.Valid.{IsValid, IsWidth, names}
 use Rattle.ix_graph.specs.declared.role.Role.{Role}
 use Rattle.ix_graph.specs.declared.role.Role.TheVariants.{Read, Compute, Write}
@@ -23,12 +23,11 @@ use Rattle.ix_plan.specs.Service.{Serves}
 use Rattle.ix_cells.specs.declared.signal.Signal.TheVariants.{Register}
 use Rattle.ix_netgen.specs.declared.kept.Kept.{Kept}
 use Rattle.ix_cells.specs.Naming.{code, Ascends}
-use Rattle.ix_net.specs.Declarations.{Has}
 use Rattle.ix_cells.specs.Growth.{Extends, AreNodes}
 use Rattle.ix_netgen.specs.Standing.{Timetable, IsRightBank}
 use Rattle.ix_netgen.specs.KeptWires.{IsStage, IsBegun, IsStart}
 use Rattle.ix_netgen.specs.Outputs.{all_cells, all_ports, Puts}
-use Rattle.ix_netgen.proofs.BankLemmas.{right_grows}
+use Rattle.ix_netgen.proofs.BankLemmas.{has_input, right_grows}
 use Rattle.ix_netgen.proofs.PortLemmas.{rd_le_last}
 use Rattle.ix_netgen.proofs.InOrder.{ascends_apart}
 use Rattle.ix_netgen.proofs.Order.{signals_ascend, outs_ascend}
@@ -61,9 +60,6 @@ has_read k (x ∷ ops) (suc j) op h e =
     let P : ℕ → Type 0 = λ i. Contains (read_ports k (x ∷ ops)) (record { name = input_name i; width = op.ty.width }) in
     subst P at (Contains-append_right (read_port k x (role_of x.kind)) (read_ports (k + 1) ops) (record { name = input_name (k + 1 + j); width = op.ty.width }) r)
 
-has_input : (net : Net) (q : Port) → Contains net.inputs q → Has net q.name q.width
-has_input net q h = Contains-append_left (net.inputs ++ map cell_port net.cells) (map bank_port net.banks) q (Contains-append_left net.inputs (map cell_port net.cells) q h)
-
 pub stage_first : (p : Timetable) (last : ℕ) (name : List ℕ) (net : Net) → last ≡ last_from p.shape.rd p.times → IsStart name p.shape.rd last p.graph.ops net → IsStage p last 0 net []
 stage_first p last name net e s =
     let C : List Cell → Type 0 = λ cs. AreNodes net 0 cs in
@@ -72,7 +68,7 @@ stage_first p last name net e s =
     let I : Port → List Port → Type 0 = λ q is. Contains is q in
     record {
       sound = record { nodes = subst C (sym s.no_cells) tt; banks = subst B (sym s.no_banks) (All-nil (IsRightBank p net)); bank_names = subst N (sym s.no_banks) (omega arith); no_outputs = s.no_outputs };
-      enables = λ t a b. has_input net (enable_port t) (subst (I (enable_port t)) (sym s.inputs) (Contains-append_left (enable_ports p.shape.rd last) (read_ports 0 p.graph.ops) (enable_port t) (has_enable p.shape.rd last t a b)));
+      enables = λ t a b. subst (I (enable_port t)) (sym s.inputs) (Contains-append_left (enable_ports p.shape.rd last) (read_ports 0 p.graph.ops) (enable_port t) (has_enable p.shape.rd last t a b));
       reads = λ j op h r.
           (let q : Port = record { name = input_name j; width = op.ty.width } in
           let z : 0 + j ≡ j = omega arith in

@@ -1,22 +1,55 @@
 -- While a token stands at a time, each bank of that time holds its term's value.
-use Rattle.std.proofs.Common.{◌≡◌, ◌≢◌, ⊎_elim, ℕ, ◌+◌, ◌-◌, ◌<◌, ◌^◌, zero, suc, List, length, get_or, arith, ap, sym, ◌∙◌, subst, All, Contains}
+use Rattle.std.proofs.Common.{◌≡◌, ◌≢◌, ⊎_elim, ℕ, ◌+◌, ◌-◌, ◌<◌, ◌^◌, zero, suc, List, [], ◌∷◌, ◌++◌, Some, Bool, true, false, cond, map, length, get_or, unwrap_or, append_assoc, arith, refl, ap, sym, ◌∙◌, subst, All, Contains}
+use Rattle.std.specs.Prelude.{option_map}
+use Rattle.std.specs.List.{position_from}
+use Rattle.std.specs.Str.{bytes_eq}
+use Rattle.std.proofs.lemmas.Slice.Eq.{bytes_eq-Decides}
 use Rattle.std.proofs.lemmas.Bool.{cases_eq}
 use Rattle.std.proofs.lemmas.List.{get_or_default}
 use Rattle.std.proofs.lemmas.List.Elements.{All-contains}
 use Rattle.ix_net.specs.declared.netlist.Net.{Net}
 use Rattle.ix_net.specs.declared.netlist.Bank.{Bank}
-use Rattle.ix_net.specs.Signals.{signals, bits_of}
+use Rattle.ix_net.specs.declared.netlist.Port.{Port}
+use Rattle.ix_net.specs.Signals.{signals, cell_port, bank_port, place_of, bits_of}
 use Rattle.ix_net.specs.Valuation.{IsValuation, value_of, banks_of}
 use Rattle.ix_net.specs.Run.{IsRun, next_bank, next_banks, first_banks}
 use Rattle.ix_net.proofs.NetLemmas.{Apart}
-use Rattle.ix_ports.specs.Ports.{enable_name}
+use Rattle.ix_ports.specs.Ports.{enable_name, enable_port}
 use Rattle.ix_mean.specs.GraphValues.{IsMeaning}
 use Rattle.ix_net.specs.Run.{cycle_at}
 use Rattle.ix_net.proofs.RunLemmas.{explained, run_valuation, run_banks, value_of_bank, bank_moves, bank_stays}
-use Rattle.ix_plan.specs.Service.{Moves, IsLife, Carries, ShowsAlways}
+use Rattle.ix_plan.specs.Service.{enable_at, Moves, IsLife, Carries, ShowsAlways}
 use Rattle.ix_cells.specs.Naming.{register_name}
-use Rattle.ix_netgen.specs.Standing.{Timetable, Scene, IsRightBank, ShowsOutputs}
+use Rattle.ix_netgen.specs.Standing.{Timetable, Scene, HasEnable, IsRightBank, ShowsOutputs}
 use Rattle.ix_cells.proofs.Names.{register_same}
+
+-- the first with a name stays the first where more stand behind
+place_on : (xs ys : List Port) (n : List ℕ) (at i : ℕ) → position_from (λ (p : Port). bytes_eq n p.name) at xs ≡ Some i → position_from (λ (p : Port). bytes_eq n p.name) at (xs ++ ys) ≡ Some i
+place_on [] ys n at i e = cc
+place_on (x ∷ xs) ys n at i e = by_case (bytes_eq n x.name) e (place_on xs ys n (at + 1) i) where
+  by_case : (b : Bool) → cond b (Some at) (position_from (λ (p : Port). bytes_eq n p.name) (at + 1) xs) ≡ Some i
+      → (position_from (λ (p : Port). bytes_eq n p.name) (at + 1) xs ≡ Some i → position_from (λ (p : Port). bytes_eq n p.name) (at + 1) (xs ++ ys) ≡ Some i)
+      → cond b (Some at) (position_from (λ (p : Port). bytes_eq n p.name) (at + 1) (xs ++ ys)) ≡ Some i
+  by_case true h on = h
+  by_case false h on = on h
+
+-- a port of a list has a first of its name
+placed : (xs : List Port) (p : Port) (at : ℕ) → Contains xs p → (i : ℕ) × (position_from (λ (q : Port). bytes_eq p.name q.name) at xs ≡ Some i)
+placed [] p at h = absurd (let l = h.1 in omega (arith, l))
+placed (x ∷ xs) p at (zero, l, e) = (at, ap (λ b. cond b (Some at) (position_from (λ (q : Port). bytes_eq p.name q.name) (at + 1) xs)) (ap (λ (q : Port). bytes_eq p.name q.name) e ∙ (bytes_eq-Decides p.name p.name).1 refl))
+placed (x ∷ xs) p at (suc k, l, e) = by_case (bytes_eq p.name x.name) (placed xs p (at + 1) (k, omega (arith, l), e)) where
+  by_case : (b : Bool) → (i : ℕ) × (position_from (λ (q : Port). bytes_eq p.name q.name) (at + 1) xs ≡ Some i) → (i : ℕ) × (cond b (Some at) (position_from (λ (q : Port). bytes_eq p.name q.name) (at + 1) xs) ≡ Some i)
+  by_case true h = (at, refl)
+  by_case false h = h
+
+-- an enable that the net has as an input shows there what its name shows
+enable_value : (net : Net) (values : List ℕ) (t : ℕ) → HasEnable net t → enable_at net values t ≡ value_of net values (enable_name t)
+enable_value net values t h =
+    let i = placed net.inputs (enable_port t) 0 h in
+    let rest : List Port = map cell_port net.cells ++ map bank_port net.banks in
+    let whole : place_of (signals net) (enable_name t) ≡ Some i.0 =
+    ap (λ (l : List Port). place_of l (enable_name t)) (append_assoc net.inputs (map cell_port net.cells) (map bank_port net.banks)) ∙ place_on net.inputs rest (enable_name t) 0 i.0 i.1 in
+    ap (λ o. unwrap_or (option_map (λ k. get_or values k 0) o) 0) (i.1 ∙ sym whole)
 
 module _ (p : Timetable) (net : Net) (apart : Apart net) (right : All (IsRightBank p net) net.banks) (terms : ℕ → ℕ) (means : IsMeaning p.graph terms) where
   -- the banks of time t hold their terms' values
@@ -41,22 +74,22 @@ module _ (p : Timetable) (net : Net) (apart : Apart net) (right : All (IsRightBa
       let r : IsRightBank p net b = i.0 in
       let next : value_of net after b.target ≡ next_bank net before b = value_of_bank net apart before after e b within in
       ⊎_elim
-      (λ (on : value_of net before (enable_name t) ≡ 1).
+      (λ (on : enable_at net before t ≡ 1).
       (let there : u ≡ t + 1 = m.goes on in
       let time : r.time ≡ t = omega (arith, i.2, there) in
-      let enabled : value_of net before b.enable ≡ 1 = ap (value_of net before) (r.enabled ∙ ap enable_name time) ∙ on in
+      let enabled : value_of net before b.enable ≡ 1 = ap (value_of net before) r.enabled ∙ sym (enable_value net before r.time r.has_enable) ∙ ap (enable_at net before) time ∙ on in
       let S : ℕ → Type 0 = λ s. Scene p net terms s (value_of net before) in
       let scene : Scene p net terms t (value_of net before) = record { carried = carried (λ same. absurd (omega (arith, same, there))); held = h } in
       let shown = r.stands terms means (value_of net before) (bits_of (signals net)) (explained net apart before v) (subst S (sym time) scene) in
       next ∙ bank_moves net before b enabled ∙ ap (value_of net before) r.fed ∙ shown ∙ ap terms (sym i.1)))
-      (λ (off : value_of net before (enable_name t) ≢ 1).
+      (λ (off : enable_at net before t ≢ 1).
       (let there : u ≡ t = m.stays off in
       let above : p.shape.rd < t = omega (arith, i.2, there, r.from_rd) in
       let time : r.time ≡ t - 1 = omega (arith, i.2, there) in
-      let disabled : value_of net before b.enable ≢ 1 = λ one. m.alone off above (ap (value_of net before) (sym (r.enabled ∙ ap enable_name time)) ∙ one) in
+      let disabled : value_of net before b.enable ≢ 1 = λ one. m.alone off above (ap (enable_at net before) (sym time) ∙ enable_value net before r.time r.has_enable ∙ ap (value_of net before) (sym r.enabled) ∙ one) in
       let N : ℕ → Type 0 = λ s. b.target ≡ register_name k s in
       next ∙ bank_stays net before b disabled ∙ h b k within bk (omega (arith, there, bu)) (subst N there named)))
-      (cases_eq (value_of net before (enable_name t)) 1)
+      (cases_eq (enable_at net before t) 1)
 
   module _ (cycles : List (List ℕ)) (run : IsRun net cycles) (first : ℕ) (life : List ℕ) (lives : IsLife net p.shape.rd cycles first life) where
     abbrev CarriedAt : ℕ → Type 0

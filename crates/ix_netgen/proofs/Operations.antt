@@ -16,7 +16,7 @@ use Rattle.ix_net.proofs.NetLemmas.{slice_get_some}
 use Rattle.ix_graph.specs.declared.role.Role.{Role}
 use Rattle.ix_graph.specs.declared.role.Role.TheVariants.{Read, Compute, Write}
 use Rattle.ix_graph.specs.Roles.{role_of}
-use Rattle.ix_ports.specs.Ports.{enable_name, input_name, last_from}
+use Rattle.ix_ports.specs.Ports.{input_name, last_from}
 use Rattle.ix_mean.specs.GraphValues.{arg_raw, kind_value, MeansAs}
 use Rattle.ix_sheet.specs.Behaviours.{latency_of}
 use Rattle.ix_plan.specs.Service.{result_time}
@@ -30,12 +30,12 @@ use Rattle.ix_sheet.specs.Behaviours.{names_op}
 use Rattle.ix_netgen.specs.Uses.{uses_until}
 use Rattle.std.specs.List.{list_any}
 use Rattle.std.proofs.lemmas.List.Folds.{list_any-from_Any}
-use Rattle.ix_net.specs.Declarations.{Has, Explains}
+use Rattle.ix_net.specs.Declarations.{Explains}
 use Rattle.ix_cells.specs.Growth.{Adds, Extends}
-use Rattle.ix_netgen.specs.Standing.{Timetable, Scene, Tells, IsSound, Keeps, IsHeld, Holds}
+use Rattle.ix_netgen.specs.Standing.{HasEnable, Timetable, Scene, Tells, IsSound, Keeps, IsHeld, Holds}
 use Rattle.ix_netgen.specs.KeptWires.{AreOperands, IsInReach, IsArgReady, Supplies, MayHold, ResultsAs, IsKept, IsStage, IsTimed, IsMade}
 use Rattle.ix_cells.proofs.Growing.{has_grows, explains_before, extends_on, extends_same}
-use Rattle.ix_netgen.proofs.BankLemmas.{scene_before, adds_keeps, ascends_more, slice_get-left, slice_get-last}
+use Rattle.ix_netgen.proofs.BankLemmas.{enable_grows, scene_before, adds_keeps, ascends_more, slice_get-left, slice_get-last}
 use Rattle.ix_netgen.proofs.Supplied.{operands_grow, operand_wires, operand_types, held_grows}
 
 write_role : (kind : Kind) → role_of kind ≡ Write → IsWrite kind
@@ -139,7 +139,7 @@ module _ (p : Timetable) (last k : ℕ) (op : Op) (valid : IsValidGraph p.graph)
     sound : IsSound p (code (Register (k + 1) 0)) new
     held : (t : ℕ) → from ≤ t → t ≤ until → IsHeld p new k from t width ws
 
-  module _ (few : last < 255) (mid new : Net) (w : Wire) (from : ℕ) (ws : List Wire) (rd : p.shape.rd ≤ from) (enables : (t : ℕ) → p.shape.rd ≤ t → t < last → Has mid (enable_name t) 1)
+  module _ (few : last < 255) (mid new : Net) (w : Wire) (from : ℕ) (ws : List Wire) (rd : p.shape.rd ≤ from) (enables : (t : ℕ) → p.shape.rd ≤ t → t < last → HasEnable mid t)
       (told : Tells p mid from w (λ terms. terms k)) (sound : IsSound p (code (Register k 0)) mid)
     where
       wider : (hi : ℕ) (net : Net) → IsSound p hi net → hi ≤ code (Register (k + 1) 0) → IsSound p (code (Register (k + 1) 0)) net
@@ -169,8 +169,8 @@ module _ (p : Timetable) (last k : ℕ) (op : Op) (valid : IsValidGraph p.graph)
     supply : Keeps p old mid × AreOperands p mid (get_or p.times k 0) op.args os
     supply = supplied p (code (Register k 0)) refl stage.sound (args_ready old kept stage)
 
-    enabled : (net : Net) → Extends mid net → (t : ℕ) → p.shape.rd ≤ t → t < last → Has net (enable_name t) 1
-    enabled net e t a b = has_grows e (enable_name t) 1 (has_grows supply.0.extends (enable_name t) 1 (stage.enables t a b))
+    enabled : (net : Net) → Extends mid net → (t : ℕ) → p.shape.rd ≤ t → t < last → HasEnable net t
+    enabled net e t a b = enable_grows e t (enable_grows supply.0.extends t (stage.enables t a b))
 
     -- an input that carries the result
     read_tells : (from : ℕ) → role_of op.kind ≡ Read → from ≡ result_time p.shape p.times k op → Tells p mid from (record { signal = Input k; width = op.ty.width }) (λ terms. terms k)
@@ -255,7 +255,7 @@ pub stage_next :
     (p : Timetable) (last k : ℕ) (old new : Net) (kept : List Kept) (w : Kept) → IsStage p last k old kept → IsMade p last k old new w → IsStage p last (k + 1) new (kept ++ w ∷ [])
 stage_next p last k old new kept w s m = record {
   sound = m.sound;
-  enables = λ t a b. has_grows m.extends (enable_name t) 1 (s.enables t a b);
+  enables = λ t a b. enable_grows m.extends t (s.enables t a b);
   reads = λ j op h e. has_grows m.extends (input_name j) op.ty.width (s.reads j op h e);
   count = (let e = length_push kept w in omega (arith, s.count));
   right = λ j op x h g.

@@ -17,7 +17,8 @@ use Rattle.ix_net.specs.Valid.{IsValid, IsWidth, Feeds, DependsOn, names}
 use Rattle.ix_net.proofs.NetLemmas.{Apart, place_of-at, slice_get_from_contains, signal_cell}
 use Rattle.ix_net.proofs.ValidLemmas.{apart_of}
 use Rattle.ix_net.proofs.FormFits.{HasSome, fits_from, operands_have}
-use Rattle.ix_ports.specs.Ports.{module_name}
+use Rattle.ix_ports.specs.Ports.{module_name, enable_port}
+use Rattle.ix_netgen.proofs.BankLemmas.{has_input}
 use Rattle.ix_cells.specs.declared.signal.Signal.{Signal}
 use Rattle.ix_cells.specs.declared.signal.Signal.TheVariants.{Node, Output}
 use Rattle.ix_cells.specs.Naming.{name_of, IsBounded, Ascends}
@@ -166,7 +167,7 @@ module _ (p : Timetable) (net mid : Net) (outs : List Cell) (hi : ℕ) (name : L
               all_at (λ (c : Cell). Fits (width_of (signals net)) c.width c.form) net.cells
               (λ i c h. fits_from (Reach mid i) (width_of (signals net)) (λ n w r. width n w (has_grows grown n w r.has)) c.width c.form (placed i c h).fits);
           enables = All-weaker (IsRightBank p net) (λ (b : Bank). width_of (signals net) b.enable ≡ Some 1)
-              (λ b r. ap (width_of (signals net)) r.enabled ∙ width _ 1 r.has_enable) net.banks right;
+              (λ b r. ap (width_of (signals net)) r.enabled ∙ width _ 1 (has_input net (enable_port r.time) r.has_enable)) net.banks right;
           sources = All-weaker (IsRightBank p net) (λ (b : Bank). width_of (signals net) b.source ≡ Some b.width)
               (λ b r. ap (width_of (signals net)) r.fed ∙ width _ b.width r.has_source) net.banks right;
           loopless = loopless;

@@ -10,7 +10,7 @@ use Rattle.ix_net.specs.declared.netlist.Net.{Net}
 use Rattle.ix_graph.specs.declared.role.Role.{Role}
 use Rattle.ix_graph.specs.declared.role.Role.TheVariants.{Read, Compute, Write}
 use Rattle.ix_graph.specs.Roles.{role_of}
-use Rattle.ix_ports.specs.Ports.{enable_name, input_name, module_name, enable_ports, read_ports}
+use Rattle.ix_ports.specs.Ports.{input_name, module_name, enable_ports, read_ports}
 use Rattle.ix_mean.specs.GraphValues.{arg_raw, kind_value}
 use Rattle.ix_plan.specs.Service.{result_time}
 use Rattle.ix_cells.specs.declared.signal.Signal.TheVariants.{Input, Register}
@@ -22,7 +22,7 @@ use Rattle.ix_cells.specs.Operands.{wire_of}
 use Rattle.ix_netgen.specs.Uses.{uses_until}
 use Rattle.ix_net.specs.Declarations.{Has}
 use Rattle.ix_cells.specs.Growth.{Adds, Extends}
-use Rattle.ix_netgen.specs.Standing.{Timetable, Tells, IsSound, Keeps, IsHeld, Holds}
+use Rattle.ix_netgen.specs.Standing.{HasEnable, Timetable, Tells, IsSound, Keeps, IsHeld, Holds}
 
 -- the operand shows the argument at a time
 pub record IsOperand (p : Timetable) (net : Net) (t : ℕ) (a : Arg) (o : Operand) : Type 0 where
@@ -83,7 +83,7 @@ pub record IsKept (p : Timetable) (last : ℕ) (net : Net) (k : ℕ) (op : Op) (
 -- the operations before number k have their cells and banks
 pub record IsStage (p : Timetable) (last k : ℕ) (net : Net) (kept : List Kept) : Type 0 where
   pub sound : IsSound p (code (Register k 0)) net
-  pub enables : (t : ℕ) → p.shape.rd ≤ t → t < last → Has net (enable_name t) 1
+  pub enables : (t : ℕ) → p.shape.rd ≤ t → t < last → HasEnable net t
   pub reads : (j : ℕ) (op : Op) → slice_get p.graph.ops j ≡ Some op → role_of op.kind ≡ Read → Has net (input_name j) op.ty.width
   pub count : length kept ≡ k
   pub right : (j : ℕ) (op : Op) (w : Kept) → slice_get p.graph.ops j ≡ Some op → slice_get kept j ≡ Some w → IsKept p last net j op w

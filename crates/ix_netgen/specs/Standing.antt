@@ -10,7 +10,7 @@ use Rattle.ix_net.specs.Valid.{IsWidth}
 use Rattle.ix_ports.specs.declared.letter.Letter.{Letter}
 use Rattle.ix_graph.specs.declared.role.Role.TheVariants.{Read}
 use Rattle.ix_graph.specs.Roles.{role_of}
-use Rattle.ix_ports.specs.Ports.{enable_name, input_name, output_name, letters_of}
+use Rattle.ix_ports.specs.Ports.{enable_name, enable_port, input_name, output_name, letters_of}
 use Rattle.ix_mean.specs.GraphValues.{arg_raw, IsMeaning}
 use Rattle.ix_plan.specs.Service.{result_time}
 use Rattle.ix_cells.specs.declared.signal.Signal.{Signal}
@@ -44,6 +44,10 @@ pub record Tells (p : Timetable) (net : Net) (t : ℕ) (w : Wire) (f : (ℕ → 
   pub wire : IsWire net w
   pub shows : Shows p net t w.signal f
 
+-- the net has the enable of this time as an input
+abbrev pub HasEnable : Net → ℕ → Type 0
+HasEnable net t = Contains net.inputs (enable_port t)
+
 -- a bank takes the result of an operation over from one time to the next
 pub record IsRightBank (p : Timetable) (net : Net) (b : Bank) : Type 0 where
   pub op : ℕ
@@ -54,7 +58,7 @@ pub record IsRightBank (p : Timetable) (net : Net) (b : Bank) : Type 0 where
   pub named : b.target ≡ register_name op (time + 1)
   pub wide : IsWidth b.width
   pub enabled : b.enable ≡ enable_name time
-  pub has_enable : Has net (enable_name time) 1
+  pub has_enable : HasEnable net time
   pub fed : b.source ≡ name_of source
   pub has_source : Has net (name_of source) b.width
   pub stands : Shows p net time source (λ terms. terms op)
@@ -99,7 +103,7 @@ pub record Holds (k : ℕ) (w : Wire) (from last : ℕ) (old new : Net) (ws : Li
   pub same_cells : new.cells ≡ old.cells
   pub count : from + length ws ≡ last + 1
   pub held :
-      (p : Timetable) (hi : ℕ) → p.shape.rd ≤ from → k < 2 ^ 64 → last < 256 → ((t : ℕ) → from ≤ t → t < last → Has old (enable_name t) 1) →
+      (p : Timetable) (hi : ℕ) → p.shape.rd ≤ from → k < 2 ^ 64 → last < 256 → ((t : ℕ) → from ≤ t → t < last → HasEnable old t) →
       Tells p old from w (λ terms. terms k) → IsSound p hi old → hi ≤ code (Register k 0) →
       IsSound p (code (Register k last) + 1) new × ((t : ℕ) → from ≤ t → t ≤ last → IsHeld p new k from t w.width ws)
 

@@ -1,11 +1,12 @@
 -- When a net serves a behaviour (SCAIE-V, what a module of an instruction does in a pipeline; that tokens stall as told by
 -- the enables is this project's choice).
-use Rattle.std.specs.Prelude.{ℕ, ◌+◌, ◌-◌, ◌≡◌, ◌≢◌, ◌<◌, ◌≤◌, List, length, Some, slice_get, slice_index, slice_index_or}
+use Rattle.std.specs.Prelude.{ℕ, ◌+◌, ◌-◌, ◌≡◌, ◌≢◌, ◌<◌, ◌≤◌, List, length, Some, slice_get, slice_index, slice_index_or, option_map, unwrap_or}
 use Rattle.rv_core.specs.declared.Shape.{Shape}
 use Rattle.ix_graph.specs.declared.args.Arg.{Arg}
 use Rattle.ix_graph.specs.declared.graph.Op.{Op}
 use Rattle.ix_graph.specs.declared.graph.Graph.{Graph}
 use Rattle.ix_net.specs.declared.netlist.Net.{Net}
+use Rattle.ix_net.specs.Signals.{place_of}
 use Rattle.ix_net.specs.Valuation.{value_of}
 use Rattle.ix_net.specs.Run.{IsRun, cycle_at}
 use Rattle.ix_sheet.specs.Behaviours.{latency_of}
@@ -19,12 +20,16 @@ use Rattle.ix_ports.specs.Ports.{module_name, enable_name, input_name, output_na
 abbrev pub result_time : Shape → List ℕ → ℕ → Op → ℕ
 result_time shape times k op = slice_index times k + latency_of shape op.kind
 
+-- the input `en<t>` in a cycle with these values; 0 where the net has no such input, whatever it has inside
+abbrev pub enable_at : Net → List ℕ → ℕ → ℕ
+enable_at net values t = unwrap_or (option_map (λ i. slice_index values i) (place_of net.inputs (enable_name t))) 0
+
 -- the token stands at t in a cycle with these values, and at u in the next one
 pub record Moves (net : Net) (rd : ℕ) (values : List ℕ) (t u : ℕ) : Type 0 where
-  pub goes : value_of net values (enable_name t) ≡ 1 → u ≡ t + 1
-  pub stays : value_of net values (enable_name t) ≢ 1 → u ≡ t
+  pub goes : enable_at net values t ≡ 1 → u ≡ t + 1
+  pub stays : enable_at net values t ≢ 1 → u ≡ t
   -- while it stays, nothing comes behind it
-  pub alone : value_of net values (enable_name t) ≢ 1 → rd < t → value_of net values (enable_name (t - 1)) ≢ 1
+  pub alone : enable_at net values t ≢ 1 → rd < t → enable_at net values (t - 1) ≢ 1
 
 -- a token that comes in the cycle `first`, and then stands at these times in turn
 pub record IsLife (net : Net) (rd : ℕ) (cycles : List (List ℕ)) (first : ℕ) (life : List ℕ) : Type 0 where
