@@ -1,5 +1,6 @@
 pub mod Settings
 pub mod Outstanding
+pub mod Future
 pub mod LawfulTrace
 pub mod Headline
 pub mod Sight

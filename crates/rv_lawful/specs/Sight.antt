@@ -63,10 +63,11 @@ abbrev pub state_tried : Design → ℕ → Arch → Trial
 state_tried d word s = tried (view_extension d.extension) (state_at word s) s.mem (decoded_in (view_extension d.extension) word)
 
 -- a word tried with what agrees with a state comes to the step of that state, whatever the memory holds, but for rd and late and spawned writes; it accesses the memory where that step
--- does, and the always-blocks write the same
+-- does, with the same load, and the always-blocks write the same
 pub record ComesEarly (d : Design) (word : ℕ) (s : Arch) (i : State) (memory : List ℕ) : Type 0 where
   pub answer : IsEarly (asked d word) (tried (view_extension d.extension) i memory (decoded_in (view_extension d.extension) word)).answer (of_decoded (view_extension d.extension) s word (decoded_in (view_extension d.extension) word))
   pub accesses : (tried (view_extension d.extension) i memory (decoded_in (view_extension d.extension) word)).accesses ≡ does_access (view_extension d.extension) s word (decoded_in (view_extension d.extension) word)
+  pub load : (tried (view_extension d.extension) i memory (decoded_in (view_extension d.extension) word)).load ≡ (state_tried d word s).load
   pub blocks : (tried (view_extension d.extension) i memory (decoded_in (view_extension d.extension) word)).blocks ≡ (state_tried d word s).blocks
 
 abbrev pub EarlyLaw : Design → Type 0

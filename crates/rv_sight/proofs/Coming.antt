@@ -25,7 +25,7 @@ use Rattle.rv_seq.specs.Runs.{stored_at, access_in}
 use Rattle.rv_seq.specs.Steps.{own_effect, whole_effect, unless_stopped, attempted, of_decoded}
 use Rattle.rv_seq.specs.Stops.{call_stop, load_stop, store_stop, target_stop, stop_of}
 use Rattle.rv_seq.specs.States.{state_at}
-use Rattle.rv_tried.specs.Tried.{effect_seen, whole_seen, tried_instruction, tried, blocks_seen, unless_stopping, marked}
+use Rattle.rv_tried.specs.Tried.{effect_seen, whole_seen, tried_instruction, tried, blocks_seen, unless_stopping, load_unless, marked}
 use Rattle.rv_lawful.specs.Settings.{does_access}
 use Rattle.rv_lawful.specs.Outstanding.{is_register}
 use Rattle.rv_lawful.specs.Sight.{IsEarlyCommit, IsEarly, IsKept}
@@ -105,6 +105,13 @@ same_access x i memory s code d e l t =
     ∙ ap (λ (z : Option Access). is_none (stop_of d (own_effect x s code d)) && is_some (option_or z (option_map stored_at (effect_seen x i memory d).store))) l
     ∙ ap (λ (z : Option (Access × ℕ)). is_none (stop_of d (own_effect x s code d)) && is_some (option_or (own_effect x s code d).load (option_map stored_at z))) t
 
+-- and it has the same load
+pub same_load : (x : ExtensionTree) (i : State) (memory : List ℕ) (s : Arch) (code : ℕ) (d : Decoded) → stop_of d (effect_seen x i memory d) ≡ stop_of d (own_effect x s code d)
+    → (effect_seen x i memory d).load ≡ (own_effect x s code d).load → (tried x i memory (Some d)).load ≡ (tried x (state_at code s) s.mem (Some d)).load
+unfolding tried tried_instruction
+same_load x i memory s code d e l =
+    ap (λ (z : Option Stop). load_unless z (effect_seen x i memory d).load) e ∙ ap (load_unless (stop_of d (own_effect x s code d))) l
+
 -- what the always-blocks write, and which registers the instruction itself does
 pub same_blocks : (x : ExtensionTree) (i : State) (memory : List ℕ) (s : Arch) (code : ℕ) (d : Decoded) → stop_of d (effect_seen x i memory d) ≡ stop_of d (own_effect x s code d)
     → (blocks_seen x i memory).custom ≡ (blocks_seen x (state_at code s) s.mem).custom → (tried x i memory (Some d)).blocks ≡ (tried x (state_at code s) s.mem (Some d)).blocks
@@ -116,6 +123,10 @@ pub same_own : (x : ExtensionTree) (i : State) (memory : List ℕ) (s : Arch) (c
     → (tried x i memory (Some d)).own ≡ (tried x (state_at code s) s.mem (Some d)).own
 unfolding tried tried_instruction
 same_own x i memory s code d e = ap (λ (z : Effect). marked (unless_stopping (stop_of d z) z.custom)) e
+
+pub none_load : (x : ExtensionTree) (i : State) (memory : List ℕ) (s : Arch) (code : ℕ) → (tried x i memory None).load ≡ (tried x (state_at code s) s.mem None).load
+unfolding tried
+none_load x i memory s code = refl
 
 pub none_blocks : (x : ExtensionTree) (i : State) (memory : List ℕ) (s : Arch) (code : ℕ) → (tried x i memory None).blocks ≡ (tried x (state_at code s) s.mem None).blocks
 unfolding tried

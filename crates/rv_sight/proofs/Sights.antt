@@ -31,7 +31,7 @@ use Rattle.rv_lawful.specs.Settings.{does_access}
 use Rattle.rv_lawful.specs.Sight.{IsSeen, HasWords, AreWords, IsEarlyCommit, IsEarly, EarlyLaw, ExactLaw, KeepsLaw, TailLaw}
 use Rattle.rv_sight.proofs.Asking.{asks_of, own_asks, base_asks_are, none_asks}
 use Rattle.rv_sight.specs.Written.{WrittenLaw}
-use Rattle.rv_sight.proofs.Coming.{over_same, exact_answer, early_commit, early_answer, same_access, same_blocks, same_own, none_blocks, none_writes, own_stop, base_stop, IsHeld, held_by, IsEarlyEffect}
+use Rattle.rv_sight.proofs.Coming.{over_same, exact_answer, early_commit, early_answer, same_access, same_load, same_blocks, same_own, none_load, none_blocks, none_writes, own_stop, base_stop, IsHeld, held_by, IsEarlyEffect}
 use Rattle.rv_sight.proofs.Plans.{plan_of, own_within, base_decoded}
 use Rattle.rv_sight.proofs.Seeing.{Laws, own_is, base_is, none_tried, own_blocks, base_blocks, keeps_own, keeps_base, all_blocks, exact_own, early_own, exact_base, early_base}
 use Rattle.rv_seq.specs.declared.answer.StepAnswer.{StepAnswer}
@@ -91,12 +91,13 @@ module _ (laws : Laws) (d : Design) (stands : Stands d) where
     pub record Early (o : Option Decoded) (a : Asks) : Type 0 where
       pub answer : IsEarly a (tried x i memory o).answer (of_decoded x s code o)
       pub accesses : (tried x i memory o).accesses ≡ does_access x s code o
+      pub load : (tried x i memory o).load ≡ (tried x (state_at code s) s.mem o).load
       pub blocks : (tried x i memory o).blocks ≡ (tried x (state_at code s) s.mem o).blocks
 
     early_of : (o : Option Decoded) → decoded_in x code ≡ o → IsSeen (asks_in d code o) code s i → Early o (asks_in d code o)
     early_of None is seen =
         let r = none_tried x i memory s code in
-        record { answer = subst (λ (z : StepAnswer). IsEarly (asks_in d code None) z (of_decoded x s code None)) (sym r.0) refl; accesses = r.1; blocks = none_blocks x i memory s code }
+        record { answer = subst (λ (z : StepAnswer). IsEarly (asks_in d code None) z (of_decoded x s code None)) (sym r.0) refl; accesses = r.1; load = none_load x i memory s code; blocks = none_blocks x i memory s code }
     early_of (Some (D.Own n)) is seen =
         let l = own_within x code n is in
         let p = plan_of d stands n l in
@@ -117,6 +118,7 @@ module _ (laws : Laws) (d : Design) (stands : Stands d) where
         record {
           answer = early_answer a x i memory s code (D.Own n) saw.word saw.pc stops commits;
           accesses = same_access x i memory s code (D.Own n) stops effects.load effects.store;
+          load = same_load x i memory s code (D.Own n) stops effects.load;
           blocks = same_blocks x i memory s code (D.Own n) stops blocks.custom;
         } in
         subst (λ (z : Asks). Early (Some (D.Own n)) z) (sym e) done
@@ -138,6 +140,7 @@ module _ (laws : Laws) (d : Design) (stands : Stands d) where
         record {
           answer = early_answer a x i memory s code (D.Base b) saw.word saw.pc stops commits;
           accesses = same_access x i memory s code (D.Base b) stops effects.load effects.store;
+          load = same_load x i memory s code (D.Base b) stops effects.load;
           blocks = same_blocks x i memory s code (D.Base b) stops blocks.custom;
         } in
         subst (λ (z : Asks). Early (Some (D.Base b)) z) (sym e) done
@@ -182,7 +185,7 @@ module _ (laws : Laws) (d : Design) (stands : Stands d) where
   pub early_law : EarlyLaw d
   early_law code s i memory ws wi hw aw seen =
       let r = early_of code s i memory ws wi hw aw (decoded_in x code) refl seen in
-      record { answer = r.answer; accesses = r.accesses; blocks = r.blocks }
+      record { answer = r.answer; accesses = r.accesses; load = r.load; blocks = r.blocks }
 
   pub keeps_law : KeepsLaw d
   keeps_law code s c ws hw word pc e = (held_of code s c ws hw word pc (decoded_in x code) refl e).kept

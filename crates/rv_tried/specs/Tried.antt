@@ -5,6 +5,7 @@ use Rattle.ix_bits.specs.declared.number.Bits.{Bits}
 use Rattle.ix_extension.specs.Extensions.{ExtensionTree}
 use Rattle.ix_mean.specs.declared.evaluate.State.{State}
 use Rattle.ix_mean.specs.Given.{inputs_of}
+use Rattle.ix_eval.specs.declared.access.Access.{Access}
 use Rattle.ix_eval.specs.declared.effect.Effect.{Effect}
 use Rattle.rv_effect.specs.declared.decoded.Decoded.{Decoded}
 use Rattle.rv_effect.specs.Memory.{peeked}
@@ -43,19 +44,25 @@ abbrev pub unless_stopping : Option Stop → List (Option Bits) → List (Option
 unless_stopping None customs = customs
 unless_stopping (Some stop) customs = no_customs
 
+-- this load, where the instruction does not stop
+abbrev pub load_unless : Option Stop → Option Access → Option Access
+load_unless None load = load
+load_unless (Some stop) load = None
+
 -- what an instruction comes to
 unfoldable pub tried_instruction : ExtensionTree → State → List ℕ → Decoded → Trial
 tried_instruction x s memory d =
     record {
       answer = unless_stopped (stop_of d (effect_seen x s memory d)) (Done (commit_of s.pc s.word (whole_seen x s memory d)));
       accesses = is_none (stop_of d (effect_seen x s memory d)) && is_some (access_in (effect_seen x s memory d));
+      load = load_unless (stop_of d (effect_seen x s memory d)) (effect_seen x s memory d).load;
       blocks = unless_stopping (stop_of d (effect_seen x s memory d)) (blocks_seen x s memory).custom;
       own = marked (unless_stopping (stop_of d (effect_seen x s memory d)) (effect_seen x s memory d).custom);
     }
 
 -- what a word that is no instruction comes to
 abbrev pub no_trial : Trial
-no_trial = record { answer = Stopped Illegal; accesses = false; blocks = no_customs; own = marked no_customs }
+no_trial = record { answer = Stopped Illegal; accesses = false; load = None; blocks = no_customs; own = marked no_customs }
 
 -- what a word comes to; one that is no instruction stops
 unfoldable pub tried : ExtensionTree → State → List ℕ → Option Decoded → Trial

@@ -1,4 +1,4 @@
-ghost use Rattle.std.specs.Prelude.{◌≡◌, IfSome, is_some, false};
+ghost use Rattle.std.specs.Prelude.{◌≡◌, IfSome, is_some, None, false};
 ghost use Rattle.ix_mean.specs.Given.{inputs_of};
 ghost use Rattle.ix_extension.specs.Extensions.{view_extension};
 ghost use Rattle.ix_extension.specs.WellFormed.{IsWellFormed};
@@ -13,7 +13,7 @@ ghost use Rattle.rv_tried.specs.Whole.{AreBlocksWide};
 
 use crate::laws::trial_laws;
 use ix_bits::Bits;
-use ix_eval::{Effect, Inputs, Scratch};
+use ix_eval::{Access, Effect, Inputs, Scratch};
 use ix_tree::Extension;
 use rv_effect::{Decoded, blocks_effect, effect_of, over};
 use rv_memory::RandomAccess;
@@ -26,6 +26,8 @@ pub struct Trial {
     pub answer: StepAnswer,
     /// Does it load or store, the condition true? Nothing that stops does.
     pub accesses: bool,
+    /// The access of its load, the condition true; None where it does not load, or the run stops.
+    pub load: Option<Access>,
     /// What the always-blocks alone write to the custom registers; nothing where the run stops.
     pub blocks: [Option<Bits>; 16],
     /// The custom registers that the instruction itself writes, the condition true; none where the run stops.
@@ -54,12 +56,14 @@ fn marked(customs: &[Option<Bits>; 16]) -> [bool; 16]
 fn stopped(stop: Stop) -> Trial
     ensures answer { result.answer ≡ Stopped stop }
     ensures accesses { result.accesses ≡ false }
+    ensures load { result.load ≡ None }
     ensures blocks { result.blocks ≡ no_customs }
     ensures own { result.own ≡ specified_marked no_customs }
 {
     Trial {
         answer: StepAnswer::Stopped(stop),
         accesses: false,
+        load: None,
         blocks: [None; 16],
         own: [false; 16],
     }
@@ -90,6 +94,7 @@ fn try_instruction(
             Trial {
                 answer: StepAnswer::Done(commit_of(inputs.pc, inputs.word, &over(&own, &blocks))),
                 accesses: has_access(&own),
+                load: own.load,
                 blocks: blocks.custom,
                 own: marked(&own.custom),
             }

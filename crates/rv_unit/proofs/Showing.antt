@@ -1,6 +1,6 @@
 -- The entries show the slots of the units.
 use Rattle.std.proofs.Common.{◌≡◌, ℕ, zero, suc, ◌+◌, ◌<◌, ◌≤◌, List, [], ◌∷◌, ◌++◌, length, take, Option, Some, None, Bool, true, false, refl, sym, ap, ◌∙◌, subst, arith, All}
-use Rattle.std.specs.Prelude.{◌&&◌, not, if◌then◌else◌, ◌==◌, ◌-◌, slice_get}
+use Rattle.std.specs.Prelude.{◌&&◌, ◌||◌, not, if◌then◌else◌, ◌==◌, ◌-◌, slice_get}
 use Rattle.std.proofs.lemmas.Bool.Decides.{nat_tests}
 use Rattle.ix_plan.specs.Units.{Slots, finished, with_unit, written_from, unit_written, has_some, is_of, frozen_with, serial_for, moved_on, next_from, next_units}
 use Rattle.rv_unit.specs.declared.entry.Entry.{Entry}
@@ -287,3 +287,19 @@ pub idle_next : (stages : ℕ) (lasts : List ℕ) (es : List Entry) (enter : Opt
 idle_next stages lasts es enter units t c q r =
     next_law stages lasts es enter units t c ∙ ap (λ o. units_of stages lasts (next_entries stages lasts o es)) r
     ∙ ap (λ l. units_of stages lasts (stepped lasts l l)) q ∙ ap (λ l. units_of stages lasts l) (sym q)
+
+-- ---- past the last unit
+
+other_unit : (a b : ℕ) → a < b → (a == b) ≡ false
+other_unit a b h = grind (arith, nat_tests)
+
+past_units : (stages : ℕ) (lasts : List ℕ) (entries : List Entry) (u : ℕ) → IsTimed stages lasts entries → length lasts ≤ u → has_finished lasts u entries ≡ false
+past_units stages lasts [] u h le = refl
+past_units stages lasts (e ∷ rest) u h le = (let below = h.0.below in rw (other_unit e.unit u (omega (arith, below, le)), past_units stages lasts rest u h.2 le) (by_case (e.time == last_time lasts e.unit))) where
+  by_case : (b : Bool) → ((b && false) || false) ≡ false
+  by_case true = refl
+  by_case false = refl
+
+-- no unit past the last one is frozen
+pub none_frozen : (stages : ℕ) (lasts : List ℕ) (entries : List Entry) (u : ℕ) → IsTimed stages lasts entries → length lasts ≤ u → is_frozen lasts entries u ≡ false
+none_frozen stages lasts entries u h le = rw (past_units stages lasts entries u h le) refl

@@ -99,6 +99,13 @@ impl Units {
         written
     }
 
+    /// How many units there are.
+    pub fn count(&self) -> usize
+        ensures { result ≡ length self.now.lasts }
+    {
+        self.lasts.len()
+    }
+
     /// What stands in the units, the newest first.
     pub fn entries(&self) -> &[Entry]
         ensures entries { result.now ≡ self.now.entries }
