@@ -1,0 +1,7 @@
+mod Differing
+mod AddingInputs
+mod WaitingInputs
+mod LoadingInputs
+mod LeapingInputs
+mod FreezingInputs
+mod SummingCycles

@@ -1,0 +1,5 @@
+pub mod Drives
+pub mod Seats
+pub mod Inputs
+pub mod Driven
+pub mod Feeds
