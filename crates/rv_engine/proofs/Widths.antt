@@ -25,7 +25,8 @@ use Rattle.rv_asks.specs.declared.asks.Asks.{Asks}
 use Rattle.rv_holds.specs.declared.token.Token.{Token}
 use Rattle.rv_tried.specs.declared.trial.Trial.{Trial}
 use Rattle.rv_tried.specs.Whole.{AreBlocksWide}
-use Rattle.rv_engine.specs.Rows.{is_pending, early_write, late_write, with_writes, early_after, late_after, trial_early, trial_late, file_early, file_late, file_paid, owed_in, owed_tried, into_unit, entering_of}
+use Rattle.rv_engine.specs.Rows.{trial_early, trial_late, file_early, file_late, file_paid, owed_in, owed_tried, into_unit, entering_of}
+use Rattle.rv_lawful.specs.Future.{is_pending, early_write, late_write, with_writes, early_after, late_after}
 use Rattle.rv_engine.specs.Kept.{IsSoundTrial, IsFittingSlot, IsWideOwed, AreWideOwed}
 
 table_get : {A : Type 0} (P : ℕ → A → Type 0) (f : ℕ → A) (n : ℕ) → ((r : ℕ) → r < n → P r (f r)) → (r : ℕ) → IfSome (slice_get (table f n) r) (P r)

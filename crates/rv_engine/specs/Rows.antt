@@ -29,6 +29,7 @@ use Rattle.rv_tried.specs.declared.trial.Trial.{Trial}
 use Rattle.rv_tried.specs.Tried.{tried}
 use Rattle.rv_tried.specs.Parts.{shown, native, spawned, paid}
 use Rattle.rv_lawful.specs.Outstanding.{Written}
+use Rattle.rv_lawful.specs.Future.{early_after, late_after, spawned_after}
 use Rattle.rv_holds.specs.declared.token.Beside.{Beside}
 use Rattle.rv_holds.specs.declared.token.Token.{Token}
 use Rattle.rv_holds.specs.declared.flushing.Turn.{Turn}
@@ -232,32 +233,6 @@ written_of (Some o) = Some (o.serial, o.writes.rd_index, o.writes.rd, o.writes.c
 
 -- The future file
 
--- the instruction's own write of this register comes later than EX: by its time, or by `spawn`
-abbrev pub is_pending : Asks → ℕ → Bool
-is_pending a r = get_or a.late_customs r false || get_or a.spawned_customs r false
-
--- what a record writes to a custom register as its token leaves EX, where the blocks write these: the blocks alone where its own write is still to come
-abbrev pub early_write : Asks → List (Option Bits) → Commit → ℕ → Slot Bits
-early_write a blocks c r = if is_pending a r then slot_of (get_or blocks r None) else get_or c.custom r Absent
-
--- what it writes late, where the instruction itself writes these
-abbrev pub late_write : Asks → List Bool → Commit → ℕ → Slot Bits
-late_write a own c r = if get_or a.late_customs r false && get_or own r false then get_or c.custom r Absent else Absent
-
--- the custom registers after these writes
-abbrev pub with_writes : (ℕ → Slot Bits) → List Bits → List Bits
-with_writes f file = table (λ r. with_slot (get_or file r zero_bit) (f r)) 16
-
--- after what a step writes as its token leaves EX; a stop writes nothing
-abbrev pub early_after : Asks → List (Option Bits) → StepAnswer → List Bits → List Bits
-early_after a blocks (Done c) file = with_writes (early_write a blocks c) file
-early_after a blocks (Stopped stop) file = file
-
--- after what it writes late
-abbrev pub late_after : Asks → List Bool → StepAnswer → List Bits → List Bits
-late_after a own (Done c) file = with_writes (late_write a own c) file
-late_after a own (Stopped stop) file = file
-
 -- the same of a trial, where there is one
 abbrev pub trial_early : Asks → Option Trial → List Bits → List Bits
 trial_early a None file = file
@@ -275,7 +250,7 @@ file_early (Some t) file = trial_early t.asks t.trial file
 -- and after a unit writes
 abbrev pub file_paid : Option Owed → List Bits → List Bits
 file_paid None file = file
-file_paid (Some o) file = with_writes (λ r. get_or o.writes.custom r Absent) file
+file_paid (Some o) file = spawned_after o.writes file
 
 -- and after one goes out of the last stage
 abbrev pub file_late : Option Token → List Bits → List Bits

@@ -10,6 +10,7 @@ ghost use Rattle.rv_holds.specs.Tokens.{or_else};
 ghost use Rattle.rv_holds.specs.Flushing.{remains as specified_remains, fetch_after};
 ghost use Rattle.rv_engine.specs.Settings.{setting};
 ghost use Rattle.rv_engine.specs.Rows.{unless, next_after, new_by, loaded_by, going, leaving, first_slot, native_of, file_early, file_late, file_paid, is_owing, arch_retired, arch_paid, IsRowOf, machine_after};
+ghost use Rattle.rv_engine.specs.Showing.{shown_of};
 ghost use Rattle.rv_engine.specs.Kept.{machine_with, machine_of, AreFitting, AreWideOwed, IsLastOpen, IsFit, AreStoredInside};
 ghost use Rattle.rv_engine.specs.Owing.{IsOwingOf};
 
@@ -19,13 +20,15 @@ use crate::moving::{accesses_then, advance, last, put_early, put_late, retired_i
 use crate::owing::{Owed, Owing};
 use crate::paying::{entering_in, pay_all, retire, written_of};
 use crate::reading::{owed_in, read};
+use crate::showing::show;
 use crate::trying::{load, try_executing};
 use ix_bits::Bits;
 use ix_eval::Scratch;
 use ix_plan::Design;
 use rv_asks::Asking;
 use rv_core::Shape;
-use rv_holds::{Token, decide, fetch_following, flush, remains, stop_in};
+use rv_holds::{Token, decide, fetch_following, flush, remains, stop_in, turn_in};
+use rv_ports::Shown;
 use rv_seq::{Arch, Stop, word_at};
 use rv_trace::Row;
 use rv_waits::Waits;
@@ -128,7 +131,7 @@ fn prepare(
     next
 }
 
-/// One row of the slots of the stages, and what is kept after it.
+/// One row of the slots of the stages, what it shows the modules, and what is kept after it.
 fn row_of(
     design: &Design,
     asking: &Asking,
@@ -140,7 +143,7 @@ fn row_of(
     owing: &mut Owing,
     slots: &mut [Option<Token>],
     scratch: &mut Scratch,
-) -> Row
+) -> (Row, Shown)
     requires well_formed { IsWellFormed design.now.extension }
     requires asking { IsAskingOf design.now asking.now }
     requires scratch { IsScratchOf (view_extension design.now.extension) scratch.old }
@@ -153,7 +156,8 @@ fn row_of(
     requires accesses { front.old.accesses + 1 < 2 ^ 32 }
     requires stood { front.old.stood + 1 < 2 ^ 32 }
     ensures scratch { IsScratchOf (view_extension design.now.extension) scratch.new }
-    ensures row { IsRowOf (setting design.now image.now waits.now) (machine_with front.old future.old arch.old owing.old slots.old) result }
+    ensures row { IsRowOf (setting design.now image.now waits.now) (machine_with front.old future.old arch.old owing.old slots.old) result.0 }
+    ensures shown { result.1 ≡ shown_of (setting design.now image.now waits.now) (machine_with front.old future.old arch.old owing.old slots.old) }
     ensures after { machine_with front.new future.new arch.new owing.new slots.new ≡ machine_after (setting design.now image.now waits.now) (machine_with front.old future.old arch.old owing.old slots.old) }
     ensures future { AreWide (view_extension design.now.extension) future.new }
     ensures fitting { AreFitting design.now slots.new }
@@ -164,11 +168,13 @@ fn row_of(
     let next = prepare(
         design, asking, image, waits, *front, future, arch, owing, slots, scratch,
     );
-    let shown = flush(shape, front.fetch, slots);
-    let cells = shown.cells;
-    let flushed = shown.flushed;
+    let turn = turn_in(shape, front.fetch, slots);
+    let shown = show(shape, arch, future, owing, turn, slots);
+    let left = flush(turn, slots);
+    let cells = left.cells;
+    let flushed = left.flushed;
     let stopped = stop_in(shape, slots);
-    let fetch = next_fetch(shown.redirect, front.fetch, slots);
+    let fetch = next_fetch(left.redirect, front.fetch, slots);
     let memory = usize::from(shape.mem);
     let accesses = accesses_then(front.accesses, &slots[memory]);
     let stood = stood_then(front.stood, &slots[memory]);
@@ -184,15 +190,16 @@ fn row_of(
         accesses,
         stood,
     };
-    Row {
+    let row = Row {
         cells,
         retired,
         written: written_of(&paying),
         flushed,
-        redirect: shown.redirect,
+        redirect: left.redirect,
         taken: None,
         stop,
-    }
+    };
+    (row, shown)
 }
 
 /// The same of the slots that are kept, of which the core has the first ones as stages.
@@ -207,7 +214,7 @@ fn row_in(
     owing: &mut Owing,
     slots: &mut [Option<Token>; 5],
     scratch: &mut Scratch,
-) -> Row
+) -> (Row, Shown)
     requires well_formed { IsWellFormed design.now.extension }
     requires asking { IsAskingOf design.now asking.now }
     requires scratch { IsScratchOf (view_extension design.now.extension) scratch.old }
@@ -219,7 +226,8 @@ fn row_in(
     requires accesses { front.old.accesses + 1 < 2 ^ 32 }
     requires stood { front.old.stood + 1 < 2 ^ 32 }
     ensures scratch { IsScratchOf (view_extension design.now.extension) scratch.new }
-    ensures row { IsRowOf (setting design.now image.now waits.now) (machine_with front.old future.old arch.old owing.old (take design.now.sheet.shape.stages slots.old)) result }
+    ensures row { IsRowOf (setting design.now image.now waits.now) (machine_with front.old future.old arch.old owing.old (take design.now.sheet.shape.stages slots.old)) result.0 }
+    ensures shown { result.1 ≡ shown_of (setting design.now image.now waits.now) (machine_with front.old future.old arch.old owing.old (take design.now.sheet.shape.stages slots.old)) }
     ensures after { machine_with front.new future.new arch.new owing.new (take design.now.sheet.shape.stages slots.new) ≡ machine_after (setting design.now image.now waits.now) (machine_with front.old future.old arch.old owing.old (take design.now.sheet.shape.stages slots.old)) }
     ensures future { AreWide (view_extension design.now.extension) future.new }
     ensures fitting { AreFitting design.now (take design.now.sheet.shape.stages slots.new) }
@@ -241,7 +249,7 @@ fn row_in(
     )
 }
 
-/// One row of a pipeline of a design, over an image and a memory with these waits, and what it keeps after the row. The asking and the
+/// One row of a pipeline of a design, over an image and a memory with these waits, with what it shows the modules, and what it keeps after the row. The asking and the
 /// scratch are of this design. It takes no memory.
 pub fn make_row(
     design: &Design,
@@ -250,7 +258,7 @@ pub fn make_row(
     waits: &Waits,
     kept: &mut Kept,
     scratch: &mut Scratch,
-) -> Row
+) -> (Row, Shown)
     requires well_formed { IsWellFormed design.now.extension }
     requires asking { IsAskingOf design.now asking.now }
     requires scratch { IsScratchOf (view_extension design.now.extension) scratch.old }
@@ -259,7 +267,8 @@ pub fn make_row(
     requires serial { kept.old.front.next + 1 < 2 ^ 32 }
     requires accesses { kept.old.front.accesses + 1 < 2 ^ 32 }
     requires stood { kept.old.front.stood + 1 < 2 ^ 32 }
-    ensures row { IsRowOf (setting design.now image.now waits.now) (machine_of design.now.sheet.shape kept.old) result }
+    ensures row { IsRowOf (setting design.now image.now waits.now) (machine_of design.now.sheet.shape kept.old) result.0 }
+    ensures shown { result.1 ≡ shown_of (setting design.now image.now waits.now) (machine_of design.now.sheet.shape kept.old) }
     ensures after { machine_of design.now.sheet.shape kept.new ≡ machine_after (setting design.now image.now waits.now) (machine_of design.now.sheet.shape kept.old) }
     ensures fit { IsFit (setting design.now image.now waits.now) (machine_of design.now.sheet.shape kept.new) }
     ensures owing { IsOwingOf design.now kept.new.owing }

@@ -9,6 +9,7 @@ mod moving;
 mod owing;
 mod paying;
 mod reading;
+mod showing;
 mod trying;
 
 pub use engine::make_row;

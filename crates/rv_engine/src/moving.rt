@@ -3,7 +3,8 @@ ghost use Rattle.std.specs.Option.{option_map_or};
 ghost use Rattle.rv_seq.specs.declared.commit.Slot.TheVariants.{Absent};
 ghost use Rattle.rv_seq.specs.Commits.{slot_of as specified_slot_of, with_slot};
 ghost use Rattle.rv_holds.specs.Tokens.{commit_of as specified_commit_of};
-ghost use Rattle.rv_engine.specs.Rows.{tail_after as specified_tail_after, waited, going, kept, advanced, leaving, with_serial, retired_of, early_write, late_write, with_writes, trial_early, trial_late, file_early, file_late, accesses_after, stood_after};
+ghost use Rattle.rv_engine.specs.Rows.{tail_after as specified_tail_after, waited, going, kept, advanced, leaving, with_serial, retired_of, trial_early, trial_late, file_early, file_late, accesses_after, stood_after};
+ghost use Rattle.rv_lawful.specs.Future.{early_write, late_write, with_writes};
 
 use ix_bits::Bits;
 use rv_asks::Asks;

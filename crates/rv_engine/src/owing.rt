@@ -1,5 +1,6 @@
 ghost use Rattle.std.specs.Prelude.{◌≡◌, ◌<◌, ◌≤◌, [], ◌++◌, length, IfOk, IfSome, vec_capacity};
 ghost use Rattle.rv_unit.specs.Numbering.{lasts_of, is_decoupled as specified_is_decoupled};
+ghost use Rattle.rv_unit.specs.Entries.{is_frozen as specified_is_frozen};
 ghost use Rattle.rv_unit.specs.Timed.{AreUnits, CanEnter, room};
 ghost use Rattle.rv_engine.specs.Owing.{outstanding_of, paying, unpaid, oldest_serial, unit_hold as specified_unit_hold, unit_entered, owed_by_entering, outstanding_after};
 ghost use Rattle.rv_engine.specs.Places.{oldest_place, IsPayingPlace, without_place};
@@ -188,6 +189,13 @@ impl Owing {
             Some(unit) if self.units.frozen(unit) => Some(Hold::UnitFull(unit)),
             _ => None,
         }
+    }
+
+    /// Whether the unit with this number, if there is one, is frozen.
+    pub fn is_frozen(&self, unit: u8) -> bool
+        ensures { result ≡ specified_is_frozen self.now.lasts self.now.entries unit }
+    {
+        usize::from(unit) < self.units.count() && self.units.frozen(unit)
     }
 
     /// What is owed, the newest first.

@@ -4,7 +4,8 @@ ghost use Rattle.rv_seq.specs.Commits.{with_x, with_slot, with_customs, applied}
 ghost use Rattle.rv_tried.specs.Parts.{paid};
 ghost use Rattle.rv_holds.specs.Holds.{least_from};
 ghost use Rattle.rv_engine.specs.Owing.{holder, holder_for, board_of as specified_board_of, paying, port_serial as specified_port_serial, port_hold as specified_port_hold, retiring_hold as specified_retiring_hold};
-ghost use Rattle.rv_engine.specs.Rows.{going, native_of, entering_of, into_unit, owed_tried, written_of as specified_written_of, with_writes, file_paid, arch_retired, arch_paid};
+ghost use Rattle.rv_engine.specs.Rows.{going, native_of, entering_of, into_unit, owed_tried, written_of as specified_written_of, file_paid, arch_retired, arch_paid};
+ghost use Rattle.rv_lawful.specs.Future.{with_writes};
 ghost use Rattle.rv_engine.specs.Kept.{AreStoredInside};
 
 use crate::owing::{Owed, Owing};

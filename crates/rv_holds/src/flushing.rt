@@ -18,7 +18,7 @@ pub struct Turn {
 
 /// What a row shows of the flush: its cells, the flushed serials, the oldest first, and the address that is named.
 #[derive(Clone, Copy)]
-pub struct Shown {
+pub struct Flushed {
     pub cells: [Option<Cell>; 5],
     pub flushed: [Option<u32>; 5],
     pub redirect: Option<u32>,
@@ -114,7 +114,7 @@ fn nearest_address(fetch: u32, younger: &[Option<Token>]) -> u32
 }
 
 /// The token that turns the fetch: the one that settles another address than the one that stands next.
-fn turn_in(shape: Shape, fetch: u32, slots: &[Option<Token>]) -> Option<Turn>
+pub fn turn_in(shape: Shape, fetch: u32, slots: &[Option<Token>]) -> Option<Turn>
     ensures turn { result ≡ turn_of shape fetch slots.now }
     ensures inside { IfSome result (λ turn. turn.stage < length slots.now) }
 {
@@ -139,11 +139,9 @@ fn redirect_of(turn: Option<Turn>) -> Option<u32>
     }
 }
 
-/// How many of so many stages are flushed, from stage 0 on.
-fn struck(stages: usize, turn: Option<Turn>) -> usize
-    requires { IfSome turn (λ turn. turn.stage < stages) }
-    ensures struck { result ≡ specified_struck turn }
-    ensures inside { result ≤ stages }
+/// How many stages are flushed, from stage 0 on.
+pub fn struck(turn: Option<Turn>) -> usize
+    ensures { result ≡ specified_struck turn }
 {
     match turn {
         None => 0,
@@ -192,22 +190,22 @@ fn empty(slots: &mut [Option<Token>])
 }
 
 /// Flushes the tokens below the one that turns the fetch, where one does, and tells what is shown. There are at most five slots.
-pub fn flush(shape: Shape, fetch: u32, slots: &mut [Option<Token>]) -> Shown
+pub fn flush(turn: Option<Turn>, slots: &mut [Option<Token>]) -> Flushed
     requires few { length slots.old ≤ 5 }
-    ensures redirect { result.redirect ≡ specified_redirect_of (turn_of shape fetch slots.old) }
-    ensures slots { slots.new ≡ cleared (specified_struck (turn_of shape fetch slots.old)) slots.old }
-    ensures cells { take (length slots.old) result.cells ≡ cells_of (unheld (specified_struck (turn_of shape fetch slots.old)) slots.old) }
+    requires inside { IfSome turn (λ turn. turn.stage < length slots.old) }
+    ensures redirect { result.redirect ≡ specified_redirect_of turn }
+    ensures slots { slots.new ≡ cleared (specified_struck turn) slots.old }
+    ensures cells { take (length slots.old) result.cells ≡ cells_of (unheld (specified_struck turn) slots.old) }
     ensures behind { drop (length slots.old) result.cells ≡ drop (length slots.old) (replicate 5 None) }
-    ensures flushed { result.flushed ≡ flushed_of (take (specified_struck (turn_of shape fetch slots.old)) slots.old) }
+    ensures flushed { result.flushed ≡ flushed_of (take (specified_struck turn) slots.old) }
 {
-    let turn = turn_in(shape, fetch, slots);
     let redirect = redirect_of(turn);
-    let count = struck(slots.len(), turn);
+    let count = struck(turn);
     let flushed = serials_in(&slots[..count]);
     free(&mut slots[..count]);
     let cells = cells_in(slots);
     empty(&mut slots[..count]);
-    Shown {
+    Flushed {
         cells,
         flushed,
         redirect,

@@ -7,6 +7,6 @@ mod flushing;
 mod token;
 
 pub use board::{does_spawn, does_touch};
-pub use deciding::{decide, is_last, waiting_hold};
-pub use flushing::{Shown, Turn, fetch_following, flush, remains, stop_in};
+pub use deciding::{decide, does_stop, is_last, waiting_hold};
+pub use flushing::{Flushed, Turn, fetch_following, flush, remains, stop_in, struck, turn_in};
 pub use token::{Beside, Token, access_of, commit_of, stop_of};

@@ -95,7 +95,7 @@ decided_expected k r stage (None ∷ older) = decided_expected k r (suc stage) o
 decided_expected k r stage (Some t ∷ older) = rw (decided_count (shape_of k) (suc stage) older)
 
 held_tried : (k : Setting) (p : ℕ) (h : Option Hold) (t : Token) (trial : Trial) → IsTried k p t trial → IsTried k p (held h t) trial
-held_tried k p h t trial i = record { tried = i.tried; early = i.early; accesses = i.accesses; blocks = i.blocks }
+held_tried k p h t trial i = record { tried = i.tried; early = i.early; accesses = i.accesses; load = i.load; blocks = i.blocks }
 
 -- a token with a hold stands where it stood, before older ones of which the same write late
 pub held_placed : (k : Setting) (p address stage : ℕ) (older later : Slots) (h : Option Hold) (t : Token) → oldest is_late later ≡ oldest is_late older → ((r : ℕ) → oldest (writes_late r) later ≡ oldest (writes_late r) older) → IsPlaced k p address stage older t → IsPlaced k p address stage later (held h t)

@@ -25,7 +25,8 @@ use Rattle.rv_holds.specs.Tokens.{Slots}
 use Rattle.rv_engine.specs.declared.owing.Owed.{Owed}
 use Rattle.rv_engine.specs.Owing.{holder, paying_among, unpaid_among, owed_by_entering}
 use Rattle.rv_engine.specs.Settings.{Setting, Machine, shape_of, tree_of}
-use Rattle.rv_engine.specs.Rows.{left_by, paid_by, entering_of, into_unit, file_early, file_late, file_paid, with_writes, machine_after, is_pending, IsRowOf}
+use Rattle.rv_engine.specs.Rows.{left_by, paid_by, entering_of, into_unit, file_early, file_late, file_paid, machine_after, IsRowOf}
+use Rattle.rv_lawful.specs.Future.{with_writes, is_pending}
 use Rattle.rv_lawful.specs.Outstanding.{Decoupled, touches, outstanding}
 use Rattle.rv_lawful.specs.Sight.{asked}
 use Rattle.rv_machine.specs.Owing.{judged, paid_owed, Owing}

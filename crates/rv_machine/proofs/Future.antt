@@ -22,7 +22,8 @@ use Rattle.rv_holds.specs.declared.token.Token.{Token}
 use Rattle.rv_holds.specs.Tokens.{Slots, or_else, stop_in}
 use Rattle.rv_holds.specs.Holds.{oldest}
 use Rattle.rv_engine.specs.Settings.{Setting, shape_of, tree_of}
-use Rattle.rv_engine.specs.Rows.{waited, going, kept, advanced, leaving, first_slot, is_pending, early_write, late_write, with_writes, early_after, late_after, trial_early, trial_late, file_early, file_late}
+use Rattle.rv_engine.specs.Rows.{waited, going, kept, advanced, leaving, first_slot, trial_early, trial_late, file_early, file_late}
+use Rattle.rv_lawful.specs.Future.{is_pending, early_write, late_write, with_writes, early_after, late_after}
 use Rattle.rv_lawful.specs.Sight.{asked, IsEarly}
 use Rattle.rv_machine.specs.Owing.{judged}
 use Rattle.rv_machine.specs.Placed.{run, one_more, count, expected, pending_in_answer, owed_write, paid_late, IsFuture, IsPlaced, IsPlacedSlot, IsReady}
@@ -219,7 +220,7 @@ done_of (Done c) h = (c, refl)
 done_of (Stopped stop) h = cc
 
 -- what is known by EX writes the same as the step
-early_same : (a : Asks) (blocks : List (Option Bits)) (reg : ℕ) (x y : StepAnswer) → IsEarly a x y → early_in_answer a blocks reg x ≡ early_in_answer a blocks reg y
+pub early_same : (a : Asks) (blocks : List (Option Bits)) (reg : ℕ) (x y : StepAnswer) → IsEarly a x y → early_in_answer a blocks reg x ≡ early_in_answer a blocks reg y
 early_same a blocks reg (Done c) (Done d) h = by_case (get_or a.late_customs reg false) (get_or a.spawned_customs reg false) refl refl where
   by_case : (p q : Bool) → get_or a.late_customs reg false ≡ p → get_or a.spawned_customs reg false ≡ q
       → (if p || q then slot_of (get_or blocks reg None) else get_or c.custom reg Absent) ≡ (if p || q then slot_of (get_or blocks reg None) else get_or d.custom reg Absent)

@@ -48,6 +48,8 @@ pub mod ApartNext
 pub mod Apart
 pub mod PaidFile
 pub mod FileNext
+pub mod FileTold
+pub mod ShownTold
 pub mod Numbers
 pub mod Idle
 pub mod UnitsNext

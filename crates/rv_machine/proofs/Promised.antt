@@ -8,6 +8,7 @@ use Rattle.ix_plan.specs.declared.design.Target.{Target}
 use Rattle.ix_standing.specs.Standing.{Stands}
 use Rattle.rv_seq.specs.declared.arch.Arch.{Arch}
 use Rattle.rv_seq.specs.Runs.{run}
+use Rattle.rv_seq.specs.States.{first as first_state}
 use Rattle.rv_trace.specs.declared.row.Row.{Row}
 use Rattle.rv_trace.specs.Trace.{newest, retirements}
 use Rattle.rv_trace.specs.TraceText.{trace_text}
@@ -15,12 +16,13 @@ use Rattle.rv_text.specs.RunText.{state_text}
 use Rattle.rv_engine.specs.Settings.{Setting, setting, tree_of}
 use Rattle.rv_engine.specs.Rows.{machine_after}
 use Rattle.rv_lawful.specs.Outstanding.{decoupled, outstanding, outstanding_targets, architecture, applied_state}
+use Rattle.rv_lawful.specs.Future.{future_file}
 use Rattle.rv_lawful.specs.Headline.{Agreeing, Headline}
 use Rattle.rv_sight.specs.InUnits.{AreInUnits}
 use Rattle.rv_lawful.specs.Sight.{EarlyLaw, ExactLaw, KeepsLaw, TailLaw}
 use Rattle.rv_machine.specs.Running.{AreRows, machine_at}
 use Rattle.rv_machine.specs.DesignText.{most_targets}
-use Rattle.rv_machine.specs.Promises.{IsRunnable, RowsLaw, StateLaw, TextLaw}
+use Rattle.rv_machine.specs.Promises.{IsRunnable, RowsLaw, StateLaw, ShownLaw, TextLaw}
 use Rattle.rv_tried.specs.Whole.{WholeLaw, WideLaw}
 use Rattle.rv_machine.specs.Owing.{judged, targets_owed}
 use Rattle.rv_machine.specs.Placed.{Inv, IsReady, AnswerLaw}
@@ -29,6 +31,8 @@ use Rattle.rv_machine.proofs.Listed.{targets_listed, few_targets}
 use Rattle.rv_machine.proofs.OwingNext as O
 use Rattle.rv_machine.proofs.Retiring as R
 use Rattle.rv_machine.proofs.First.{first}
+use Rattle.rv_machine.proofs.FileTold.{file_told}
+use Rattle.rv_machine.proofs.ShownTold.{shown_told}
 use Rattle.rv_machine.proofs.GoesOn.{goes_on}
 use Rattle.rv_machine.proofs.OneMore.{one_more_row}
 use Rattle.rv_machine.proofs.RunWords.{run_words}
@@ -140,6 +144,21 @@ state_law sights d image waits rows h are =
       targets = list.targets;
       few = subst (λ (l : List (ℕ × Target)). length l ≤ 48) list.targets list.few;
     }
+
+-- the future file of the machine is that which its rows tell
+file_is : (k : Setting) → IsReady k → (rows : List Row) → AreRows k rows → (newest rows).stop ≡ None → future_file (tree_of k) (judged k) rows ≡ (machine_at k rows).future
+unfolding machine_at future_file first_state
+file_is k ready [] are going = refl
+file_is k ready (row ∷ earlier) are going =
+    let inv = (known k ready earlier are.2).going are.1 in
+    file_told k ready earlier (machine_at k earlier) row inv are.0 (file_is k ready earlier are.2 are.1) going
+
+pub shown_law : Sights → ShownLaw
+shown_law sights d image waits row earlier h are =
+    let k = setting d image waits in
+    let ready = ready_of sights d image waits h in
+    let inv = (known k ready earlier are.2).going are.1 in
+    shown_told k ready earlier (machine_at k earlier) row inv are.0 (file_is k ready earlier are.2 are.1)
 
 pub text_law : Sights → TextLaw
 text_law sights d image waits cycles text h t =

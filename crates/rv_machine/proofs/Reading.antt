@@ -144,6 +144,7 @@ same_trial k p t u trial e a i =
       tried = e ∙ i.tried;
       early = subst (λ x. IsEarly x trial.answer ((judged k).course.answer p)) (sym a) i.early;
       accesses = i.accesses;
+      load = i.load;
       blocks = i.blocks;
     }
 

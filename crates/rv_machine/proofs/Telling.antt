@@ -231,11 +231,13 @@ module _ (k : Setting) (ready : IsReady k) (earlier : List Row) (m : Machine) (r
         ap (λ i. u.tail + i) none ∙ add-zero u.tail ∙ new_tail (word_at k.image m.fetch) u new
   ]
 
-  pub modules_told : (n : ℕ) (t : Token) (older : Slots) → drop n (seen_by k m) ≡ Some t ∷ older → t.tail + Lawful.tailed (judged k) earlier t.cell.serial ≡ t.asks.tail
-  modules_told n t older e =
-      let x = seen_left n t (here_of (seen_by k m) older t n e) in
-      let v = alike_get (fill_first (new_by k m) m.slots) (loaded_by k m) n t (B.loaded_alike k ready earlier m inv) x.1 in
+  pub loaded_tails : (n : ℕ) (t : Token) → slice_get (loaded_by k m) n ≡ Some (Some t) → t.tail + Lawful.tailed (judged k) earlier t.cell.serial ≡ t.asks.tail
+  loaded_tails n t e =
+      let v = alike_get (fill_first (new_by k m) m.slots) (loaded_by k m) n t (B.loaded_alike k ready earlier m inv) e in
       ap (λ i. i + Lawful.tailed (judged k) earlier t.cell.serial) v.2.tail
       ∙ ap (λ i. v.0.tail + Lawful.tailed (judged k) earlier i) v.2.serial
       ∙ tail_before n v.0 v.1
       ∙ sym (ap (λ (a : Asks). a.tail) v.2.asks)
+
+  pub modules_told : (n : ℕ) (t : Token) (older : Slots) → drop n (seen_by k m) ≡ Some t ∷ older → t.tail + Lawful.tailed (judged k) earlier t.cell.serial ≡ t.asks.tail
+  modules_told n t older e = loaded_tails n t (seen_left n t (here_of (seen_by k m) older t n e)).1

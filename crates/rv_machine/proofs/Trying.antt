@@ -22,7 +22,8 @@ use Rattle.rv_holds.specs.declared.token.Token.{Token}
 use Rattle.rv_holds.specs.Tokens.{Slots, or_else}
 use Rattle.rv_holds.specs.Holds.{oldest, is_late, writes_late, custom, waits_for_custom, first_from, custom_hold, late, late_hold, waiting_hold, register_count, spawner, least_from, register_at}
 use Rattle.rv_engine.specs.Settings.{Setting, shape_of, tree_of}
-use Rattle.rv_engine.specs.Rows.{tried_with, seeing, is_ripe, trying, is_pending}
+use Rattle.rv_engine.specs.Rows.{tried_with, seeing, is_ripe, trying}
+use Rattle.rv_lawful.specs.Future.{is_pending}
 use Rattle.rv_lawful.specs.Sight.{asked, IsSeen, IsEarly, AreWords}
 use Rattle.rv_machine.specs.Owing.{judged, IsApart, Apart}
 use Rattle.rv_machine.specs.Placed.{run, count, expected, pending_in_answer, paid_late, IsFuture, IsTried, IsExact, IsPlaced, IsPlacedSlot, Placed, IsReady}
@@ -53,6 +54,7 @@ early_trial k ready p t i memory same asks w wide words seen =
           (subst (λ o. IsEarly (asked k.design word) (tried x i memory o).answer (answer k p)) (sym same)
           (subst (λ a. IsEarly (asked k.design word) (tried x i memory (decoded_in x word)).answer a) (sym (step_word k p word w)) c.answer));
       accesses = ap (λ o. (tried x i memory o).accesses) same ∙ c.accesses ∙ sym (access_word k p word w);
+      load = ap (λ o. (tried x i memory o).load) same ∙ c.load ∙ sym (ap (λ (o : Trial). o.load) (trial_word k p word w));
       blocks = ap (λ o. (tried x i memory o).blocks) same ∙ c.blocks ∙ sym (ap (λ (o : Trial). o.blocks) (trial_word k p word w));
     }
 

@@ -33,7 +33,7 @@ use Rattle.rv_machine.proofs.Owes.{paid_is}
 use Rattle.rv_machine.proofs.Older as O
 
 -- each unit has slots
-slots_from-one : (u stages : ℕ) (lasts : List ℕ) (entries : List Entry) (n : ℕ) → n < length lasts → (slots : UnitSlots) × (slice_get (units_from u stages lasts entries) n ≡ Some slots)
+pub slots_from-one : (u stages : ℕ) (lasts : List ℕ) (entries : List Entry) (n : ℕ) → n < length lasts → (slots : UnitSlots) × (slice_get (units_from u stages lasts entries) n ≡ Some slots)
 slots_from-one u stages [] entries n lt = absurd (omega (arith, lt))
 slots_from-one u stages (last ∷ lasts) entries zero lt = (slots_from u stages (last + 1 - stages) entries, refl)
 slots_from-one u stages (last ∷ lasts) entries (suc n) lt = slots_from-one (u + 1) stages lasts entries n (omega (arith, lt))

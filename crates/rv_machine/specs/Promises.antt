@@ -1,5 +1,5 @@
 -- What the rows of a machine promise (this project's choice): they are lawful, and what they show is the run one instruction at a time.
-use Rattle.std.specs.Prelude.{◌≡◌, ℕ, ◌^◌, ◌<◌, ◌≤◌, List, length, Some}
+use Rattle.std.specs.Prelude.{◌≡◌, ℕ, ◌^◌, ◌<◌, ◌≤◌, List, ◌∷◌, length, Some}
 use Rattle.ix_extension.specs.Extensions.{view_extension}
 use Rattle.ix_plan.specs.declared.design.Design.{Design}
 use Rattle.ix_standing.specs.Standing.{Stands}
@@ -8,6 +8,9 @@ use Rattle.rv_seq.specs.Steps.{word_at}
 use Rattle.rv_trace.specs.declared.row.Row.{Row}
 use Rattle.rv_trace.specs.Trace.{retirements}
 use Rattle.rv_engine.specs.Settings.{setting}
+use Rattle.rv_engine.specs.Showing.{shown_of}
+use Rattle.rv_ports.specs.Drives.{drives_of}
+use Rattle.rv_ports.specs.Seats.{shown_by}
 use Rattle.rv_lawful.specs.Settings as Lawful
 use Rattle.rv_lawful.specs.Outstanding.{architecture, applied_state, outstanding_targets}
 use Rattle.rv_lawful.specs.Headline.{Headline}
@@ -35,6 +38,12 @@ RowsLaw = (d : Design) (image waits : List ℕ) (rows : List Row) → IsRunnable
 -- so of what they leave
 abbrev pub StateLaw : Type 0
 StateLaw = (d : Design) (image waits : List ℕ) (rows : List Row) → IsRunnable d image → AreRows (setting d image waits) rows → IsStateOf d image waits rows
+
+-- and of what they show the modules in a row after these
+abbrev pub ShownLaw : Type 0
+ShownLaw =
+    (d : Design) (image waits : List ℕ) (row : Row) (earlier : List Row) → IsRunnable d image → AreRows (setting d image waits) (row ∷ earlier) →
+    shown_of (setting d image waits) (machine_at (setting d image waits) earlier) ≡ shown_by (drives_of d image waits) earlier row
 
 -- and its text is that of such rows
 abbrev pub TextLaw : Type 0

@@ -95,7 +95,7 @@ impl<'a> Machine<'a> {
         ensures headline { IsRunnable self.new.setting.design self.new.setting.image → Headline self.new.setting.design self.new.setting.image self.new.setting.waits self.new.rows }
     {
         rows_laws();
-        let row = make_row(
+        let (row, _) = make_row(
             self.design,
             &self.asking,
             self.words,

@@ -3,7 +3,7 @@ use Rattle.ix_bits.specs.declared.number.Bits.{Bits}
 use Rattle.ix_eval.proofs.Tables.{table_is}
 use Rattle.rv_seq.specs.States.{zero_bit}
 use Rattle.rv_seq.specs.Commits.{with_slot}
-use Rattle.rv_engine.specs.Rows.{early_write}
+use Rattle.rv_lawful.specs.Future.{early_write}
 use Rattle.rv_engine.proofs.moving.put_early_of.Goals as goal
 
 pub returns : goal.returns

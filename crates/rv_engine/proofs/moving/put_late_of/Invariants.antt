@@ -1,7 +1,7 @@
 use Rattle.std.proofs.Common.{◌≡◌, ◌<◌, ◌≤◌, ℕ, length, get_or}
 use Rattle.rv_seq.specs.States.{zero_bit}
 use Rattle.rv_seq.specs.Commits.{with_slot}
-use Rattle.rv_engine.specs.Rows.{late_write}
+use Rattle.rv_lawful.specs.Future.{late_write}
 use Rattle.rv_engine.proofs.moving.put_late_of.Given as goal
 
 abbrev pub invariant-loop-number : goal.invariant-loop-number

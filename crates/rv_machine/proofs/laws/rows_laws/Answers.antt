@@ -1,4 +1,4 @@
-use Rattle.rv_machine.proofs.Promised.{Sights, rows_law, state_law, text_law}
+use Rattle.rv_machine.proofs.Promised.{Sights, rows_law, state_law, shown_law, text_law}
 use Rattle.rv_machine.proofs.laws.rows_laws.Goals as goal
 
 pub returns-clause-rows : goal.returns-clause-rows
@@ -15,3 +15,8 @@ pub returns-clause-text : goal.returns-clause-text
 returns-clause-text c =
     let sights : Sights = record { early = c.sight_laws.ensures.early; exact = c.sight_laws.ensures.exact; keeps = c.sight_laws.ensures.keeps; tails = c.sight_laws.ensures.tails; units = c.sight_laws.ensures.units; written = c.sight_laws.ensures.written; whole = c.trial_laws.ensures.whole; blocks_wide = c.trial_laws.ensures.wide; answers = c.trial_laws.ensures.step } in
     text_law sights
+
+pub returns-clause-shown : goal.returns-clause-shown
+returns-clause-shown c =
+    let sights : Sights = record { early = c.sight_laws.ensures.early; exact = c.sight_laws.ensures.exact; keeps = c.sight_laws.ensures.keeps; tails = c.sight_laws.ensures.tails; units = c.sight_laws.ensures.units; written = c.sight_laws.ensures.written; whole = c.trial_laws.ensures.whole; blocks_wide = c.trial_laws.ensures.wide; answers = c.trial_laws.ensures.step } in
+    shown_law sights

@@ -9,16 +9,16 @@ use Rattle.rv_machine.proofs.machine.Machine.cycle.Goals as goal
 pub invariant_of-self : goal.invariant_of-self
 invariant_of-self c =
     let going : (newest (reverse c.self.inside.trace.rows)).stop ≡ None = rw (ap (λ (v : Running). v.rows) c.self.view_is) c.requires.going in
-    rw (reverse_push c.self.inside.trace.rows c.make_row-row.result c.push.new.self.rows c.push.ensures.rows)
-    (sound_after (setting c.self.inside.design.now c.self.inside.words.now c.self.inside.waits.now) c.self.inside.asking c.self.inside.scratch c.make_row-row.new.scratch c.self.inside.kept c.make_row-row.new.kept (reverse c.self.inside.trace.rows) c.make_row-row.result c.self.inside.trace.spare c.push.new.self.spare c.push.ensures.spare
-    c.self.invariant going c.make_row-row.ensures.row c.make_row-row.ensures.after c.make_row-row.ensures.fit c.make_row-row.ensures.owing c.make_row-row.ensures.scratch)
+    rw (reverse_push c.self.inside.trace.rows c.make_row.result.0 c.push.new.self.rows c.push.ensures.rows)
+    (sound_after (setting c.self.inside.design.now c.self.inside.words.now c.self.inside.waits.now) c.self.inside.asking c.self.inside.scratch c.make_row.new.scratch c.self.inside.kept c.make_row.new.kept (reverse c.self.inside.trace.rows) c.make_row.result.0 c.self.inside.trace.spare c.push.new.self.spare c.push.ensures.spare
+    c.self.invariant going c.make_row.ensures.row c.make_row.ensures.after c.make_row.ensures.fit c.make_row.ensures.owing c.make_row.ensures.scratch)
 
 pub returns-clause-are_rows : goal.returns-clause-are_rows
 returns-clause-are_rows c =
     let going : (newest (reverse c.self.inside.trace.rows)).stop ≡ None = rw (ap (λ (v : Running). v.rows) c.self.view_is) c.requires.going in
-    rw (reverse_push c.self.inside.trace.rows c.make_row-row.result c.push.new.self.rows c.push.ensures.rows)
-    (rows_after (setting c.self.inside.design.now c.self.inside.words.now c.self.inside.waits.now) c.self.inside.asking c.self.inside.scratch c.make_row-row.new.scratch c.self.inside.kept c.make_row-row.new.kept (reverse c.self.inside.trace.rows) c.make_row-row.result c.self.inside.trace.spare c.push.new.self.spare c.push.ensures.spare
-    c.self.invariant going c.make_row-row.ensures.row c.make_row-row.ensures.after c.make_row-row.ensures.fit c.make_row-row.ensures.owing c.make_row-row.ensures.scratch)
+    rw (reverse_push c.self.inside.trace.rows c.make_row.result.0 c.push.new.self.rows c.push.ensures.rows)
+    (rows_after (setting c.self.inside.design.now c.self.inside.words.now c.self.inside.waits.now) c.self.inside.asking c.self.inside.scratch c.make_row.new.scratch c.self.inside.kept c.make_row.new.kept (reverse c.self.inside.trace.rows) c.make_row.result.0 c.self.inside.trace.spare c.push.new.self.spare c.push.ensures.spare
+    c.self.invariant going c.make_row.ensures.row c.make_row.ensures.after c.make_row.ensures.fit c.make_row.ensures.owing c.make_row.ensures.scratch)
 
 pub returns-clause-headline : goal.returns-clause-headline
 returns-clause-headline c = λ promised. c.rows_laws.ensures.rows c.self.inside.design.now c.self.inside.words.now c.self.inside.waits.now _ promised (returns-clause-are_rows c)
