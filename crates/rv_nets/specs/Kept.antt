@@ -1,0 +1,17 @@
+-- What holds of a module that is driven, whatever row comes.
+use Rattle.std.specs.Prelude.{◌≡◌, ℕ, List, length}
+use Rattle.ix_bits.specs.declared.number.Bits.{Bits}
+use Rattle.ix_net.specs.declared.netlist.Net.{Net}
+use Rattle.ix_neteval.specs.State.{State}
+use Rattle.ix_plan.specs.declared.design.Plan.{Plan}
+use Rattle.ix_ports.specs.Ports.{input_ports}
+use Rattle.rv_ports.specs.declared.feeds.Feed.{Feed}
+use Rattle.rv_ports.specs.declared.modules.Module.{Module}
+use Rattle.rv_ports.specs.Feeds.{AreFeeds}
+
+-- there is a feed and an input for each port of the net
+pub record IsKept (driven : Module) (plan : Plan) (net : Net) (feeds : List Feed) (inputs : List Bits) (state : State) : Type 0 where
+  pub same_net : state.net ≡ net
+  pub fed : AreFeeds driven.shape plan feeds
+  pub long : length inputs ≡ length feeds
+  pub ports : net.inputs ≡ input_ports driven.shape.rd plan.graph.ops plan.times
