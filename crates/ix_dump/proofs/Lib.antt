@@ -1,0 +1,4 @@
+pub mod Passing
+pub mod Digits
+pub mod Lists
+pub mod Growing

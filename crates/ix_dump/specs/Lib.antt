@@ -1,0 +1,4 @@
+pub mod Parts
+pub mod Dump
+pub mod Laws
+pub mod Hand
