@@ -1,8 +1,8 @@
 #!/bin/sh
 # Tests the scripts of tools/user over all examples, with bad inputs, and with a trace of 200,000
 # rows: tools/test_user.sh [PROGRAM]. Without a word it takes the proved program that ./prove or the
-# gate has built. The last line is `N passed, N failed`. What needs GNU parallel or Yosys is left
-# out where they are missing, and a line says so.
+# gate has built. The last line is `N passed, N failed`. What needs GNU parallel, Yosys or Icarus
+# Verilog is left out where they are missing, and a line says so.
 root=$(CDPATH='' cd -- "$(dirname -- "$0")/.." && pwd) || exit 1
 program=${1:-$root/crates/ixt/out/ixt}
 case $program in
@@ -316,6 +316,10 @@ fi
 # Programs in C
 
 if "$root/tools/test_c.sh" "$program"; then pass; else fail "tools/test_c.sh"; fi
+
+# The Verilog in a core
+
+if "$root/tools/test_rtl.sh" "$program"; then pass; else fail "tools/test_rtl.sh"; fi
 
 # The documents
 
