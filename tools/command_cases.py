@@ -243,6 +243,120 @@ SWEPT = swept(600, 600)
 for n in range(0, len(SWEPT) // 100 + 1, 4):
     due("sweep MULX FIVE", 5, SWEPT[: 100 * n], ("-", 4096, n, 100))
 
+# drawn runs, by drawn_peer.py and elsewhere: of the base set alone, and with two sums that are written later, at times 4 and 3
+file("NONE", "InstructionSet None extends RV32I { }\n")
+file("SUMS", Path(__file__).resolve().parent.parent.joinpath("examples", "two-decoupled.core_desc").read_text())
+for name, stages in [("CORE3", "three"), ("CORE5", "five")]:
+    file(name, f'core = "{stages}"\nperiod = 1000\n[delay]\nadd = 600\n')
+
+
+def summary(words, rows, retired, written, stop):
+    return f"words {words}\nrows {rows}\nretired {retired}\nwritten {written}\nstop {stop}\n"
+
+
+DRAWN = summary(3, 4, 2, 0, "Ebreak")
+due("bench NONE CORE3 0 1", 0, DRAWN)
+due("bench NONE CORE3 0 0", 0, summary(2, 3, 1, 0, "Ebreak"))
+due("bench NONE CORE3 0000000000 01", 0, DRAWN)
+due("bench NONE CORE5 4294967295 50", 0, summary(52, 68, 51, 0, "Ebreak"))
+due("bench NONE CORE5 7 10000", 0, summary(10002, 11819, 10001, 0, "Ebreak"))
+# a drawn jump back, and no end in 200,000 rows; and one out of the image
+for name, target in [("BACK", "4"), ("AWAY", "(unsigned<32>)(X[rs1] + 4096)")]:
+    file(name, f"InstructionSet Jump extends RV32I {{ instructions {{ t {{ encoding: 7'd0 :: rs2[4:0] :: rs1[4:0] :: 3'd0 :: rd[4:0] :: 7'b0001011; behavior: PC = {target}; }} }} }}\n")
+file("CORE4", 'core = "four"\nperiod = 1000\n[delay]\nadd = 600\n')
+due("bench BACK CORE3 3 20", 0, summary(22, 200000, 100000, 0, "none"))
+due("bench AWAY CORE4 3 60", 0, summary(62, 5, 2, 0, "Fetch"))
+due("bench SUMS CORE3 0 10000", 0, summary(10002, 290, 233, 53, "DataRange"))
+due("bench SUMS CORE3 4 10000", 0, summary(10002, 141, 115, 24, "Misaligned"))
+for words in ["bench", "bench NONE CORE3 0", "bench NONE CORE3 0 1 1", "benc NONE CORE3 0 1", "bench NONE CORE3 4294967296 1", "bench NONE CORE3 0 10001", "bench NONE CORE3 -1 1", "bench NONE CORE3 0 1.0", "bench NONE CORE3 00000000000 1"]:
+    due(words, 2, "refused Usage\n")
+# each file is judged before the next is read, and both before a schedule is sought
+due("bench LOST LOST 0 1", 4, "refused ReadFault LOST\n")
+due("bench EMPTY LOST 0 1", 7, "refused Extension At 0 0\n")
+due("bench LINES1 LOST 0 1", 6, "refused TooLong LINES1\n")
+due("bench NONE LOST 0 1", 4, "refused ReadFault LOST\n")
+due("bench NONE LINES1 0 1", 6, "refused TooLong LINES1\n")
+due("bench NONE NOTEXT 0 1", 8, "refused Sheet Utf8 -\n")
+for n, line in enumerate(["Toml -", "Core core", "Number period", "Window WrRD", "Number lifetime"]):
+    due(f"bench MULX T{n} 0 1", 8, f"refused Sheet {line}\n")
+file("CORE3F", 'core = "three_f"\nperiod = 1000\n')
+due("bench NONE CORE3F 0 1", 8, "refused Sheet Core core\n")
+due("bench LARGE FIVE 0 1", 7, "refused Extension TooManyOps large\n")
+due("bench MULX SLOW 0 1", 10, (NONE + UNTIMED).replace("delay 600", "delay 1200") + "cycle chain 2\nend\n")
+for n in range(0, len(DRAWN) + 2):
+    due("bench NONE CORE3 0 1", 5 if n < len(DRAWN) else 0, DRAWN[:n], ("-", 4096, n, 1))
+
+# dumps, by hand: a sum that is computed where its operands are read and one that is kept for a stage, beside an always-block; and no module at all
+file("NOWAITS", "")
+file("SUM", "00500093\n0010818b\n00100073\n")
+SUMX = "addx { encoding: 7'd0 :: rs2[4:0] :: rs1[4:0] :: 3'd0 :: rd[4:0] :: 7'b0001011; behavior: X[rd] = (unsigned<32>)(X[rs1] + X[rs2]); }"
+file("SUMX", f"InstructionSet Sum extends RV32I {{ instructions {{ {SUMX} }} }}\n")
+file("SUMODD", f"InstructionSet Sum extends RV32I {{ instructions {{ {SUMX} }} always {{ odd {{ if (PC == 12) PC = 20; }} }} }}\n")
+file("KEPT", 'core = "five"\nperiod = 1000\n[delay]\nadd = 300\n')
+
+
+def dump(modules, *rows):
+    """Each module is its name and its ports, each row the ports that change with their numbers and widths in front of their values."""
+    text, k = "$timescale 1ns $end\n", 0
+    for name, *ports in modules:
+        text += f"$scope module ixt_{name} $end\n"
+        for port in ports:
+            width, wire = port.split(":")
+            text += f"$var wire {width} p{k} {wire} $end\n"
+            k += 1
+        text += "$upscope $end\n"
+    text += "$enddefinitions $end\n"
+    for n, row in enumerate(rows):
+        text += f"#{n}\n"
+        for k, width, value in row:
+            text += f"{value}p{k}\n" if width == 1 else f"b{value:0{width}b} p{k}\n"
+    return text
+
+
+INPUTS, TERM = ["32:in0", "32:in1"], ["32:out4_v", "1:out4_c"]
+AT_ONCE = [("addx", *INPUTS, *TERM), ("odd", "32:in0", "32:out2_v", "1:out2_c")]
+NOTHING = [(0, 32, 0), (1, 32, 0), (2, 32, 0), (3, 1, 1), (4, 32, 0), (5, 32, 20), (6, 1, 0)]
+DUMP = dump(AT_ONCE, NOTHING, [], [], [(0, 32, 5), (1, 32, 5), (2, 32, 10), (4, 32, 4)], [(0, 32, 0), (1, 32, 0), (2, 32, 0), (4, 32, 8)])
+KEPT = [("addx", "1:en1", *INPUTS, *TERM)]
+FIRST = [(0, 1, 0), (1, 32, 0), (2, 32, 0), (3, 32, 0), (4, 1, 1)]
+KEPT_DUMP = dump(KEPT, FIRST, [(0, 1, 1)], [(0, 1, 0)], [], [], [(0, 1, 1), (1, 32, 5), (2, 32, 5)], [(1, 32, 0), (2, 32, 0), (3, 32, 10)], [(0, 1, 0), (3, 32, 0)], [])
+due("wave SUMODD CORE3 SUM NOWAITS 20", 0, DUMP)
+due("wave SUMODD CORE3 SUM NOWAITS 3", 0, dump(AT_ONCE, NOTHING, [], []))
+due("wave SUMX KEPT SUM NOWAITS 0000000020", 0, KEPT_DUMP)
+due("wave SUMX KEPT EMPTY NOWAITS 0", 0, dump(KEPT))
+due("wave SUMX KEPT EMPTY NOWAITS 5", 0, dump(KEPT, FIRST))
+due("wave NONE CORE3 SUM NOWAITS 20", 0, dump([], [], [], []))
+due("wave NONE CORE3 EMPTY NOWAITS 0", 0, dump([]))
+for words in ["wave", "wave SUMX KEPT SUM NOWAITS", "wave SUMX KEPT SUM NOWAITS 20 20", "waves SUMX KEPT SUM NOWAITS 20", "wave SUMX KEPT SUM NOWAITS 200001", "wave SUMX KEPT SUM NOWAITS -1", "wave SUM 20"]:
+    due(words, 2, "refused Usage\n")
+# each file is judged before the next is read, and all before a schedule is sought
+due("wave LOST LOST LOST LOST 20", 4, "refused ReadFault LOST\n")
+due("wave EMPTY LOST LOST LOST 20", 7, "refused Extension At 0 0\n")
+due("wave LINES1 LOST LOST LOST 20", 6, "refused TooLong LINES1\n")
+due("wave SUMX LOST LOST LOST 20", 4, "refused ReadFault LOST\n")
+due("wave SUMX LINES1 LOST LOST 20", 6, "refused TooLong LINES1\n")
+due("wave SUMX NOTEXT LOST LOST 20", 8, "refused Sheet Utf8 -\n")
+for n, line in enumerate(["Toml -", "Core core", "Number period", "Window WrRD", "Number lifetime"]):
+    due(f"wave MULX T{n} LOST LOST 20", 8, f"refused Sheet {line}\n")
+due("wave SUMX CORE3F LOST LOST 20", 8, "refused Sheet Core core\n")
+due("wave SUMX KEPT LOST LOST 20", 4, "refused ReadFault LOST\n")
+due("wave SUMX KEPT LINES1 LOST 20", 6, "refused TooLong LINES1\n")
+file("BADWORD", "00500093\n0050009\n")
+file("BADWAIT", "1 256\n")
+due("wave SUMX KEPT BADWORD LOST 20", 9, "refused Image 2\n")
+due("wave SUMX KEPT SUM LOST 20", 4, "refused ReadFault LOST\n")
+due("wave SUMX KEPT SUM LINES1 20", 6, "refused TooLong LINES1\n")
+due("wave SUMX KEPT SUM BADWAIT 20", 14, "refused Waits 1\n")
+due("wave LARGE FIVE SUM BADWAIT 20", 14, "refused Waits 1\n")
+due("wave LARGE FIVE SUM NOWAITS 20", 7, "refused Extension TooManyOps large\n")
+due("wave MULX SLOW SUM NOWAITS 20", 10, (NONE + UNTIMED).replace("delay 600", "delay 1200") + "cycle chain 2\nend\n")
+for n in range(0, len(DUMP) // 40 + 3):
+    whole = 40 * n >= len(DUMP)
+    due("wave SUMODD CORE3 SUM NOWAITS 20", 0 if whole else 5, DUMP[: 40 * n], ("-", 4096, n, 40))
+# a jump to itself, whose dump of 30,000 rows is more than the buffer holds: the write fails in the middle of the run
+file("HERE", "0000006f\n")
+due("wave NONE CORE3 HERE NOWAITS 30000", 5, dump([], *[[]] * 30000)[:8192], ("-", 4096, 2, 4096))
+
 STORED = [Path(__file__).resolve().parent / "commands" / name for name in ["tutorial", "schedules", "runs", "base", "diagnoses"]]
 FOLDER.joinpath("stdin").write_bytes(b"".join(it.with_suffix(".cases").read_bytes() for it in STORED) + "".join(part + END for part in parts).encode())
 FOLDER.joinpath("stdout").write_bytes(b"".join(it.with_suffix(".answers").read_bytes() for it in STORED) + "".join(answer + END for answer in answers).encode())

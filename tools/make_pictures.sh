@@ -1,6 +1,7 @@
 #!/bin/sh
 # Makes the pictures of the documents again: tools/make_pictures.sh [PROGRAM [FOLDER]]. Without
-# words it takes the launcher ./ixt and writes to docs/pictures.
+# words it takes the launcher ./ixt and writes to docs/pictures. The picture of a dump,
+# average-wave.png, is a screen of GTKWave, taken by hand.
 root=$(CDPATH='' cd -- "$(dirname -- "$0")/.." && pwd) || exit 1
 program=${1:-$root/ixt}
 pictures=${2:-$root/docs/pictures}

@@ -19,6 +19,7 @@ rtl=$examples/rtl
 document=$root/docs/INTEGRATION.md
 ports=$user/ports.py
 compare=$user/rtl_compare.py
+wave=$user/wave_compare.py
 room=$(mktemp -d "${TMPDIR:-/tmp}/ixt-test-rtl-XXXXXX") || exit 1
 trap 'rm -rf "$room"' EXIT
 trap 'exit 1' HUP INT TERM
@@ -62,7 +63,7 @@ says() {
     if grep -qF -- "$1" out; then pass; else fail "no '$1' in: $(tail -n 3 out)"; fi
 }
 
-for script in "$ports" "$compare"; do
+for script in "$ports" "$compare" "$wave"; do
     ends 0 "$script" --help
     grep -q '^usage' out || fail "$script --help has no usage"
     ends 2 "$script" --no-such-option
@@ -221,6 +222,15 @@ refused "No such file" "$compare" --programs no-such-file --random 1 square-root
 refused "the program refused" "$compare" --sheet "$own.hex" square-root
 printf 'core = "four"\nperiod = 1000\n' > four.toml
 refused "a core of 4 stages" "$compare" --sheet four.toml auto-increment
+
+# Dumps of ports beside the same modules, for all examples on all cores
+
+ends 0 "$wave"
+grep -v "the same$" out && fail "$wave differs"
+ends 0 "$wave" --rows 0 "$own.core_desc" "$sheet" "$own.hex" "$examples/some.waits"
+says "0 rows, the same"
+refused "was not found" "$wave" --iverilog no-such-program
+refused "was not found" "$wave" --vcd2fst no-such-program
 
 echo "$passed passed, $failed failed"
 [ "$failed" = 0 ]

@@ -191,7 +191,7 @@ pub(crate) fn finding_of<'a>(refusal: Refusal<'a>, bytes: &[u8]) -> Finding<'a>
         ),
         Status::Usage | Status::Other => at(
             None,
-            "these words are not a command: write `run IMAGE CYCLES`, `run EXT SHEET IMAGE WAITS CYCLES`, `check EXT`, `certify REPORT`, `seq EXT IMAGE STEPS`, `asm EXT SOURCE`, `schedule EXT SHEET`, `build EXT SHEET` or `sweep EXT SHEET`, CYCLES and STEPS being numbers from 0 to 200000",
+            "these words are not a command: write `run IMAGE CYCLES`, `run EXT SHEET IMAGE WAITS CYCLES`, `check EXT`, `certify REPORT`, `seq EXT IMAGE STEPS`, `asm EXT SOURCE`, `schedule EXT SHEET`, `build EXT SHEET`, `sweep EXT SHEET`, `bench EXT SHEET NUMBER COUNT` or `wave EXT SHEET IMAGE WAITS CYCLES`, CYCLES and STEPS being numbers from 0 to 200000, NUMBER from 0 to 4294967295, and COUNT from 0 to 10000",
         ),
     }
 }

@@ -9,17 +9,19 @@ use Rattle.rv_asm.specs.declared.source.AsmErr.TheVariants as A
 use Rattle.ix_sheet.specs.declared.sheet.Sheet.{Sheet}
 use Rattle.ix_schedules.specs.declared.text.TextErr.{TextErr}
 use Rattle.ix_schedules.specs.ScheduleText.{IsScheduleText, IsRefusedText as IsRefusedSchedule}
-use Rattle.ix_tool.specs.declared.status.Status.{Status}
-use Rattle.ix_tool.specs.declared.status.Status.TheVariants.{Ok as ok_status, Memory, Source, Extension as extension_status}
+use Rattle.ix_words.specs.declared.status.Status.{Status}
+use Rattle.ix_words.specs.declared.status.Status.TheVariants.{Ok as ok_status, Memory, Source, Extension as extension_status}
 use Rattle.ix_modules.specs.Modules.{IsModulesText}
 use Rattle.ix_schedules.specs.Scheduling.{behaviours_of}
 use Rattle.ix_sweeps.specs.declared.sweeping.SweepErr.TheVariants as W
 use Rattle.ix_sweeps.specs.Sweeping.{IsFirstLarge}
 use Rattle.ix_sweeps.specs.SweepText.{IsSweepText}
-use Rattle.ix_tool.specs.declared.command.Command.{Command}
-use Rattle.ix_tool.specs.declared.command.Command.TheVariants.{Assemble, Schedule, Build, Sweep, Seq, RunExtension}
-use Rattle.ix_tool.specs.Readings.{Reading, extension_read, sheet_read, source_read, image_read, waits_read, number_read}
-use Rattle.ix_tool.specs.CommandOutput.{Writes, IsToldAs, Schedules, Answered, IsExtensionRun, source_line}
+use Rattle.ix_words.specs.declared.command.Command.{Command}
+use Rattle.ix_words.specs.declared.command.Command.TheVariants.{Assemble, Schedule, Build, Sweep, Seq, Bench}
+use Rattle.ix_words.specs.declared.command.RunForm.{RunForm}
+use Rattle.ix_words.specs.declared.command.RunForm.TheVariants.{Rows, Ports}
+use Rattle.ix_words.specs.Readings.{Reading, extension_read, sheet_read, source_read, image_read, waits_read, number_read}
+use Rattle.ix_tool.specs.CommandOutput.{command_in, Writes, IsToldAs, Schedules, Answered, IsExtensionRun, IsDrawnRun, source_line}
 
 module _ (x : ExtensionTree) (bytes : List ℕ) (before now : Option (List ℕ)) (faults faults_now : ℕ) (result : Status) where
   pub image_answered : (words : List ℕ) → Assembles x bytes words → (((result ≡ Memory) × (now ≡ before)) ⊎ Writes ok_status (image_text words) before now faults faults_now result)
@@ -37,6 +39,10 @@ module _ (x : ExtensionTree) (bytes : List ℕ) (before now : Option (List ℕ))
         inl (inl (record { command_is = refl; extension = x; source = bytes; values_are = refl; error = e; no_memory = some; refused = h; status_is = refl; line_is = refl })),
         w,
       )
+
+pub run_schedules : (form : RunForm) → Schedules (command_in form)
+run_schedules Rows = tt
+run_schedules Ports = tt
 
 module _ (x : ExtensionTree) (sheet : Sheet) (before now : Option (List ℕ)) (faults faults_now : ℕ) (result : Status) where
   pub report_answered : (text : List ℕ) → IsScheduleText x sheet text → Writes ok_status text before now faults faults_now result → Answered Schedule (extension_read x ∷ sheet_read sheet ∷ []) before now faults faults_now result
@@ -57,10 +63,17 @@ module _ (x : ExtensionTree) (sheet : Sheet) (before now : Option (List ℕ)) (f
   large_answered line h w =
       inr (extension_status, line, inl (inr (inr (record { command_is = refl; extension = x; sheet = sheet; values_are = refl; refused = h; status_is = refl }))), w)
 
-  pub run_answered : (image waits : List ℕ) (cycles : ℕ) (text : List ℕ) → IsExtensionRun x sheet image waits cycles text → Writes ok_status text before now faults faults_now result
-      → Answered RunExtension (extension_read x ∷ sheet_read sheet ∷ image_read image ∷ waits_read waits ∷ number_read cycles ∷ []) before now faults faults_now result
-  run_answered image waits cycles text h w =
+  pub run_answered : (form : RunForm) (image waits : List ℕ) (cycles : ℕ) (text : List ℕ) → IsExtensionRun form x sheet image waits cycles text → Writes ok_status text before now faults faults_now result
+      → Answered (command_in form) (extension_read x ∷ sheet_read sheet ∷ image_read image ∷ waits_read waits ∷ number_read cycles ∷ []) before now faults faults_now result
+  run_answered Rows image waits cycles text h w =
       inr (ok_status, text, inr (refl, record { extension = x; sheet = sheet; image = image; waits = waits; cycles = cycles; values_are = refl; runs = h }), w)
+  run_answered Ports image waits cycles text h w =
+      inr (ok_status, text, inr (refl, record { extension = x; sheet = sheet; image = image; waits = waits; cycles = cycles; values_are = refl; runs = h }), w)
+
+  pub bench_answered : (number count : ℕ) (text : List ℕ) → IsDrawnRun x sheet number count text → Writes ok_status text before now faults faults_now result
+      → Answered Bench (extension_read x ∷ sheet_read sheet ∷ number_read number ∷ number_read count ∷ []) before now faults faults_now result
+  bench_answered number count text h w =
+      inr (ok_status, text, inr (refl, record { extension = x; sheet = sheet; number = number; count = count; values_are = refl; runs = h }), w)
 
 module _ (x : ExtensionTree) (before now : Option (List ℕ)) (faults faults_now : ℕ) (result : Status) where
   pub steps_answered : (image : List ℕ) (steps : ℕ) → (((result ≡ Memory) × (now ≡ before)) ⊎ Writes ok_status (run_text x image steps) before now faults faults_now result)

@@ -4,18 +4,19 @@ use Rattle.std.specs.Prelude.{IfSome, codes}
 use Rattle.ix_io.specs.Limits.{most_bytes}
 use Rattle.ix_io.specs.Shelf.{NamedFiles, told_file}
 use Rattle.ix_io.specs.Sink.{Appends}
-use Rattle.ix_tool.specs.declared.status.Status.{Status}
-use Rattle.ix_tool.specs.declared.status.Status.TheVariants.{Ok as ok_status, Usage, ReadFault, WriteFault, TooLong, Extension as extension_status, Image as image_status, Sheet as sheet_status, NoSchedule, Certificate, Memory, Source, Waits as waits_status}
-use Rattle.ix_tool.specs.declared.command.Command.{Command}
-use Rattle.ix_tool.specs.declared.command.FileKind.{FileKind}
-use Rattle.ix_tool.specs.declared.command.FileKind.TheVariants.{Image, Report, Extension, Sheet, PlainSheet, Source as source_kind, Waits}
+use Rattle.ix_words.specs.declared.status.Status.{Status}
+use Rattle.ix_words.specs.declared.status.Status.TheVariants.{Ok as ok_status, Usage, ReadFault, WriteFault, TooLong, Extension as extension_status, Image as image_status, Sheet as sheet_status, NoSchedule, Certificate, Memory, Source, Waits as waits_status}
+use Rattle.ix_words.specs.declared.command.Command.{Command}
+use Rattle.ix_words.specs.declared.command.FileKind.{FileKind}
+use Rattle.ix_words.specs.declared.command.FileKind.TheVariants.{Image, Report, Extension, Sheet, PlainSheet, Source as source_kind, Waits}
 use Rattle.ix_schedules.specs.declared.text.TextErr.{TextErr}
 use Rattle.ix_schedules.specs.declared.text.TextErr.TheVariants as T
 use Rattle.ix_schedules.specs.ScheduleText.{IsRefusedText as IsRefusedSchedule}
-use Rattle.ix_tool.specs.Readings.{Reading}
-use Rattle.ix_tool.specs.CommandLine.{command_of, slots_of, behind}
-use Rattle.ix_tool.specs.CommandOutput.{Outcome, RoseIn, NoneRises, file_line, refusal_status, IsRefusedFile, not_read, too_long, bad_text, IsFirstRefused, IsAnswer, IsDue, due_usage, due_file, due_answer, UsageAnswer, ReadFaultAnswer, WriteFaultAnswer, TooLongAnswer, IsFileOf, TextAnswer, OutputAnswer, SourceAnswer, IsToldAs, IsScheduleRefusal, IsSweepRefusal, UnscheduledAnswer, UnsweptAnswer, NoScheduleAnswer, ExtensionAnswer, AreRead, IsStatusOr, Premises, Completes}
-use Rattle.ix_tool.proofs.Reading.{at_found}
+use Rattle.ix_words.specs.Readings.{Reading}
+use Rattle.ix_words.specs.CommandLine.{command_of, slots_of, behind}
+use Rattle.ix_words.specs.WordsRead.{RoseIn, file_line, refusal_status, IsRefusedFile, not_read, too_long, bad_text, IsFirstRefused, IsFileOf, AreRead}
+use Rattle.ix_tool.specs.CommandOutput.{Outcome, NoneRises, IsAnswer, IsDue, due_usage, due_file, due_answer, UsageAnswer, ReadFaultAnswer, WriteFaultAnswer, TooLongAnswer, TextAnswer, OutputAnswer, SourceAnswer, IsToldAs, IsScheduleRefusal, IsSweepRefusal, UnscheduledAnswer, UnsweptAnswer, NoScheduleAnswer, ExtensionAnswer, IsStatusOr, Premises, Completes}
+use Rattle.ix_words.proofs.Reading.{at_found}
 use Rattle.ix_tool.proofs.Due.{all_one, not_refused, told_status, own_status, commanded, usage_alone, due_one}
 
 -- ---- statuses are apart

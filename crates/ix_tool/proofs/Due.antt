@@ -4,17 +4,20 @@ use Rattle.std.specs.Prelude.{IfSome, unwrap_or}
 use Rattle.ix_io.specs.Limits.{most_bytes}
 use Rattle.ix_io.specs.Shelf.{NamedFiles, told_file, file_named}
 use Rattle.ix_cert.proofs.Verdicts.{faultless_not_refused}
-use Rattle.ix_tool.specs.declared.status.Status.{Status}
-use Rattle.ix_tool.specs.declared.status.Status.TheVariants.{Usage, ReadFault, Source, Extension as extension_status, NoSchedule}
-use Rattle.ix_tool.specs.declared.command.Command.TheVariants.{RunImage, Check, Certify, Assemble, Seq, Schedule, Build, Sweep, RunExtension}
-use Rattle.ix_tool.specs.declared.command.Command.{Command}
-use Rattle.ix_tool.specs.declared.command.FileKind.{FileKind}
-use Rattle.ix_tool.specs.declared.command.FileKind.TheVariants.{Image, Report, Extension, Sheet, PlainSheet, Source as source_kind, Waits}
-use Rattle.ix_tool.specs.declared.command.Slot.{Slot}
-use Rattle.ix_tool.specs.declared.command.Slot.TheVariants.{Number, File}
-use Rattle.ix_tool.specs.Readings.{Reading, number_read, image_read, report_read, extension_read, sheet_read, source_read, waits_read}
-use Rattle.ix_tool.specs.CommandLine.{command_of, slots_of, behind, number_within}
-use Rattle.ix_tool.specs.CommandOutput.{IsRefusedText, IsReadAs, IsFile, IsRead, AreRead, IsRefusedFile, not_read, too_long, bad_text, IsFirstRefused, IsSourceRefusal, IsToldAs, Schedules, IsScheduleRefusal, IsSweepRefusal, IsPipelineOutput, IsOwnRefusal, IsOutput, IsAnswer, IsDue, due_usage, due_file, due_answer, NoneRises, NoFileRises}
+use Rattle.ix_words.specs.declared.status.Status.{Status}
+use Rattle.ix_words.specs.declared.status.Status.TheVariants.{Usage, ReadFault, Source, Extension as extension_status, NoSchedule}
+use Rattle.ix_words.specs.declared.command.Command.TheVariants.{RunImage, Check, Certify, Assemble, Seq, Schedule, Build, Sweep, RunExtension, Bench, Wave}
+use Rattle.ix_words.specs.declared.command.Command.{Command}
+use Rattle.ix_words.specs.declared.command.RunForm.{RunForm}
+use Rattle.ix_words.specs.declared.command.RunForm.TheVariants.{Rows, Ports}
+use Rattle.ix_words.specs.declared.command.FileKind.{FileKind}
+use Rattle.ix_words.specs.declared.command.FileKind.TheVariants.{Image, Report, Extension, Sheet, PlainSheet, Source as source_kind, Waits}
+use Rattle.ix_words.specs.declared.command.Slot.{Slot}
+use Rattle.ix_words.specs.declared.command.Slot.TheVariants.{Number, File}
+use Rattle.ix_words.specs.Readings.{Reading, number_read, image_read, report_read, extension_read, sheet_read, source_read, waits_read}
+use Rattle.ix_words.specs.CommandLine.{command_of, slots_of, behind, number_within}
+use Rattle.ix_words.specs.WordsRead.{IsRefusedText, IsReadAs, IsFile, IsRead, AreRead, IsRefusedFile, not_read, too_long, bad_text, IsFirstRefused}
+use Rattle.ix_tool.specs.CommandOutput.{IsSourceRefusal, IsToldAs, Schedules, IsScheduleRefusal, IsSweepRefusal, IsPipelineOutput, IsBenchOutput, IsOwnRefusal, IsOutput, IsAnswer, IsDue, due_usage, due_file, due_answer, NoneRises, NoFileRises}
 use Rattle.ix_listing.proofs.OneExtension.{same_extension, extension_not_refused}
 use Rattle.rv_asm.proofs.WaitLemmas.{one_text, text_not_refused as waits_not_refused}
 use Rattle.rv_asm.proofs.ImageLemmas.{image_not_refused}
@@ -291,9 +294,16 @@ told_some (T.TooManyOps text) status line told e = cc
 told_some (T.NoSchedule text) status line told e = cc
 told_some T.Memory status line told e = told
 
--- an extension of which a behaviour is refused has no report, no modules, and no run
-run_apart : (x : ExtensionTree) (sheet : Datasheet) (others : List Reading) (b : List ℕ) (e : TextErr) → e ≢ T.Memory → IsPipelineOutput (extension_read x ∷ sheet_read sheet ∷ others) b → IsRefusedSchedule x sheet e → ⊥
-run_apart x sheet others b e some out refused =
+-- an extension of which a behaviour is refused has no report, no modules, no run or dump of one, and no summary of one
+run_apart : (form : RunForm) (x : ExtensionTree) (sheet : Datasheet) (others : List Reading) (b : List ℕ) (e : TextErr) → e ≢ T.Memory → IsPipelineOutput form (extension_read x ∷ sheet_read sheet ∷ others) b → IsRefusedSchedule x sheet e → ⊥
+run_apart form x sheet others b e some out refused =
+    let same : (x ≡ out.extension) × (sheet ≡ out.sheet) = (let v = out.values_are in cc, let v = out.values_are in cc) in
+    let there : IsRefusedSchedule (view_extension out.runs.design.extension) out.runs.design.sheet e =
+    subst (λ y. IsRefusedSchedule y out.runs.design.sheet e) (same.0 ∙ sym out.runs.extension_is) (subst (λ d. IsRefusedSchedule x d e) (same.1 ∙ sym out.runs.sheet_is) refused) in
+    design_not_refused out.runs.design e some out.runs.stands there
+
+bench_apart : (x : ExtensionTree) (sheet : Datasheet) (others : List Reading) (b : List ℕ) (e : TextErr) → e ≢ T.Memory → IsBenchOutput (extension_read x ∷ sheet_read sheet ∷ others) b → IsRefusedSchedule x sheet e → ⊥
+bench_apart x sheet others b e some out refused =
     let same : (x ≡ out.extension) × (sheet ≡ out.sheet) = (let v = out.values_are in cc, let v = out.values_are in cc) in
     let there : IsRefusedSchedule (view_extension out.runs.design.extension) out.runs.design.sheet e =
     subst (λ y. IsRefusedSchedule y out.runs.design.sheet e) (same.0 ∙ sym out.runs.extension_is) (subst (λ d. IsRefusedSchedule x d e) (same.1 ∙ sym out.runs.sheet_is) refused) in
@@ -304,7 +314,9 @@ sheet_apart Schedule x sheet [] b e h some out refused = scheduled_not_refused x
 sheet_apart Schedule x sheet (v ∷ vs) b e h some out refused = out
 sheet_apart Build x sheet [] b e h some out refused = modules_not_refused x sheet b e some out refused
 sheet_apart Build x sheet (v ∷ vs) b e h some out refused = out
-sheet_apart RunExtension x sheet others b e h some out refused = run_apart x sheet others b e some out refused
+sheet_apart RunExtension x sheet others b e h some out refused = run_apart Rows x sheet others b e some out refused
+sheet_apart Wave x sheet others b e h some out refused = run_apart Ports x sheet others b e some out refused
+sheet_apart Bench x sheet others b e h some out refused = bench_apart x sheet others b e some out refused
 sheet_apart RunImage x sheet others b e h some out refused = h
 sheet_apart Check x sheet others b e h some out refused = h
 sheet_apart Certify x sheet others b e h some out refused = h

@@ -1,8 +1,5 @@
 mod Answering
 mod SheetValues
-pub mod Words
-pub mod Judging
-pub mod Reading
 pub mod OneSheet
 pub mod Due
 pub mod Outcomes
@@ -14,3 +11,6 @@ pub mod SweepsShown
 mod ImageWords
 mod PipelineValues
 mod PipelinesShown
+mod BenchValues
+mod Summaries
+mod BenchesShown

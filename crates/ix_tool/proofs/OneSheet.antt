@@ -16,7 +16,7 @@ use Rattle.ix_sheet.specs.declared.sheet.SheetErr.{SheetErr}
 use Rattle.ix_sheet.specs.declared.sheet.SheetErr.TheVariants.{Toml}
 use Rattle.ix_sheet.specs.Sheets.{window_at, native_windows_of}
 use Rattle.ix_sheet.specs.Datasheets.{HasCore, core_of, period_of, lifetime_of, window_in, document_refusal, IsDocumentOf, IsSheetOf, IsRefusalOf}
-use Rattle.ix_tool.specs.CommandOutput.{IsSheetRead}
+use Rattle.ix_words.specs.WordsRead.{IsSheetRead}
 
 -- ---- shapes with the same numbers are one
 lawful_one : (a b c d e : ℕ) (x y : IsLawful a b c d e) → x ≡ y

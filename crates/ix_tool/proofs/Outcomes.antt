@@ -4,13 +4,14 @@ use Rattle.std.specs.Prelude.{codes, String}
 use Rattle.std.specs.declared.alloc.Global.{Global}
 use Rattle.std.proofs.lemmas.List.{take_all}
 use Rattle.ix_io.specs.Shelf.{NamedFiles}
-use Rattle.ix_tool.specs.declared.status.Status.{Status}
-use Rattle.ix_tool.specs.declared.status.Status.TheVariants.{Usage}
-use Rattle.ix_tool.specs.declared.command.Command.{Command}
-use Rattle.ix_tool.specs.declared.command.Slot.{Slot}
-use Rattle.ix_tool.specs.Readings.{Reading}
-use Rattle.ix_tool.specs.CommandLine.{command_of, slots_of, behind, bytes_of}
-use Rattle.ix_tool.specs.CommandOutput.{Writes, Outcome, AreRead, IsFirstRefused, Answered, due_usage, due_file, due_answer}
+use Rattle.ix_words.specs.declared.status.Status.{Status}
+use Rattle.ix_words.specs.declared.status.Status.TheVariants.{Usage}
+use Rattle.ix_words.specs.declared.command.Command.{Command}
+use Rattle.ix_words.specs.declared.command.Slot.{Slot}
+use Rattle.ix_words.specs.Readings.{Reading}
+use Rattle.ix_words.specs.CommandLine.{command_of, slots_of, behind, bytes_of}
+use Rattle.ix_words.specs.WordsRead.{AreRead, IsFirstRefused}
+use Rattle.ix_tool.specs.CommandOutput.{Writes, Outcome, Answered, due_usage, due_file, due_answer}
 use Rattle.ix_tool.proofs.Due.{both}
 
 pub none_of : {A : Type 0} (o : Option A) → ((a : A) → o ≡ Some a → ⊥) → o ≡ None

@@ -2,9 +2,9 @@
 use Rattle.std.proofs.Common.{◌≡◌, ℕ, ◌<◌, List, [], ◌∷◌, length, drop, get_or, map, refl, sym, ap, ◌∙◌, arith}
 use Rattle.ix_extension.specs.Extensions.{ExtensionTree}
 use Rattle.ix_sheet.specs.declared.sheet.Sheet.{Sheet}
-use Rattle.ix_tool.specs.declared.value.Value.{Value}
-use Rattle.ix_tool.specs.declared.value.Value.TheVariants as value
-use Rattle.ix_tool.specs.Readings.{extension_read, sheet_read, reading_of}
+use Rattle.ix_words.specs.declared.value.Value.{Value}
+use Rattle.ix_words.specs.declared.value.Value.TheVariants as value
+use Rattle.ix_words.specs.Readings.{extension_read, sheet_read, reading_of}
 use Rattle.ix_tool.specs.CommandOutput.{TakesPipeline}
 
 -- behind an extension and a datasheet an image, the waits and a number

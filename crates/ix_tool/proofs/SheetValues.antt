@@ -2,10 +2,10 @@
 use Rattle.std.proofs.Common.{◌≡◌, ℕ, refl, List, [], ◌∷◌, map}
 use Rattle.ix_tree.specs.declared.extension.Extension.{Extension}
 use Rattle.ix_sheet.specs.declared.sheet.Sheet.{Sheet}
-use Rattle.ix_tool.specs.declared.command.Command.TheVariants.{Seq}
-use Rattle.ix_tool.specs.declared.value.Value.{Value}
-use Rattle.ix_tool.specs.declared.value.Value.TheVariants as value
-use Rattle.ix_tool.specs.Readings.{reading_of}
+use Rattle.ix_words.specs.declared.command.Command.TheVariants.{Seq}
+use Rattle.ix_words.specs.declared.value.Value.{Value}
+use Rattle.ix_words.specs.declared.value.Value.TheVariants as value
+use Rattle.ix_words.specs.Readings.{reading_of}
 use Rattle.ix_tool.specs.CommandOutput.{TakesSheet, Takes}
 
 -- an extension and a datasheet

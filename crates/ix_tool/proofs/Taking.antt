@@ -1,18 +1,22 @@
 -- What the words behind the first of each command are read as, and that a command takes it.
-use Rattle.std.proofs.Common.{◌≡◌, ℕ, List, [], ◌∷◌, Option, Some, refl, ap, sym, ◌∙◌, subst}
+use Rattle.std.proofs.Common.{◌≡◌, ℕ, ◌≤◌, List, [], ◌∷◌, Option, Some, None, Bool, true, false, refl, ap, sym, ◌∙◌, subst}
+use Rattle.std.specs.Prelude.{nat_le, if◌then◌else◌}
+use Rattle.std.specs.Option.{option_and_then}
+use Rattle.std.proofs.lemmas.Bool.{leb-true}
 use Rattle.ix_io.specs.Shelf.{NamedFiles}
 use Rattle.ix_cert.specs.Certificates.{IsFaultless}
-use Rattle.ix_tool.specs.declared.command.Command.{Command}
-use Rattle.ix_tool.specs.declared.command.Command.TheVariants.{RunImage, Check, Certify, Schedule, Build, Sweep, Seq, Assemble, RunExtension}
-use Rattle.ix_tool.specs.declared.command.FileKind.TheVariants.{Image, Report, Extension, Sheet, PlainSheet, Source as source_kind, Waits}
-use Rattle.ix_tool.specs.Readings.{Reading, number_read, image_read, report_read, extension_read, sheet_read, source_read, waits_read}
+use Rattle.ix_words.specs.declared.command.Command.{Command}
+use Rattle.ix_words.specs.declared.command.Command.TheVariants.{RunImage, Check, Certify, Schedule, Build, Sweep, Seq, Assemble, RunExtension, Bench, Wave}
+use Rattle.ix_words.specs.declared.command.FileKind.TheVariants.{Image, Report, Extension, Sheet, PlainSheet, Source as source_kind, Waits}
+use Rattle.ix_words.specs.Readings.{Reading, number_read, image_read, report_read, extension_read, sheet_read, source_read, waits_read}
 use Rattle.rv_asm.specs.ImageText.{IsImageText}
 use Rattle.rv_asm.specs.WaitsText.{IsWaitsText}
 use Rattle.ix_extension.specs.Extensions.{ExtensionTree}
 use Rattle.ix_elab.specs.Elaborating.{Elaborates}
 use Rattle.ix_listing.proofs.OneExtension.{is_well_formed}
-use Rattle.ix_tool.specs.CommandLine.{slots_of, number_within}
-use Rattle.ix_tool.specs.CommandOutput.{IsReadAs, IsFile, AreRead, TakesSheet, TakesPipeline, Takes, IsSheetRead}
+use Rattle.ix_words.specs.CommandLine.{slots_of, number_of, at_most, number_within, most_number, most_drawn}
+use Rattle.ix_words.specs.WordsRead.{IsReadAs, IsFile, AreRead, IsSheetRead}
+use Rattle.ix_tool.specs.CommandOutput.{TakesSheet, TakesPipeline, TakesBench, Takes}
 use Rattle.ix_sheet.specs.declared.sheet.Sheet.{Sheet as Datasheet}
 use Rattle.ix_schedules.proofs.Named.{names_are}
 
@@ -348,6 +352,79 @@ pipeline_takes files rest vs h =
     let r = pipeline_read files rest vs h in
     subst TakesPipeline (sym r.values) (is_well_formed r.bytes r.extension r.elaborates, names_are r.bytes r.extension r.elaborates, r.sheet_is.valid)
 
+-- a number in its range is at most the greatest
+same_number : (m n : ℕ) → ◌≡◌ {A = Option ℕ} (Some m) (Some n) → m ≡ n
+same_number m n e = cc
+
+at_most_of : (most m n : ℕ) (b : Bool) → nat_le m most ≡ b → (if b then Some m else None) ≡ Some n → n ≤ most
+at_most_of most m n true p e = subst (λ k. k ≤ most) (same_number m n e) (leb-true m most p)
+at_most_of most m n false p e = absurd cc
+
+within_of : (most : ℕ) (o : Option ℕ) (n : ℕ) → option_and_then (at_most most) o ≡ Some n → n ≤ most
+within_of most None n e = absurd cc
+within_of most (Some m) n e = at_most_of most m n (nat_le m most) refl e
+
+pub record IsBenchRead (files : Option NamedFiles) (rest : List (List ℕ)) (vs : List Reading) : Type 0 where
+  pub name : List ℕ
+  pub other : List ℕ
+  pub third : List ℕ
+  pub fourth : List ℕ
+  pub bytes : List ℕ
+  pub extension : ExtensionTree
+  pub sheet_bytes : List ℕ
+  pub sheet : Datasheet
+  pub number : ℕ
+  pub count : ℕ
+  pub words : rest ≡ name ∷ other ∷ third ∷ fourth ∷ []
+  pub values : vs ≡ extension_read extension ∷ sheet_read sheet ∷ number_read number ∷ number_read count ∷ []
+  pub file : IsFile files name bytes
+  pub elaborates : Elaborates bytes extension
+  pub sheet_file : IsFile files other sheet_bytes
+  pub sheet_is : IsSheetRead sheet_bytes sheet
+  pub number_is : number_within most_number third ≡ Some number
+  pub count_is : number_within most_drawn fourth ≡ Some count
+
+pub bench_read : (files : Option NamedFiles) (rest : List (List ℕ)) (vs : List Reading) → AreRead files (slots_of Bench) rest vs → IsBenchRead files rest vs
+bench_read files [] vs h = absurd h
+bench_read files (a ∷ rest) [] h = absurd h
+bench_read files (a ∷ []) (v ∷ vs) h = absurd h.1
+bench_read files (a ∷ b ∷ rest) (v ∷ []) h = absurd h.1
+bench_read files (a ∷ b ∷ []) (v ∷ u ∷ vs) h = absurd h.1.1
+bench_read files (a ∷ b ∷ c ∷ rest) (v ∷ u ∷ []) h = absurd h.1.1
+bench_read files (a ∷ b ∷ c ∷ []) (v ∷ u ∷ w ∷ vs) h = absurd h.1.1.1
+bench_read files (a ∷ b ∷ c ∷ d ∷ rest) (v ∷ u ∷ w ∷ []) h = absurd h.1.1.1
+bench_read files (a ∷ b ∷ c ∷ d ∷ e ∷ rest) (v ∷ u ∷ w ∷ z ∷ vs) h = absurd h.1.1.1.1
+bench_read files (a ∷ b ∷ c ∷ d ∷ []) (v ∷ u ∷ w ∷ z ∷ y ∷ vs) h = absurd h.1.1.1.1
+bench_read files (a ∷ b ∷ c ∷ d ∷ []) (v ∷ u ∷ w ∷ z ∷ []) h =
+    let x = extension_in h.0.0 v h.0.2 in
+    let s = plain_sheet_in h.1.0.0 u h.1.0.2 in
+    record {
+      name = a;
+      other = b;
+      third = c;
+      fourth = d;
+      bytes = h.0.0;
+      extension = x.0;
+      sheet_bytes = h.1.0.0;
+      sheet = s.0;
+      number = h.1.1.0.0;
+      count = h.1.1.1.0.0;
+      words = refl;
+      values = ap (λ r. r ∷ u ∷ w ∷ z ∷ []) x.1 ∙ ap (λ r. extension_read x.0 ∷ r ∷ w ∷ z ∷ []) s.1 ∙ ap (λ r. extension_read x.0 ∷ sheet_read s.0 ∷ r ∷ z ∷ []) h.1.1.0.2
+          ∙ ap (λ r. extension_read x.0 ∷ sheet_read s.0 ∷ number_read h.1.1.0.0 ∷ r ∷ []) h.1.1.1.0.2;
+      file = h.0.1;
+      elaborates = x.2;
+      sheet_file = h.1.0.1;
+      sheet_is = s.2;
+      number_is = h.1.1.0.1;
+      count_is = h.1.1.1.0.1;
+    }
+
+bench_takes : (files : Option NamedFiles) (rest : List (List ℕ)) (vs : List Reading) → AreRead files (slots_of Bench) rest vs → TakesBench vs
+bench_takes files rest vs h =
+    let r = bench_read files rest vs h in
+    subst TakesBench (sym r.values) ((is_well_formed r.bytes r.extension r.elaborates, names_are r.bytes r.extension r.elaborates, r.sheet_is.valid), within_of most_drawn (number_of r.fourth) r.count r.count_is)
+
 sheet_takes : (files : Option NamedFiles) (rest : List (List ℕ)) (vs : List Reading) → AreRead files (slots_of Schedule) rest vs → TakesSheet vs
 sheet_takes files rest vs h =
     let r = schedule_is_read files rest vs h in
@@ -366,3 +443,5 @@ takes files Schedule rest vs h = sheet_takes files rest vs h
 takes files Build rest vs h = sheet_takes files rest vs h
 takes files Sweep rest vs h = sheet_takes files rest vs h
 takes files RunExtension rest vs h = pipeline_takes files rest vs h
+takes files Bench rest vs h = bench_takes files rest vs h
+takes files Wave rest vs h = pipeline_takes files rest vs h

@@ -1,23 +1,28 @@
 -- What a command answers and writes, from its words and the bytes of its files (this project's choice).
-use Rattle.std.specs.Prelude.{◌≡◌, ◌≢◌, IfSome, ℕ, true, false, ◌<◌, ◌≤◌, List, [], ◌∷◌, ◌++◌, length, Option, Some, None, codes, decimal, ◌⊎◌, string_bytes, Result, Ok, Err}
-use Rattle.ix_tool.specs.declared.status.Status.{Status}
-use Rattle.ix_tool.specs.declared.status.Status.TheVariants.{Ok as ok_status, Usage, ReadFault, WriteFault, TooLong, Extension as extension_status, Sheet as sheet_status, Image as image_status, NoSchedule, Certificate, Memory, Source, Waits as waits_status}
-use Rattle.ix_tool.specs.declared.command.Command.{Command}
-use Rattle.ix_tool.specs.declared.command.Command.TheVariants.{RunImage, Check, Certify, Schedule, Build, Sweep, Seq, Assemble, RunExtension}
-use Rattle.ix_tool.specs.declared.command.FileKind.{FileKind}
-use Rattle.ix_tool.specs.declared.command.FileKind.TheVariants.{Image, Report, Extension, Sheet, PlainSheet, Source as source_kind, Waits}
-use Rattle.ix_tool.specs.declared.command.Slot.{Slot}
-use Rattle.ix_tool.specs.declared.command.Slot.TheVariants.{Number, File}
-use Rattle.ix_tool.specs.declared.value.Value.{Value}
-use Rattle.ix_tool.specs.declared.value.Refusal.{Refusal}
-use Rattle.ix_tool.specs.declared.value.Refusal.TheVariants as refusal
+use Rattle.std.specs.Prelude.{◌≡◌, ◌≢◌, IfSome, ℕ, ◌+◌, ◌<◌, ◌≤◌, List, [], ◌∷◌, ◌++◌, length, Option, Some, None, codes, decimal, ◌⊎◌}
+use Rattle.ix_words.specs.declared.status.Status.{Status}
+use Rattle.ix_words.specs.declared.status.Status.TheVariants.{Ok as ok_status, Usage, ReadFault, WriteFault, TooLong, Extension as extension_status, NoSchedule, Memory, Source}
+use Rattle.ix_words.specs.declared.command.Command.{Command}
+use Rattle.ix_words.specs.declared.command.Command.TheVariants.{RunImage, Check, Certify, Schedule, Build, Sweep, Seq, Assemble, RunExtension, Bench, Wave}
+use Rattle.ix_words.specs.declared.command.RunForm.{RunForm}
+use Rattle.ix_words.specs.declared.command.RunForm.TheVariants.{Rows, Ports}
+use Rattle.ix_words.specs.declared.command.FileKind.{FileKind}
+use Rattle.ix_words.specs.declared.command.Slot.{Slot}
+use Rattle.ix_words.specs.declared.command.Slot.TheVariants.{Number, File}
 use Rattle.rv_plain.specs.Plain.{IsPlain}
+use Rattle.rv_trace.specs.declared.row.Row.{Row}
+use Rattle.rv_trace.specs.Trace.{newest}
+use Rattle.rv_lawful.specs.Headline.{Headline}
+use Rattle.rv_machine.specs.Running.{AreRows}
 use Rattle.rv_machine.specs.DesignText.{IsDesignText}
 use Rattle.rv_machine.specs.LawfulText.{IsLawfulText}
+use Rattle.rv_wave.specs.Waves.{IsDesignWave, IsLawfulWave}
+use Rattle.rv_bench.specs.DrawnImage.{drawn_image}
+use Rattle.rv_bench.specs.Summary.{summary_text}
 use Rattle.rv_text.specs.RunText.{run_text}
-use Rattle.rv_asm.specs.ImageText.{IsImageText, IsBadLine, image_text}
+use Rattle.rv_asm.specs.ImageText.{IsImageText, image_text}
 use Rattle.rv_asm.specs.Sources.{Assembles, IsRefusedAs}
-use Rattle.rv_asm.specs.WaitsText.{IsWaitsText, IsBadWait}
+use Rattle.rv_asm.specs.WaitsText.{IsWaitsText}
 use Rattle.rv_asm.specs.declared.source.AsmErr.{AsmErr}
 use Rattle.rv_asm.specs.declared.source.AsmErr.TheVariants as A
 use Rattle.ix_extension.specs.Extensions.{ExtensionTree, view_extension}
@@ -25,18 +30,12 @@ use Rattle.ix_plan.specs.declared.design.Design.{Design}
 use Rattle.ix_standing.specs.Standing.{Stands}
 use Rattle.ix_extension.specs.WellFormed.{IsOf}
 use Rattle.ix_tree.specs.TypedTrees.{TypedTextTree}
-use Rattle.ix_elab.specs.declared.error.FrontErr.{FrontErr}
 use Rattle.ix_elab.specs.Elaborating.{Elaborates}
-use Rattle.ix_elab.specs.Refusing.{IsRefused as IsRefusedExtension}
 use Rattle.ix_listing.specs.Listing.{listing_text}
-use Rattle.ix_listing.specs.RefusalLine.{refusal_line}
-use Rattle.ix_tool.specs.Readings.{Reading, number_read, image_read, report_read, extension_read, sheet_read, source_read, waits_read, reading_of}
-use Rattle.ix_tool.specs.CommandLine.{RunCommand, SeqCommand, AsmCommand, ScheduleCommand, BuildCommand, SweepCommand, PipelineCommand, run_of, report_of, command_of, slots_of, behind, number_within}
+use Rattle.ix_words.specs.Readings.{Reading, number_read, image_read, report_read, extension_read, sheet_read, source_read, waits_read}
+use Rattle.ix_words.specs.CommandLine.{RunCommand, SeqCommand, AsmCommand, ScheduleCommand, BuildCommand, SweepCommand, PipelineCommand, BenchCommand, most_drawn, run_of, report_of, command_of, slots_of, behind}
 use Rattle.ix_sheet.specs.declared.sheet.Sheet.{Sheet as Datasheet}
-use Rattle.ix_sheet.specs.declared.sheet.SheetErr.{SheetErr}
-use Rattle.ix_sheet.specs.declared.sheet.SheetErr.TheVariants as S
 use Rattle.ix_sheet.specs.Sheets.{IsValidSheet}
-use Rattle.ix_sheet.specs.Datasheets.{IsSheetOf, IsRefusalOf as IsRefusedSheet}
 use Rattle.ix_schedules.specs.declared.text.TextErr.{TextErr}
 use Rattle.ix_schedules.specs.declared.text.TextErr.TheVariants as T
 use Rattle.ix_schedules.specs.Scheduling.{behaviours_of, AreNamed}
@@ -45,13 +44,12 @@ use Rattle.ix_modules.specs.Modules.{IsModulesText}
 use Rattle.ix_sweeps.specs.declared.sweeping.SweepErr.TheVariants as W
 use Rattle.ix_sweeps.specs.Sweeping.{IsFirstLarge}
 use Rattle.ix_sweeps.specs.SweepText.{IsSweepText}
-use Rattle.ix_cert.specs.declared.report.CertErr.{CertErr}
-use Rattle.ix_cert.specs.Certificates.{IsCertifiedText, IsFaultless, IsRefused as IsRefusedReport}
-use Rattle.ix_cert.specs.Words.{line_number, kind_word}
+use Rattle.ix_cert.specs.Certificates.{IsCertifiedText, IsFaultless}
 use Rattle.ix_io.specs.Faults.{Rose}
 use Rattle.ix_io.specs.Limits.{most_bytes}
 use Rattle.ix_io.specs.Shelf.{NamedFiles, told_file}
 use Rattle.ix_io.specs.Sink.{Appends, AppendsFront}
+use Rattle.ix_words.specs.WordsRead.{file_line, IsSheetRead, IsRefusedText, refusal_status, IsFile, AreRead, IsFirstRefused, RoseIn, IsFileOf}
 
 -- ---- the texts of outputs and of refusals
 -- the text of a run on the core of three stages: that of an extension without sections, over a memory that never waits
@@ -66,16 +64,26 @@ pub record IsLawfulPlainRun (image : List ℕ) (cycles : ℕ) (text : List ℕ) 
   pub plain : IsPlain design
   pub runs : IsLawfulText design image [] cycles text
 
--- the text of a run on the core of a datasheet with an extension: a design stands for both, and the rows are those of its machine over this image, whose memory
--- has these waits
-pub record IsExtensionRun (x : ExtensionTree) (sheet : Datasheet) (image waits : List ℕ) (cycles : ℕ) (text : List ℕ) : Type 0 where
+-- the command that writes a run in this form
+abbrev pub command_in : RunForm → Command
+command_in Rows = RunExtension
+command_in Ports = Wave
+
+-- the text of a run of the machine of a design in this form
+abbrev pub IsDesignOutput : RunForm → Design → List ℕ → List ℕ → ℕ → List ℕ → Type 0
+IsDesignOutput Rows design image waits cycles text = IsDesignText (record { design = design; image = image; waits = waits }) cycles text
+IsDesignOutput Ports design image waits cycles text = IsDesignWave design image waits cycles text
+
+-- the text of a run in this form on the core of a datasheet with an extension: a design stands for both, and the rows are those of its machine over this image, whose
+-- memory has these waits
+pub record IsExtensionRun (form : RunForm) (x : ExtensionTree) (sheet : Datasheet) (image waits : List ℕ) (cycles : ℕ) (text : List ℕ) : Type 0 where
   pub design : Design
   pub stands : Stands design
   pub extension_is : view_extension design.extension ≡ x
   pub sheet_is : design.sheet ≡ sheet
-  pub runs : IsDesignText (record { design = design; image = image; waits = waits }) cycles text
+  pub runs : IsDesignOutput form design image waits cycles text
 
--- what that text shows: these rows are lawful, what they retire is a prefix of the run one instruction at a time, with its states and its stop, and they go on
+-- what the text of rows shows: these are lawful, what they retire is a prefix of the run one instruction at a time, with its states and its stop, and they go on
 pub record IsLawfulRun (x : ExtensionTree) (sheet : Datasheet) (image waits : List ℕ) (cycles : ℕ) (text : List ℕ) : Type 0 where
   pub design : Design
   pub stands : Stands design
@@ -83,21 +91,49 @@ pub record IsLawfulRun (x : ExtensionTree) (sheet : Datasheet) (image waits : Li
   pub sheet_is : design.sheet ≡ sheet
   pub runs : IsLawfulText design image waits cycles text
 
--- a refusal that names a file
-abbrev pub file_line : List ℕ → List ℕ → List ℕ
-file_line kind name = codes "refused " ++ kind ++ codes " " ++ name ++ codes "\n"
+-- what a dump shows: its rows are such, and in each the ports of a module show the values of one run of its net, which the rows drive
+pub record IsLawfulWaveRun (x : ExtensionTree) (sheet : Datasheet) (image waits : List ℕ) (cycles : ℕ) (text : List ℕ) : Type 0 where
+  pub design : Design
+  pub stands : Stands design
+  pub extension_is : view_extension design.extension ≡ x
+  pub sheet_is : design.sheet ≡ sheet
+  pub runs : IsLawfulWave design image waits cycles text
 
--- a refusal that names a line of the image
-abbrev pub image_line : ℕ → List ℕ
-image_line number = codes "refused Image " ++ decimal number ++ codes "\n"
+-- so many rows a drawn image runs for, or fewer where one has a stop
+abbrev pub most_rows : ℕ
+most_rows = 200000
 
--- a refusal that names a number of a list of waits, from 0
-abbrev pub waits_line : ℕ → List ℕ
-waits_line number = codes "refused Waits " ++ decimal number ++ codes "\n"
+-- the summary of the run of a drawn image on the core and with the extension of a design: its rows are those of the design's machine over this image, whose memory never waits
+pub record IsDesignSummary (design : Design) (number count : ℕ) (text : List ℕ) : Type 0 where
+  pub rows : List Row
+  pub are_rows : AreRows (record { design = design; image = drawn_image (view_extension design.extension) number count; waits = [] }) rows
+  pub few : length rows ≤ most_rows
+  pub whole : (newest rows).stop ≡ None → length rows ≡ most_rows
+  pub text_is : text ≡ summary_text (count + 2) rows
 
--- a refusal of a report, which names its line and what fails there
-abbrev pub certificate_line : CertErr → List ℕ
-certificate_line e = codes "refused Certificate " ++ decimal (line_number e) ++ codes " " ++ kind_word e ++ codes "\n"
+-- what that summary shows: it counts rows which are lawful; what they retire is a prefix of the run one instruction at a time, with its states and its stop, and they go on
+pub record IsLawfulSummary (design : Design) (number count : ℕ) (text : List ℕ) : Type 0 where
+  pub rows : List Row
+  pub headline : Headline design (drawn_image (view_extension design.extension) number count) [] rows
+  pub few : length rows ≤ most_rows
+  pub whole : (newest rows).stop ≡ None → length rows ≡ most_rows
+  pub text_is : text ≡ summary_text (count + 2) rows
+
+-- the summary of a drawn run on the core of a datasheet with an extension: a design stands for both
+pub record IsDrawnRun (x : ExtensionTree) (sheet : Datasheet) (number count : ℕ) (text : List ℕ) : Type 0 where
+  pub design : Design
+  pub stands : Stands design
+  pub extension_is : view_extension design.extension ≡ x
+  pub sheet_is : design.sheet ≡ sheet
+  pub runs : IsDesignSummary design number count text
+
+-- what that summary shows
+pub record IsLawfulDrawnRun (x : ExtensionTree) (sheet : Datasheet) (number count : ℕ) (text : List ℕ) : Type 0 where
+  pub design : Design
+  pub stands : Stands design
+  pub extension_is : view_extension design.extension ≡ x
+  pub sheet_is : design.sheet ≡ sheet
+  pub runs : IsLawfulSummary design number count text
 
 -- a refusal of a source, which names what fails and its line
 abbrev pub source_text : List ℕ → ℕ → List ℕ
@@ -110,114 +146,24 @@ source_line (A.Reach at) = source_text (codes "Reach") at
 source_line (A.Size at) = source_text (codes "Size") at
 source_line A.Memory = []
 
--- a refusal of a datasheet, which names the rule and the key; `-` where there is none
-abbrev pub sheet_text : List ℕ → List ℕ → List ℕ
-sheet_text kind name = codes "refused Sheet " ++ kind ++ codes " " ++ name ++ codes "\n"
-
-abbrev pub sheet_line : SheetErr → List ℕ
-sheet_line S.Utf8 = sheet_text (codes "Utf8") (codes "-")
-sheet_line S.Toml = sheet_text (codes "Toml") (codes "-")
-sheet_line (S.Key name) = sheet_text (codes "Key") name
-sheet_line (S.Kind name) = sheet_text (codes "Kind") name
-sheet_line S.Core = sheet_text (codes "Core") (codes "core")
-sheet_line (S.Window name) = sheet_text (codes "Window") name
-sheet_line (S.Number name) = sheet_text (codes "Number") name
-sheet_line S.Memory = []
-
--- ---- what judges a file
--- the datasheet of the text, which is valid, with a delay for each kind and a window for each of the ten first
-pub record IsSheetRead (bytes : List ℕ) (sheet : Datasheet) : Type 0 where
-  pub sheet_is : IsSheetOf bytes sheet
-  pub valid : IsValidSheet sheet
-  pub delays : length sheet.delay ≡ 34
-  pub windows : length sheet.window ≡ 10
-
--- the text is that of a datasheet whose core forwards, for which no pipeline is built yet
-pub record IsForwarding (bytes line : List ℕ) : Type 0 where
-  pub sheet : Datasheet
-  pub read : IsSheetRead bytes sheet
-  pub forwards : sheet.shape.forward ≡ true
-  pub line_is : line ≡ sheet_line S.Core
-
--- the text of a file of this kind is refused with this line
-abbrev pub IsRefusedText : FileKind → List ℕ → List ℕ → Type 0
-IsRefusedText Image bytes line = (number : ℕ) × IsBadLine bytes number × (line ≡ image_line number)
-IsRefusedText Report bytes line = (e : CertErr) × IsRefusedReport bytes e × (line ≡ certificate_line e)
-IsRefusedText Extension bytes line = (e : FrontErr) × IsRefusedExtension bytes e × (line ≡ refusal_line e)
-IsRefusedText Waits bytes line = (number : ℕ) × IsBadWait bytes number × (line ≡ waits_line number)
-IsRefusedText Sheet bytes line = (e : SheetErr) × IsRefusedSheet bytes e × (line ≡ sheet_line e)
-IsRefusedText PlainSheet bytes line = ((e : SheetErr) × IsRefusedSheet bytes e × (line ≡ sheet_line e)) ⊎ IsForwarding bytes line
-IsRefusedText source_kind bytes line = ⊥
-
--- the status of that refusal
-abbrev pub refusal_status : FileKind → Status
-refusal_status Image = image_status
-refusal_status Report = Certificate
-refusal_status Extension = extension_status
-refusal_status Waits = waits_status
-refusal_status Sheet = sheet_status
-refusal_status PlainSheet = sheet_status
-refusal_status source_kind = Source
-
--- the text of a file of this kind is read as this value
-abbrev pub IsReadAs : FileKind → List ℕ → Reading → Type 0
-IsReadAs Image bytes (image_read image) = IsImageText bytes image
-IsReadAs Image bytes v = ⊥
-IsReadAs Report bytes report_read = IsFaultless bytes
-IsReadAs Report bytes v = ⊥
-IsReadAs Extension bytes (extension_read x) = Elaborates bytes x
-IsReadAs Extension bytes v = ⊥
-IsReadAs Waits bytes (waits_read waits) = IsWaitsText bytes waits
-IsReadAs Waits bytes v = ⊥
-IsReadAs Sheet bytes (sheet_read sheet) = IsSheetRead bytes sheet
-IsReadAs Sheet bytes v = ⊥
-IsReadAs PlainSheet bytes (sheet_read sheet) = IsSheetRead bytes sheet × (sheet.shape.forward ≡ false)
-IsReadAs PlainSheet bytes v = ⊥
-IsReadAs source_kind bytes (source_read text) = text ≡ bytes
-IsReadAs source_kind bytes v = ⊥
-
--- ---- the words behind the first, in order: each file is read whole and judged before the next is read
--- the bytes of a file that was read whole: those that are told, or some where nothing is told
-pub record IsFile (files : Option NamedFiles) (name bytes : List ℕ) : Type 0 where
-  pub told : IfSome (told_file files name) (λ file. bytes ≡ file)
-  pub within : length bytes ≤ most_bytes
-
--- the word in this place stands for this value
-abbrev pub IsRead : Option NamedFiles → Slot → List ℕ → Reading → Type 0
-IsRead files (Number most) word v = (n : ℕ) × (number_within most word ≡ Some n) × (v ≡ number_read n)
-IsRead files (File kind) word v = (bytes : List ℕ) × IsFile files word bytes × IsReadAs kind bytes v
-
--- each of the words does
-abbrev pub AreRead : Option NamedFiles → List Slot → List (List ℕ) → List Reading → Type 0
-AreRead files [] [] [] = Unit {0}
-AreRead files (slot ∷ slots) (word ∷ words) (v ∷ values) = IsRead files slot word v × AreRead files slots words values
-AreRead files slots words values = ⊥
-
--- the file is refused with this status and line: its count of faults rose, it is too long, or its text is refused
-pub data IsRefusedFile (files : Option NamedFiles) (Rises : List ℕ → Type 0) (kind : FileKind) (name : List ℕ) : Status → List ℕ → Type 0 where
-  not_read : Rises name → IsRefusedFile files Rises kind name ReadFault (file_line (codes "ReadFault") name)
-  too_long : IfSome (told_file files name) (λ file. most_bytes < length file) → IsRefusedFile files Rises kind name TooLong (file_line (codes "TooLong") name)
-  bad_text : (bytes line : List ℕ) → IsFile files name bytes → IsRefusedText kind bytes line → IsRefusedFile files Rises kind name (refusal_status kind) line
-
--- a word behind the first names a file of which this is so, and the words before it are read
-abbrev pub AtFile : Option NamedFiles → (FileKind → List ℕ → Type 0) → List Slot → List (List ℕ) → Type 0
-AtFile files P (Number most ∷ slots) (word ∷ words) = AtFile files P slots words
-AtFile files P (File kind ∷ slots) (word ∷ words) = P kind word ⊎ ((v : Reading) × IsRead files (File kind) word v × AtFile files P slots words)
-AtFile files P slots words = ⊥
-
--- the first file that is refused is refused with this status and line
-abbrev pub IsFirstRefused : Option NamedFiles → (List ℕ → Type 0) → List Slot → List (List ℕ) → Status → List ℕ → Type 0
-IsFirstRefused files Rises slots words status line = AtFile files (λ kind name. IsRefusedFile files Rises kind name status line) slots words
-
--- the values are an extension, a datasheet, an image, the waits of a memory and a count of cycles, and the text is that of their run
-pub record IsPipelineOutput (values : List Reading) (text : List ℕ) : Type 0 where
+-- the values are an extension, a datasheet, an image, the waits of a memory and a count of cycles, and the text is that of their run in this form
+pub record IsPipelineOutput (form : RunForm) (values : List Reading) (text : List ℕ) : Type 0 where
   pub extension : ExtensionTree
   pub sheet : Datasheet
   pub image : List ℕ
   pub waits : List ℕ
   pub cycles : ℕ
   pub values_are : values ≡ extension_read extension ∷ sheet_read sheet ∷ image_read image ∷ waits_read waits ∷ number_read cycles ∷ []
-  pub runs : IsExtensionRun extension sheet image waits cycles text
+  pub runs : IsExtensionRun form extension sheet image waits cycles text
+
+-- the values are an extension, a datasheet and two numbers, and the text is the summary of their drawn run
+pub record IsBenchOutput (values : List Reading) (text : List ℕ) : Type 0 where
+  pub extension : ExtensionTree
+  pub sheet : Datasheet
+  pub number : ℕ
+  pub count : ℕ
+  pub values_are : values ≡ extension_read extension ∷ sheet_read sheet ∷ number_read number ∷ number_read count ∷ []
+  pub runs : IsDrawnRun extension sheet number count text
 
 -- ---- what a command answers where all its words are read
 -- the bytes due
@@ -230,7 +176,9 @@ IsOutput Seq (extension_read x ∷ image_read image ∷ number_read steps ∷ []
 IsOutput Schedule (extension_read x ∷ sheet_read sheet ∷ []) text = IsScheduleText x sheet text
 IsOutput Build (extension_read x ∷ sheet_read sheet ∷ []) text = IsModulesText x sheet text
 IsOutput Sweep (extension_read x ∷ sheet_read sheet ∷ []) text = IsSweepText x sheet text
-IsOutput RunExtension values text = IsPipelineOutput values text
+IsOutput RunExtension values text = IsPipelineOutput Rows values text
+IsOutput Bench values text = IsBenchOutput values text
+IsOutput Wave values text = IsPipelineOutput Ports values text
 IsOutput command values text = ⊥
 
 -- a refusal of a source with the extension before it
@@ -256,6 +204,8 @@ abbrev pub Schedules : Command → Type 0
 Schedules Schedule = Unit {0}
 Schedules Build = Unit {0}
 Schedules RunExtension = Unit {0}
+Schedules Bench = Unit {0}
+Schedules Wave = Unit {0}
 Schedules command = ⊥
 
 -- a refusal of the first behaviour of an extension that is not scheduled on the core of the datasheet
@@ -305,37 +255,9 @@ Outcome files Rises words before now faults faults_now result =
     ((command_of words ≢ None) × (result ≡ Memory) × (now ≡ before))
     ⊎ ((status : Status) × (bytes : List ℕ) × IsDue files Rises words status bytes × Writes status bytes before now faults faults_now result)
 
--- the count of faults of a name rose in the call
-abbrev pub RoseIn : (List ℕ → ℕ) → (List ℕ → ℕ) → List ℕ → Type 0
-RoseIn counts counts_now name = Rose (counts name) (counts_now name)
-
 -- no count of faults does
 abbrev pub NoneRises : List ℕ → Type 0
 NoneRises name = ⊥
-
--- ---- what the parts of the tool answer
--- a refusal is this line with this status, or want of memory
-abbrev pub Refuses : Status → List ℕ → Refusal → Type 0
-Refuses status line refusal.Memory = Unit {0}
-Refuses status line (refusal.Line told text) = (told ≡ status) × (string_bytes text ≡ line)
-
--- a file's text is read as the value, or refused
-abbrev pub Judged : FileKind → List ℕ → Result Value Refusal → Type 0
-Judged kind bytes (Ok v) = IsReadAs kind bytes (reading_of v)
-Judged kind bytes (Err refusal.Memory) = Unit {0}
-Judged kind bytes (Err (refusal.Line status text)) = (status ≡ refusal_status kind) × IsRefusedText kind bytes (string_bytes text)
-
--- a word is read as a value, or the file that it names is refused
-abbrev pub WordRead : Option NamedFiles → (List ℕ → Type 0) → Slot → List ℕ → Result Value Refusal → Type 0
-WordRead files Rises slot word (Ok v) = IsRead files slot word (reading_of v)
-WordRead files Rises slot word (Err refusal.Memory) = Unit {0}
-WordRead files Rises (Number most) word (Err (refusal.Line status text)) = ⊥
-WordRead files Rises (File kind) word (Err (refusal.Line status text)) = IsRefusedFile files Rises kind word status (string_bytes text)
-
--- the first of the words that is refused, or that all are read
-abbrev pub WordsRefused : Option NamedFiles → (List ℕ → Type 0) → List Slot → List (List ℕ) → Refusal → Type 0
-WordsRefused files Rises slots words refusal.Memory = Unit {0}
-WordsRefused files Rises slots words (refusal.Line status text) = IsFirstRefused files Rises slots words status (string_bytes text)
 
 -- the values are a well-formed extension, whose behaviours have names of the language, and a datasheet
 abbrev pub TakesSheet : List Reading → Type 0
@@ -346,6 +268,11 @@ TakesSheet values = ⊥
 abbrev pub TakesPipeline : List Reading → Type 0
 TakesPipeline (extension_read x ∷ sheet_read sheet ∷ image_read image ∷ waits_read waits ∷ number_read cycles ∷ []) = TakesSheet (extension_read x ∷ sheet_read sheet ∷ [])
 TakesPipeline values = ⊥
+
+-- or a number and a count of drawn words
+abbrev pub TakesBench : List Reading → Type 0
+TakesBench (extension_read x ∷ sheet_read sheet ∷ number_read number ∷ number_read count ∷ []) = TakesSheet (extension_read x ∷ sheet_read sheet ∷ []) × (count ≤ most_drawn)
+TakesBench values = ⊥
 
 -- the values are those that the command takes
 abbrev pub Takes : Command → List Reading → Type 0
@@ -358,6 +285,8 @@ Takes Schedule values = TakesSheet values
 Takes Build values = TakesSheet values
 Takes Sweep values = TakesSheet values
 Takes RunExtension values = TakesPipeline values
+Takes Bench values = TakesBench values
+Takes Wave values = TakesPipeline values
 Takes command values = ⊥
 
 -- what a command with these values did
@@ -393,10 +322,6 @@ told_report files words = report_named files (report_of words)
 -- the words are no command, and the refusal was written
 abbrev pub UsageAnswer : List (List ℕ) → Option (List ℕ) → Option (List ℕ) → Type 0
 UsageAnswer words before now = (command_of words ≡ None) × Appends before now (codes "refused Usage\n")
-
--- a word behind the first names this file of this kind, and the words before it are read
-abbrev pub IsFileOf : Option NamedFiles → FileKind → List ℕ → List Slot → List (List ℕ) → Type 0
-IsFileOf files kind name slots words = AtFile files (λ found word. (found ≡ kind) × (word ≡ name)) slots words
 
 -- the count of one of the command's files rose in this call, and the refusal that names it was written
 pub record ReadFaultAnswer (files : Option NamedFiles) (words : List (List ℕ)) (counts counts_now : List ℕ → ℕ) (before now : Option (List ℕ)) : Type 0 where
@@ -627,6 +552,47 @@ pub record PipelineAnswer (files : Option NamedFiles) (command : PipelineCommand
   pub waits_file : IsFile files command.waits waits_bytes
   pub waits_read : IsWaitsText waits_bytes waits
   pub runs : IsLawfulRun extension sheet image waits command.cycles text
+  pub written : Appends before now text
+
+-- The files are the texts of this extension, which is well formed, of this datasheet, of this image, and of these waits. A design
+-- stands for the extension and the datasheet, and the dump of what the ports of its modules show was written whole, in rows of which
+-- the headline holds.
+pub record WaveAnswer (files : Option NamedFiles) (command : PipelineCommand) (before now : Option (List ℕ)) : Type 0 where
+  pub bytes : List ℕ
+  pub extension : ExtensionTree
+  pub sheet_bytes : List ℕ
+  pub sheet : Datasheet
+  pub program : List ℕ
+  pub image : List ℕ
+  pub waits_bytes : List ℕ
+  pub waits : List ℕ
+  pub text : List ℕ
+  pub file : IsFile files command.extension bytes
+  pub elaborates : Elaborates bytes extension
+  pub well_formed : (typed : TypedTextTree) × IsOf typed extension
+  pub sheet_file : IsFile files command.sheet sheet_bytes
+  pub sheet_read : IsSheetRead sheet_bytes sheet
+  pub image_file : IsFile files command.image program
+  pub image_read : IsImageText program image
+  pub waits_file : IsFile files command.waits waits_bytes
+  pub waits_read : IsWaitsText waits_bytes waits
+  pub runs : IsLawfulWaveRun extension sheet image waits command.cycles text
+  pub written : Appends before now text
+
+-- The files are the texts of this extension, which is well formed, and of this datasheet. A design stands for both, and the summary of lawful rows of the image that is drawn
+-- from the number was written whole.
+pub record BenchAnswer (files : Option NamedFiles) (command : BenchCommand) (before now : Option (List ℕ)) : Type 0 where
+  pub bytes : List ℕ
+  pub extension : ExtensionTree
+  pub sheet_bytes : List ℕ
+  pub sheet : Datasheet
+  pub text : List ℕ
+  pub file : IsFile files command.extension bytes
+  pub elaborates : Elaborates bytes extension
+  pub well_formed : (typed : TypedTextTree) × IsOf typed extension
+  pub sheet_file : IsFile files command.sheet sheet_bytes
+  pub sheet_read : IsSheetRead sheet_bytes sheet
+  pub runs : IsLawfulDrawnRun extension sheet command.number command.count text
   pub written : Appends before now text
 
 -- the status that is due, or an answer that every other yields to

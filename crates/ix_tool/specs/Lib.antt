@@ -1,4 +1,1 @@
-pub mod Codes
-pub mod CommandLine
-pub mod Readings
 pub mod CommandOutput

@@ -2,15 +2,15 @@ ghost use Rattle.std.specs.Prelude.{◌≡◌, ◌∷◌, [], ◌≤◌, length,
 ghost use Rattle.ix_io.specs.Limits.{most_bytes};
 ghost use Rattle.ix_extension.specs.Extensions.{view_extension};
 ghost use Rattle.rv_asm.specs.ImageText.{image_text};
-ghost use Rattle.ix_tool.specs.declared.command.Command.{Command as TheCommand};
-ghost use Rattle.ix_tool.specs.Readings.{extension_read, source_read};
+ghost use Rattle.ix_words.specs.declared.command.Command.{Command as TheCommand};
+ghost use Rattle.ix_words.specs.Readings.{extension_read, source_read};
 ghost use Rattle.ix_tool.specs.CommandOutput.{Writes, Answered, source_text};
 
-use crate::status::Status;
 use crate::tool::finish;
 use ix_bits::List;
 use ix_io::Sink;
 use ix_tree::Extension;
+use ix_words::status::Status;
 use rv_asm::{AsmErr, assemble, print_image};
 use rv_isa::Image;
 use std::alloc::Global;

@@ -2,12 +2,10 @@
 #![tactic(auto)]
 
 pub mod assembling;
+mod benching;
 pub mod building;
-pub mod command;
 mod running;
 mod scheduling;
-pub mod status;
 pub mod sure;
 mod sweeping;
 pub mod tool;
-pub mod value;

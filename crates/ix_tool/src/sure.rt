@@ -1,8 +1,8 @@
 ghost use Rattle.std.specs.Prelude.{◌≢◌};
 
-use crate::status::Status;
 use crate::tool::run_tool;
 use ix_io::{SureShelf, SureSink};
+use ix_words::status::Status;
 use std::alloc::Global;
 
 /// Runs a command where no count can rise: no fault is answered.

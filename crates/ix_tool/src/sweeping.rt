@@ -3,16 +3,16 @@ ghost use Rattle.ix_extension.specs.Extensions.{view_extension};
 ghost use Rattle.ix_extension.specs.WellFormed.{IsWellFormed};
 ghost use Rattle.ix_sheet.specs.Sheets.{IsValidSheet};
 ghost use Rattle.ix_schedules.specs.Scheduling.{AreNamed};
-ghost use Rattle.ix_tool.specs.declared.command.Command.{Command as TheCommand};
-ghost use Rattle.ix_tool.specs.Readings.{extension_read, sheet_read};
+ghost use Rattle.ix_words.specs.declared.command.Command.{Command as TheCommand};
+ghost use Rattle.ix_words.specs.Readings.{extension_read, sheet_read};
 ghost use Rattle.ix_tool.specs.CommandOutput.{Answered};
 
-use crate::status::Status;
 use crate::tool::finish;
 use ix_io::Sink;
 use ix_sheet::Sheet;
 use ix_sweeps::{SweepErr, sweep_text};
 use ix_tree::Extension;
+use ix_words::status::Status;
 use std::alloc::Global;
 
 /// Writes the sweep of an extension on the core of a datasheet, or the refusal of its first behaviour that has too many operations.

@@ -1,30 +1,34 @@
 ghost use Rattle.std.specs.Prelude.{◌≡◌, ◌≢◌, ℕ, List, map, Some, None, ◌⊎◌};
-ghost use Rattle.ix_tool.specs.declared.status.Status.{Status};
-ghost use Rattle.ix_tool.specs.declared.command.Command.{Command as TheCommand};
-ghost use Rattle.ix_tool.specs.CommandLine.{SeqCommand, AsmCommand, ScheduleCommand, BuildCommand, SweepCommand, PipelineCommand, command_of as specified_command_of, extension_of, report_of, seq_of, source_of, schedule_of, build_of, sweep_of, pipeline_of, bytes_of};
+ghost use Rattle.ix_words.specs.declared.status.Status.{Status};
+ghost use Rattle.ix_words.specs.declared.command.Command.{Command as TheCommand};
+ghost use Rattle.ix_words.specs.CommandLine.{SeqCommand, AsmCommand, ScheduleCommand, BuildCommand, SweepCommand, PipelineCommand, BenchCommand, command_of as specified_command_of, extension_of, report_of, seq_of, source_of, schedule_of, build_of, sweep_of, pipeline_of, bench_of, wave_of, bytes_of};
 ghost use Rattle.ix_extension.specs.Extensions.{view_extension};
 ghost use Rattle.ix_extension.specs.WellFormed.{IsWellFormed};
 ghost use Rattle.ix_listing.specs.Listing.{listing_text};
 ghost use Rattle.rv_text.specs.RunText.{run_text};
-ghost use Rattle.ix_tool.specs.Readings.{Reading, reading_of};
-ghost use Rattle.ix_tool.specs.CommandOutput.{IsRunOutput, Writes, Takes, Answered, Outcome, RoseIn, NoneRises, IsDue, UsageAnswer, ReadFaultAnswer, WriteFaultAnswer, TooLongAnswer, TextAnswer, OutputAnswer, RunAnswer, ListedAnswer, CertifiedAnswer, SteppedAnswer, AssembledAnswer, SourceAnswer, ScheduledAnswer, ModulesAnswer, SweptAnswer, NoScheduleAnswer, ExtensionAnswer, PipelineAnswer, IsStatusOr, Premises, Completes, told_of};
+ghost use Rattle.ix_words.specs.Readings.{Reading, reading_of};
+ghost use Rattle.ix_words.specs.WordsRead.{RoseIn};
+ghost use Rattle.ix_tool.specs.CommandOutput.{IsRunOutput, Writes, Takes, Answered, Outcome, NoneRises, IsDue, UsageAnswer, ReadFaultAnswer, WriteFaultAnswer, TooLongAnswer, TextAnswer, OutputAnswer, RunAnswer, ListedAnswer, CertifiedAnswer, SteppedAnswer, AssembledAnswer, SourceAnswer, ScheduledAnswer, ModulesAnswer, SweptAnswer, NoScheduleAnswer, ExtensionAnswer, PipelineAnswer, BenchAnswer, WaveAnswer, IsStatusOr, Premises, Completes, told_of};
 
 use crate::assembling::assemble_source;
+use crate::benching::answer_bench;
 use crate::building::build_extension;
-use crate::command::{Command, command_of};
 use crate::running::{answer_run, run_design};
 use crate::scheduling::schedule_extension;
-use crate::status::Status;
 use crate::sweeping::sweep_extension;
-use crate::value::{Refusal, Value, read_words};
 use ix_io::{Shelf, Sink, write_all};
 use ix_listing::listing;
 use ix_tree::Extension;
+use ix_words::command::{Command, RunForm, command_of};
+use ix_words::status::Status;
+use ix_words::value::{Refusal, Value, read_words};
+use rv_bench::drawn_laws;
 use rv_isa::Image;
 use rv_machine::rows_laws;
 use rv_plain::plain_design;
 use rv_text::{RunErr, write_run};
 use rv_waits::Waits;
+use rv_wave::wave_laws;
 use std::alloc::Global;
 
 /// Writes these bytes and answers the status, or that they could not be written.
@@ -55,7 +59,7 @@ fn run_image<S: Sink>(alloc: Global, image: &Image, cycles: u32, sink: &mut S) -
 {
     let waits = Waits::new(alloc);
     match plain_design(alloc) {
-        Ok(design) => run_design(alloc, &design, image, &waits, cycles, sink),
+        Ok(design) => run_design(alloc, RunForm::Rows, &design, image, &waits, cycles, sink),
         Err(_) => Status::Memory,
     }
 }
@@ -133,9 +137,11 @@ fn answer_sweep<S: Sink>(alloc: Global, values: &[Value], sink: &mut S) -> Statu
     }
 }
 
-/// Writes what is due of the values of a command, but of a run with an extension.
+/// Writes what is due of the values of a command, but of those that run with an extension.
 fn answer_read<S: Sink>(alloc: Global, command: Command, values: &[Value], sink: &mut S) -> Status
     requires reads { command ≢ Command.RunExtension }
+    requires draws_nothing { command ≢ Command.Bench }
+    requires shows_no_ports { command ≢ Command.Wave }
     requires takes { Takes command (map reading_of values.now) }
     ensures { Answered command (map reading_of values.now) (S.written sink.old) (S.written sink.new) (S.faults sink.old) (S.faults sink.new) result }
 {
@@ -162,7 +168,9 @@ fn answer<S: Sink>(alloc: Global, command: Command, values: Vec<Value>, sink: &m
     ensures { Answered command (map reading_of values.items) (S.written sink.old) (S.written sink.new) (S.faults sink.old) (S.faults sink.new) result }
 {
     match command {
-        Command::RunExtension => answer_run(alloc, values, sink),
+        Command::RunExtension => answer_run(alloc, RunForm::Rows, values, sink),
+        Command::Wave => answer_run(alloc, RunForm::Ports, values, sink),
+        Command::Bench => answer_bench(alloc, values, sink),
         _ => answer_read(alloc, command, values.as_slice(), sink),
     }
 }
@@ -194,7 +202,8 @@ fn run_words<F: Shelf, S: Sink>(
 /// fault. `seq EXT IMAGE STEPS` writes the run of an image one instruction at a time, at most 200,000 of them, on a core with an extension. `asm EXT SOURCE` writes the image of a source with the instructions of an extension.
 /// `schedule EXT SHEET` writes the report of an extension's behaviours on the core of a datasheet, `build EXT SHEET` the Verilog text of their modules, `sweep EXT SHEET` the least period of each of them with the
 /// reports that show it. `run EXT SHEET IMAGE WAITS CYCLES` writes the trace
-/// and the state of a run on the core of a datasheet with an extension, over a memory with a list of waits of at most 65,536 numbers. The files are read whole and judged one after another, in the order of the words. A refusal writes its one line
+/// and the state of a run on the core of a datasheet with an extension, over a memory with a list of waits of at most 65,536 numbers. `bench EXT SHEET NUMBER COUNT` draws an image
+/// of at most 10,000 words from a number, runs it there for at most 200,000 cycles, and writes how many words, rows, retirements and outstanding writes there were, and the stop. `wave EXT SHEET IMAGE WAITS CYCLES` writes what the ports of the modules show in each row of the run that `run` writes with these words, as a value change dump. The files are read whole and judged one after another, in the order of the words. A refusal writes its one line
 /// alone, but that a behaviour without a schedule is named and then reported; want of memory writes nothing, and comes before the first cycle.
 pub fn run_tool<F: Shelf, S: Sink>(
     alloc: Global,
@@ -245,6 +254,17 @@ pub fn run_tool<F: Shelf, S: Sink>(
     ensures pipelined { result ≡ Status.Ok → (command : PipelineCommand) → pipeline_of (bytes_of words.now) ≡ Some command
         → PipelineAnswer (F.files shelf.old) command (S.written sink.old) (S.written sink.new) }
 
+    // A summary is that of rows over the drawn image, of a design that stands for the extension and the datasheet which the files are the texts of. These are lawful, what they
+    // retire is a prefix of the run one instruction at a time with the extension, with its states and its stop, and no more rows than the bound pass without a retirement.
+    ensures benched { result ≡ Status.Ok → (command : BenchCommand) → bench_of (bytes_of words.now) ≡ Some command
+        → BenchAnswer (F.files shelf.old) command (S.written sink.old) (S.written sink.new) }
+
+    // A dump is that of the ports of the modules of a design that stands for the extension and the datasheet which the files are the texts of, in each of a list of rows over the
+    // image, whose memory has the waits. These are lawful, what they retire is a prefix of the run one instruction at a time with the extension, with its states and its stop, and no
+    // more rows than the bound pass without a retirement. In each row a module's ports show the settled values of one run of its net, whose inputs are those that the row drives.
+    ensures waved { result ≡ Status.Ok → (command : PipelineCommand) → wave_of (bytes_of words.now) ≡ Some command
+        → WaveAnswer (F.files shelf.old) command (S.written sink.old) (S.written sink.new) }
+
     // For every command: the status and the bytes that were written are due, by the words and the bytes of the files. Of a
     // file of which nothing is told, they are some bytes of at most the greatest length.
     ensures outcome { Outcome (F.files shelf.old) (RoseIn (F.faults shelf.old) (F.faults shelf.new)) (bytes_of words.now)
@@ -289,5 +309,7 @@ pub fn run_tool<F: Shelf, S: Sink>(
         → Completes command values (S.written sink.old) (S.written sink.new) result }
 {
     rows_laws();
+    drawn_laws();
+    wave_laws();
     run_words(alloc, words, shelf, sink)
 }

@@ -43,7 +43,7 @@ seen_tail k r stage s older h =
     }
 
 -- what is not held has no older token that blocks it
-not_blocked : (k : Shape) (stage : ℕ) (t : Token) (older : Slots) → t.cell.hold ≡ shown k stage t older → is_some t.cell.hold ≡ false → stops_now k stage t older ≡ false → is_blocked k (suc stage) older ≡ false
+pub not_blocked : (k : Shape) (stage : ℕ) (t : Token) (older : Slots) → t.cell.hold ≡ shown k stage t older → is_some t.cell.hold ≡ false → stops_now k stage t older ≡ false → is_blocked k (suc stage) older ≡ false
 not_blocked k stage t older d h n =
     let shown_none : shown k stage t older ≡ None = sym d ∙ is_none_of t.cell.hold h in
     let rest : or_else (own_hold k stage t older) (if is_blocked k (suc stage) older then Some Behind else None) ≡ None = sym (ap (λ (s : Bool). if s then None else or_else (own_hold k stage t older) (if is_blocked k (suc stage) older then Some Behind else None)) n) ∙ shown_none in
@@ -54,7 +54,7 @@ free_parts true b h = cc
 free_parts false b h = (refl, h)
 
 -- then these are all on the path of the run
-path_ahead : (k : Setting) (r stage : ℕ) (older : Slots) → (shape_of k).ex ≤ stage → Placed k r stage older → Decided k stage older → is_blocked (shape_of k) stage older ≡ false → OnPath k older
+pub path_ahead : (k : Setting) (r stage : ℕ) (older : Slots) → (shape_of k).ex ≤ stage → Placed k r stage older → Decided k stage older → is_blocked (shape_of k) stage older ≡ false → OnPath k older
 path_ahead k r stage [] le h d free = tt
 path_ahead k r stage (None ∷ older) le h d free = on_path k r (suc stage) older (omega (arith, le)) h.1
 path_ahead k r stage (Some t ∷ older) le h d free = (late_free, on_path k r (suc stage) older (omega (arith, le)) h.1) where

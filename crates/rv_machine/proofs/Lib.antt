@@ -1,5 +1,3 @@
-pub mod Sound
-pub mod Texts
 pub mod RunWidths
 pub mod RunWords
 pub mod Deciding
@@ -56,7 +54,6 @@ pub mod UnitsNext
 pub mod Settled
 pub mod Meeting
 pub mod Agreeing
-pub mod FewUnits
 pub mod EachRow
 pub mod First
 pub mod GoesOn
@@ -66,7 +63,7 @@ pub mod OneMore
 pub mod Succeeding
 pub mod Turns
 pub mod WideFuture
-mod Promised
+pub mod Promised
 pub mod Worded
 pub mod Owes
 pub mod Older
@@ -79,7 +76,6 @@ pub mod RankStays
 pub mod Lone
 pub mod Pigeonhole
 pub mod Listed
-pub mod Nths
 pub mod FewOwed
 pub mod FewEntries
 pub mod Repaid

@@ -52,7 +52,7 @@ pub record Sights : Type 0 where
   pub answers : AnswerLaw
 
 -- so a design that stands is ready
-ready_of : Sights → (d : Design) (image waits : List ℕ) → IsRunnable d image → IsReady (setting d image waits)
+pub ready_of : Sights → (d : Design) (image waits : List ℕ) → IsRunnable d image → IsReady (setting d image waits)
 ready_of sights d image waits h =
     let law = d.sheet.shape.lawful in
     let a = law.memory_late in
@@ -82,11 +82,11 @@ ready_of sights d image waits h =
     }
 
 -- what is known of the rows of a machine, the newest first
-record IsKnown (k : Setting) (rows : List Row) : Type 0 where
+pub record IsKnown (k : Setting) (rows : List Row) : Type 0 where
   pub headline : Headline k.design k.image k.waits rows
   pub going : (newest rows).stop ≡ None → Inv k rows (machine_at k rows)
 
-known : (k : Setting) → IsReady k → (rows : List Row) → AreRows k rows → IsKnown k rows
+pub known : (k : Setting) → IsReady k → (rows : List Row) → AreRows k rows → IsKnown k rows
 unfolding machine_at
 known k ready [] are = record { headline = record { lawful = tt; agrees = tt; progress = tt }; going = λ _. first k ready }
 known k ready (row ∷ earlier) are =
@@ -119,7 +119,7 @@ listed k ready (row ∷ earlier) are =
     }
 
 -- the state of the machine is that which its rows tell
-arch_is : (k : Setting) → IsReady k → (rows : List Row) → AreRows k rows → (machine_at k rows).arch ≡ architecture (tree_of k) (judged k) rows
+pub arch_is : (k : Setting) → IsReady k → (rows : List Row) → AreRows k rows → (machine_at k rows).arch ≡ architecture (tree_of k) (judged k) rows
 unfolding machine_at architecture
 arch_is k ready [] are = refl
 arch_is k ready (row ∷ earlier) are =
@@ -146,7 +146,7 @@ state_law sights d image waits rows h are =
     }
 
 -- the future file of the machine is that which its rows tell
-file_is : (k : Setting) → IsReady k → (rows : List Row) → AreRows k rows → (newest rows).stop ≡ None → future_file (tree_of k) (judged k) rows ≡ (machine_at k rows).future
+pub file_is : (k : Setting) → IsReady k → (rows : List Row) → AreRows k rows → (newest rows).stop ≡ None → future_file (tree_of k) (judged k) rows ≡ (machine_at k rows).future
 unfolding machine_at future_file first_state
 file_is k ready [] are going = refl
 file_is k ready (row ∷ earlier) are going =

@@ -38,7 +38,7 @@ least_none f r (suc c) n h le lt = elim (cases_lt r n) [
 abbrev pub IsOperand : Asks → ℕ → Type 0
 IsOperand a reg = (reg ≡ a.first) ⊎ (reg ≡ a.second)
 
-operand_touched : (a : Asks) (reg : ℕ) → reg < 32 → IsOperand a reg → (reg == 0) ≡ false → touches a (register_at reg) ≡ true
+pub operand_touched : (a : Asks) (reg : ℕ) → reg < 32 → IsOperand a reg → (reg == 0) ≡ false → touches a (register_at reg) ≡ true
 operand_touched a reg lt is nz =
     ap (λ (b : Bool). touches a (if b then X reg else target.Custom (reg - 32))) (low reg lt)
     ∙ some_of (reg == 0) (reg == a.first) (reg == a.second) (reg == a.destination) _ nz (elim is [ inl e ↦ inl (same reg a.first e) | inr e ↦ inr (same reg a.second e) ]) where

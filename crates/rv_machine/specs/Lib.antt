@@ -8,4 +8,3 @@ pub mod Made
 pub mod Left
 pub mod LawfulText
 pub mod Promises
-pub mod Nth

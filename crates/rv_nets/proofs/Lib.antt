@@ -1,2 +1,4 @@
 pub mod Running
 pub mod Ports
+pub mod Placing
+mod Making

@@ -1,5 +1,5 @@
 -- The states that modules come to are those of runs of their nets.
-use Rattle.std.proofs.Common.{◌≡◌, ◌∙◌, refl, sym, ap, subst, ℕ, zero, suc, ◌+◌, List, [], ◌∷◌, ◌++◌, length, map, Option, Some, None, arith}
+use Rattle.std.proofs.Common.{◌≡◌, ◌∙◌, refl, sym, ap, subst, ℕ, zero, suc, ◌+◌, ◌<◌, ◌≤◌, List, [], ◌∷◌, ◌++◌, length, map, Option, Some, None, arith}
 use Rattle.std.specs.Prelude.{slice_get}
 use Rattle.ix_net.specs.declared.netlist.Net.{Net}
 use Rattle.ix_net.specs.Run.{IsRun, IsRunFrom, next_banks, first_banks, cycle_at}
@@ -11,7 +11,7 @@ use Rattle.rv_ports.specs.declared.shown.Shown.{Shown}
 use Rattle.rv_ports.specs.Inputs.{inputs_by}
 use Rattle.rv_ports.specs.Driven.{values_in, port_values}
 use Rattle.rv_nets.specs.Modules.{Driver, module_at, StepsTo, AllStep, drivers_from, Reached, ports_shown}
-use Rattle.rv_nets.specs.NetsLaw.{inputs_with, HaveRun, NetsLaw}
+use Rattle.rv_nets.specs.NetsLaw.{inputs_with, HaveRun, NetsLaw, ReachedBy, port_rows, AllRowsLaw}
 
 -- the banks behind these cycles
 abbrev banks_after : Net → List ℕ → List (List ℕ) → List ℕ
@@ -74,6 +74,18 @@ AllLead d ws n (p ∷ plans) [] runs drivers = ⊥
 AllLead d ws n (p ∷ plans) (net ∷ nets) [] drivers = ⊥
 AllLead d ws n (p ∷ plans) (net ∷ nets) (c ∷ runs) [] = ⊥
 
+-- these runs have the same cycles as those, so many first ones
+abbrev AllLonger : ℕ → List (List (List ℕ)) → List (List (List ℕ)) → Type 0
+AllLonger count [] [] = Unit {0}
+AllLonger count (c ∷ runs) (l ∷ longer) = ((i : ℕ) → i < count → cycle_at l i ≡ cycle_at c i) × AllLonger count runs longer
+AllLonger count [] (l ∷ longer) = ⊥
+AllLonger count (c ∷ runs) [] = ⊥
+
+same_before : (cycles : List (List ℕ)) (values : List ℕ) (i : ℕ) → i < length cycles → cycle_at (cycles ++ values ∷ []) i ≡ cycle_at cycles i
+same_before [] values i lt = absurd (omega (arith, lt))
+same_before (c ∷ rest) values zero lt = refl
+same_before (c ∷ rest) values (suc i) lt = same_before rest values i (omega (arith, lt))
+
 -- before the first row
 abbrev no_cycles : List Net → List (List (List ℕ))
 no_cycles nets = map (λ net. []) nets
@@ -90,8 +102,8 @@ lead_first d n [] (net ∷ nets) e = absurd (omega (arith, e))
 lead_first d n (p ∷ plans) [] e = absurd (omega (arith, e))
 
 lead_more : (d : Design) (w : Shown) (ws : List Shown) (n : ℕ) (plans : List Plan) (nets : List Net) (runs : List (List (List ℕ))) (olds news : List Driver)
-    → AllLead d ws n plans nets runs olds → AllStep w olds news → (longer : List (List (List ℕ))) × AllLead d (w ∷ ws) n plans nets longer news
-lead_more d w ws n [] [] [] [] [] h step = ([], tt)
+    → AllLead d ws n plans nets runs olds → AllStep w olds news → (longer : List (List (List ℕ))) × AllLead d (w ∷ ws) n plans nets longer news × AllLonger (length ws) runs longer
+lead_more d w ws n [] [] [] [] [] h step = ([], tt, tt)
 lead_more d w ws n [] [] [] [] (t ∷ news) h step = absurd step
 lead_more d w ws n [] [] [] (s ∷ olds) news h step = absurd h
 lead_more d w ws n [] [] (c ∷ runs) olds news h step = absurd h
@@ -106,13 +118,14 @@ lead_more d w ws n (p ∷ plans) (net ∷ nets) (c ∷ runs) (s ∷ olds) (t ∷
     subst (λ v. StepsTo (inputs_by v p w) s.state t.state) h.0 (subst (λ q. StepsTo (inputs_by s.driven q w) s.state t.state) h.1 step.0.step) in (
       (c ++ t.state.values ∷ []) ∷ rest.0,
       (step.0.same_module ∙ h.0, step.0.same_plan ∙ h.1, leads_on net (inputs_with (module_at d n p) p ws) (length ws) c s.state t.state (inputs_by (module_at d n p) p w) h.2 moved, rest.1),
+      (λ i lt. same_before c t.state.values i (subst (λ m. i < m) (sym h.2.count) lt), rest.2),
     )
 
 lead_all : (d : Design) (ws : List Shown) (drivers : List Driver) → length d.plans ≡ length d.nets → Reached d ws drivers → (runs : List (List (List ℕ))) × AllLead d ws 0 d.plans d.nets runs drivers
 lead_all d [] drivers e h = (no_cycles d.nets, subst (λ l. AllLead d [] 0 d.plans d.nets (no_cycles d.nets) l) (sym h) (lead_first d 0 d.plans d.nets e))
 lead_all d (w ∷ ws) drivers e h =
     let before = lead_all d ws h.0 e h.1 in
-    lead_more d w ws 0 d.plans d.nets before.0 h.0 drivers before.1 h.2
+    let after = lead_more d w ws 0 d.plans d.nets before.0 h.0 drivers before.1 h.2 in (after.0, after.1)
 
 -- ---- one of the modules
 
@@ -176,4 +189,47 @@ nets_law d w earlier drivers e h =
             (lead_at d (w ∷ earlier) 0 d.plans d.nets x.0 drivers x.1 n p net c f g q).1.inputs_are ∙ ap (λ j. inputs_with (module_at d j p) p (w ∷ earlier)) z;
       },
       lead_ports d (w ∷ earlier) (length earlier) 0 d.plans d.nets x.0 drivers refl x.1,
+    )
+
+-- ---- in each of the cycles
+
+same_values : (count : ℕ) (nets : List Net) (runs longer : List (List (List ℕ))) → AllLonger count runs longer → (i : ℕ) → i < count → port_values nets longer i ≡ port_values nets runs i
+same_values count [] runs longer h i lt = refl
+same_values count (net ∷ nets) [] [] h i lt = refl
+same_values count (net ∷ nets) [] (l ∷ longer) h i lt = absurd h
+same_values count (net ∷ nets) (c ∷ runs) [] h i lt = absurd h
+same_values count (net ∷ nets) (c ∷ runs) (l ∷ longer) h i lt =
+    ap (λ v. values_in net v ++ port_values nets longer i) (h.0 i lt) ∙ ap (λ v. values_in net (cycle_at c i) ++ v) (same_values count nets runs longer h.1 i lt)
+
+same_rows : (count : ℕ) (nets : List Net) (runs longer : List (List (List ℕ))) → AllLonger count runs longer → (n : ℕ) → n ≤ count → port_rows nets longer n ≡ port_rows nets runs n
+same_rows count nets runs longer h zero le = refl
+same_rows count nets runs longer h (suc n) le =
+    ap (λ v. port_rows nets longer n ++ v ∷ []) (same_values count nets runs longer h n (omega (arith, le)))
+    ∙ ap (λ r. r ++ port_values nets runs n ∷ []) (same_rows count nets runs longer h n (omega (arith, le)))
+
+lead_rows : (d : Design) (ws : List Shown) (drivers : List Driver) (rows : List (List ℕ)) → length d.plans ≡ length d.nets → ReachedBy d ws drivers rows
+    → (runs : List (List (List ℕ))) × AllLead d ws 0 d.plans d.nets runs drivers × (port_rows d.nets runs (length ws) ≡ rows)
+lead_rows d [] drivers rows e h = (no_cycles d.nets, subst (λ l. AllLead d [] 0 d.plans d.nets (no_cycles d.nets) l) (sym h.0) (lead_first d 0 d.plans d.nets e), sym h.1)
+lead_rows d (w ∷ ws) drivers rows e h =
+    let before = lead_rows d ws h.0 h.1 e h.2 in
+    let after = lead_more d w ws 0 d.plans d.nets before.0 h.0 drivers before.1 h.3 in (
+      after.0,
+      after.1,
+      ap (λ r. r ++ port_values d.nets after.0 (length ws) ∷ []) (same_rows (length ws) d.nets before.0 after.0 after.2 (length ws) (omega arith) ∙ before.2)
+          ∙ ap (λ v. h.1 ++ v ∷ []) (lead_ports d (w ∷ ws) (length ws) 0 d.plans d.nets after.0 drivers refl after.1)
+          ∙ sym h.4,
+    )
+
+pub all_rows_law : AllRowsLaw
+all_rows_law d ws drivers rows e h =
+    let x = lead_rows d ws drivers rows e h in (
+      x.0,
+      record {
+        count = lead_count d ws 0 d.plans d.nets x.0 drivers x.1;
+        run = λ n p net c f g q. (lead_at d ws 0 d.plans d.nets x.0 drivers x.1 n p net c f g q).1.run;
+        inputs = λ n p net c f g q.
+            let z : 0 + n ≡ n = omega arith in
+            (lead_at d ws 0 d.plans d.nets x.0 drivers x.1 n p net c f g q).1.inputs_are ∙ ap (λ j. inputs_with (module_at d j p) p ws) z;
+      },
+      x.2,
     )

@@ -1,3 +1,4 @@
 pub mod Modules
+pub mod Places
 pub mod Kept
 pub mod NetsLaw

@@ -62,6 +62,10 @@ Reached d (w ∷ earlier) drivers = (before : List Driver) × Reached d earlier 
 abbrev pub own_ports : Driver → List Port
 own_ports s = ports_in s.state.net
 
+-- the ports of all modules, by number
+abbrev pub all_ports : List Driver → List Port
+all_ports drivers = flat_map own_ports drivers
+
 -- what the ports of all modules show, by number
 abbrev pub ports_shown : List Driver → List ℕ
 ports_shown drivers = flat_map (λ (s : Driver). values_in s.state.net s.state.values) drivers

@@ -3,6 +3,8 @@
 
 mod driver;
 mod laws;
+mod modules;
 
 pub use driver::Driver;
 pub use laws::nets_law;
+pub use modules::Modules;

@@ -1,9 +1,21 @@
-ghost use Rattle.std.specs.Prelude.{ℕ, List, []};
-ghost use Rattle.ix_net.specs.declared.netlist.Net.{Net};
-ghost use Rattle.rv_ports.specs.Drives.{Drives};
-ghost use Rattle.rv_served.specs.Promise.{AllPromised};
+ghost use Rattle.rv_served.specs.Lives.{PromiseLaw};
 
-/// Before the first row nothing is owed.
-pub fn no_rows()
-    ensures { (d : Drives) (nets : List Net) (runs : List (List (List ℕ))) → AllPromised d nets [] runs }
-{}
+use crate::reads::reads_law;
+use ix_behaviour::behaviour_laws;
+use ix_depends::depend_laws;
+use ix_standing::served;
+use rv_sight::sight_laws;
+use rv_tried::trial_laws;
+
+/// Nets that are driven by the rows of a machine show, wherever a token stands at the time of an output and speaks, the value of the run at its place. It does nothing: its
+/// contract is what it is for.
+pub fn promise_law()
+    ensures { PromiseLaw }
+{
+    behaviour_laws();
+    depend_laws();
+    reads_law();
+    served();
+    sight_laws();
+    trial_laws();
+}

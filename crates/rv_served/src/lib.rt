@@ -2,5 +2,9 @@
 #![tactic(auto)]
 
 mod laws;
+mod lives;
+mod reads;
 
-pub use laws::no_rows;
+pub use laws::promise_law;
+pub use lives::lives_law;
+pub use reads::reads_law;

@@ -16,9 +16,13 @@
 //!   word stand the text of the extension, a byte 31 and a datasheet. The modules are read again,
 //!   and `ports differ` stands behind them where the ports of one are not those of the net of the
 //!   extension's design.
+//! - `follow`: the modules of a text, stepped with the inputs that a dump of their ports shows, which
+//!   stands behind a byte 31: a line with the name of each module and the count of rows, behind a
+//!   line for each output of a row that has another value than in the dump.
 #![tactic(auto)]
 
 mod built;
+mod followed;
 mod modules;
 mod nets;
 mod printed;
@@ -26,6 +30,7 @@ mod stepped;
 mod words;
 
 use built::put_built;
+use followed::put_followed;
 use modules::{put_prefixes, put_read};
 use printed::{put_chain, put_printed};
 use std::alloc::{AllocError, Global};
@@ -58,6 +63,7 @@ fn put_answer(out: &mut String, alloc: Global, case: &[u8]) -> Result<(), AllocE
         "words" => put_words(out, alloc, rest),
         "step" => put_stepped(out, alloc, rest),
         "build" => put_built(out, alloc, rest),
+        "follow" => put_followed(out, alloc, rest),
         _ => out.push_str("unknown word\n"),
     }
 }

@@ -1,7 +1,7 @@
 use Rattle.std.proofs.Common.{◌∷◌, [], subst}
 use Rattle.ix_extension.specs.Extensions.{view_extension}
-use Rattle.ix_tool.specs.declared.command.Command.TheVariants.{Assemble}
-use Rattle.ix_tool.specs.Readings.{extension_read, source_read}
+use Rattle.ix_words.specs.declared.command.Command.TheVariants.{Assemble}
+use Rattle.ix_words.specs.Readings.{extension_read, source_read}
 use Rattle.ix_tool.specs.CommandOutput.{Answered}
 use Rattle.ix_tool.proofs.assembling.assemble_source.Goals as goal
 

@@ -1,8 +1,8 @@
 use Rattle.std.proofs.Common.{◌≡◌, ◌∙◌, ◌++◌, ap, subst, inr}
 use Rattle.std.specs.Prelude.{codes, decimal}
-use Rattle.ix_tool.specs.declared.status.Status.TheVariants.{Source}
+use Rattle.ix_words.specs.declared.status.Status.TheVariants.{Source}
 use Rattle.ix_tool.specs.CommandOutput.{Writes, source_text}
-use Rattle.ix_tool.proofs.Judging.{line_joined}
+use Rattle.ix_words.proofs.Judging.{line_joined}
 use Rattle.ix_tool.proofs.assembling.refuse_line.Goals as goal
 
 pub returns-in-Ok : goal.returns-in-Ok

@@ -1,8 +1,7 @@
 use Rattle.std.proofs.Common.{◌≡◌, refl, sym, ap, subst, ◌∷◌, map}
-use Rattle.ix_tool.specs.declared.command.Command.TheVariants.{RunExtension}
-use Rattle.ix_tool.specs.declared.value.Value.TheVariants as value
-use Rattle.ix_tool.specs.Readings.{reading_of}
-use Rattle.ix_tool.specs.CommandOutput.{Answered}
+use Rattle.ix_words.specs.declared.value.Value.TheVariants as value
+use Rattle.ix_words.specs.Readings.{reading_of}
+use Rattle.ix_tool.specs.CommandOutput.{command_in, Answered}
 use Rattle.ix_tool.proofs.PipelineValues.{some_values, first_and_rest}
 use Rattle.ix_tool.proofs.running.answer_run.Goals as goal
 
@@ -10,4 +9,4 @@ pub returns : goal.returns
 returns g c =
     let vs : c.args.values.items ≡ value.Extension c.in-Extension.extension ∷ c.remove.new.self.items =
     first_and_rest c.args.values.items c.remove.new.self.items c.remove.new.self.items (value.Extension c.in-Extension.extension) (some_values c.args.values.items c.requires) c.in-Extension.ensures.value c.in-Extension.ensures.items refl in
-    subst (λ us. Answered RunExtension us (g.S.Sink.written c.args.sink.now) (g.S.Sink.written c.run_with.new.sink) (g.S.Sink.faults c.args.sink.now) (g.S.Sink.faults c.run_with.new.sink) c.run_with.result) (sym (ap (map reading_of) vs)) c.run_with.ensures
+    subst (λ us. Answered (command_in c.args.form) us (g.S.Sink.written c.args.sink.now) (g.S.Sink.written c.run_with.new.sink) (g.S.Sink.faults c.args.sink.now) (g.S.Sink.faults c.run_with.new.sink) c.run_with.result) (sym (ap (map reading_of) vs)) c.run_with.ensures

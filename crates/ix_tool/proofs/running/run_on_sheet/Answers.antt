@@ -1,9 +1,8 @@
 use Rattle.std.proofs.Common.{◌≡◌, sym, ap, subst, [], ◌∷◌, map, arith}
 use Rattle.std.proofs.lemmas.Grind.{common_steps}
 use Rattle.ix_extension.specs.Extensions.{view_extension}
-use Rattle.ix_tool.specs.declared.command.Command.TheVariants.{RunExtension}
-use Rattle.ix_tool.specs.Readings.{extension_read, sheet_read, image_read, waits_read, number_read, reading_of}
-use Rattle.ix_tool.specs.CommandOutput.{Answered}
+use Rattle.ix_words.specs.Readings.{extension_read, sheet_read, image_read, waits_read, number_read, reading_of}
+use Rattle.ix_tool.specs.CommandOutput.{command_in, Answered}
 use Rattle.ix_tool.proofs.PipelineValues.{three_values}
 use Rattle.ix_tool.proofs.running.run_on_sheet.Goals as goal
 
@@ -12,9 +11,9 @@ returns g c =
     let x = view_extension c.args.extension in
     let r = three_values x c.args.sheet c.args.values.now c.requires in
     let vs : map reading_of c.args.values.now ≡ image_read r.0 ∷ waits_read r.1 ∷ number_read r.2 ∷ [] = ap (map reading_of) r.3 in
-    let made : Answered RunExtension (extension_read x ∷ sheet_read c.args.sheet ∷ image_read r.0 ∷ waits_read r.1 ∷ number_read r.2 ∷ []) (g.S.Sink.written c.args.sink.now) (g.S.Sink.written c.run_extension.new.sink) (g.S.Sink.faults c.args.sink.now) (g.S.Sink.faults c.run_extension.new.sink) c.run_extension.result =
+    let made : Answered (command_in c.args.form) (extension_read x ∷ sheet_read c.args.sheet ∷ image_read r.0 ∷ waits_read r.1 ∷ number_read r.2 ∷ []) (g.S.Sink.written c.args.sink.now) (g.S.Sink.written c.run_extension.new.sink) (g.S.Sink.faults c.args.sink.now) (g.S.Sink.faults c.run_extension.new.sink) c.run_extension.result =
     rw r.3 at c.run_extension.ensures in
-    subst (λ us. Answered RunExtension (extension_read x ∷ sheet_read c.args.sheet ∷ us) (g.S.Sink.written c.args.sink.now) (g.S.Sink.written c.run_extension.new.sink) (g.S.Sink.faults c.args.sink.now) (g.S.Sink.faults c.run_extension.new.sink) c.run_extension.result) (sym vs) made
+    subst (λ us. Answered (command_in c.args.form) (extension_read x ∷ sheet_read c.args.sheet ∷ us) (g.S.Sink.written c.args.sink.now) (g.S.Sink.written c.run_extension.new.sink) (g.S.Sink.faults c.args.sink.now) (g.S.Sink.faults c.run_extension.new.sink) c.run_extension.result) (sym vs) made
 
 pub unreachable-requires : goal.unreachable-requires
 unreachable-requires g c =

@@ -1,8 +1,8 @@
 use Rattle.std.proofs.Common.{[], refl, subst}
 use Rattle.ix_extension.specs.Extensions.{view_extension}
 use Rattle.ix_schedules.specs.declared.text.TextErr.TheVariants as T
-use Rattle.ix_tool.specs.declared.status.Status.TheVariants.{Ok, Extension, NoSchedule}
-use Rattle.ix_tool.specs.declared.command.Command.TheVariants.{Schedule}
+use Rattle.ix_words.specs.declared.status.Status.TheVariants.{Ok, Extension, NoSchedule}
+use Rattle.ix_words.specs.declared.command.Command.TheVariants.{Schedule}
 use Rattle.ix_tool.specs.CommandOutput.{Writes}
 use Rattle.ix_tool.proofs.Answering.{report_answered, behaviour_answered}
 use Rattle.ix_tool.proofs.scheduling.schedule_extension.Goals as goal

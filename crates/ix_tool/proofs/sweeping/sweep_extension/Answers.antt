@@ -1,6 +1,6 @@
 use Rattle.std.proofs.Common.{subst}
 use Rattle.ix_extension.specs.Extensions.{view_extension}
-use Rattle.ix_tool.specs.declared.status.Status.TheVariants.{Ok, Extension}
+use Rattle.ix_words.specs.declared.status.Status.TheVariants.{Ok, Extension}
 use Rattle.ix_tool.specs.CommandOutput.{Writes}
 use Rattle.ix_tool.proofs.Answering.{sweep_answered, large_answered}
 use Rattle.ix_tool.proofs.sweeping.sweep_extension.Goals as goal

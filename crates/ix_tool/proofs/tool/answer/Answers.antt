@@ -1,5 +1,5 @@
 use Rattle.std.proofs.Common.{sym, subst, map}
-use Rattle.ix_tool.specs.Readings.{reading_of}
+use Rattle.ix_words.specs.Readings.{reading_of}
 use Rattle.ix_tool.specs.CommandOutput.{Answered}
 use Rattle.ix_tool.proofs.tool.answer.Goals as goal
 
@@ -7,3 +7,13 @@ pub returns-in-RunExtension : goal.returns-in-RunExtension
 returns-in-RunExtension g c =
     subst (λ k. Answered k (map reading_of c.args.values.items) (g.S.Sink.written c.args.sink.now) (g.S.Sink.written c.answer_run.new.sink) (g.S.Sink.faults c.args.sink.now) (g.S.Sink.faults c.answer_run.new.sink) c.answer_run.result)
     (sym c.in-RunExtension.is) c.answer_run.ensures
+
+pub returns-in-Bench : goal.returns-in-Bench
+returns-in-Bench g c =
+    subst (λ k. Answered k (map reading_of c.args.values.items) (g.S.Sink.written c.args.sink.now) (g.S.Sink.written c.answer_bench.new.sink) (g.S.Sink.faults c.args.sink.now) (g.S.Sink.faults c.answer_bench.new.sink) c.answer_bench.result)
+    (sym c.in-Bench.is) c.answer_bench.ensures
+
+pub returns-in-Wave : goal.returns-in-Wave
+returns-in-Wave g c =
+    subst (λ k. Answered k (map reading_of c.args.values.items) (g.S.Sink.written c.args.sink.now) (g.S.Sink.written c.answer_run-in-Wave.new.sink) (g.S.Sink.faults c.args.sink.now) (g.S.Sink.faults c.answer_run-in-Wave.new.sink) c.answer_run-in-Wave.result)
+    (sym c.in-Wave.is) c.answer_run-in-Wave.ensures

@@ -1,10 +1,10 @@
 use Rattle.std.proofs.Common.{◌≡◌, sym, ap, refl, subst, List, [], ◌∷◌, map, ℕ}
 use Rattle.ix_tree.specs.declared.extension.Extension.{Extension}
 use Rattle.ix_extension.specs.Extensions.{view_extension}
-use Rattle.ix_tool.specs.declared.command.Command.TheVariants.{Assemble}
-use Rattle.ix_tool.specs.declared.value.Value.{Value}
-use Rattle.ix_tool.specs.declared.value.Value.TheVariants as value
-use Rattle.ix_tool.specs.Readings.{extension_read, source_read, reading_of}
+use Rattle.ix_words.specs.declared.command.Command.TheVariants.{Assemble}
+use Rattle.ix_words.specs.declared.value.Value.{Value}
+use Rattle.ix_words.specs.declared.value.Value.TheVariants as value
+use Rattle.ix_words.specs.Readings.{extension_read, source_read, reading_of}
 use Rattle.ix_tool.specs.CommandOutput.{Takes, Answered}
 use Rattle.ix_tool.proofs.tool.answer_read.Goals as goal
 

@@ -1,7 +1,7 @@
 use Rattle.std.proofs.Common.{◌≡◌, sym, ap, subst, [], ◌∷◌, map}
 use Rattle.ix_extension.specs.Extensions.{view_extension}
-use Rattle.ix_tool.specs.declared.command.Command.TheVariants.{Sweep}
-use Rattle.ix_tool.specs.Readings.{extension_read, sheet_read, reading_of}
+use Rattle.ix_words.specs.declared.command.Command.TheVariants.{Sweep}
+use Rattle.ix_words.specs.Readings.{extension_read, sheet_read, reading_of}
 use Rattle.ix_tool.specs.CommandOutput.{Answered}
 use Rattle.ix_tool.proofs.SheetValues.{sheet_values}
 use Rattle.ix_tool.proofs.tool.answer_sweep.Goals as goal

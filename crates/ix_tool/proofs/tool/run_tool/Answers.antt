@@ -1,9 +1,10 @@
-use Rattle.ix_tool.specs.CommandLine.{bytes_of}
+use Rattle.ix_words.specs.CommandLine.{bytes_of}
 use Rattle.ix_tool.proofs.Clauses.{usage, read_fault, too_long_answer, image, extension, sheet, no_schedule, certificate, source, output, write_fault, memory_alone, waits, no_command, due_status, complete}
 use Rattle.ix_tool.proofs.Headlines.{headline, listed, certified, stepped, assembled, scheduled}
 use Rattle.ix_tool.proofs.ModulesShown.{modules}
 use Rattle.ix_tool.proofs.SweepsShown.{swept}
-use Rattle.ix_tool.proofs.PipelinesShown.{pipelined}
+use Rattle.ix_tool.proofs.PipelinesShown.{pipelined, waved}
+use Rattle.ix_tool.proofs.BenchesShown.{benched}
 use Rattle.ix_tool.proofs.tool.run_tool.Goals as goal
 
 pub returns-clause-headline : goal.returns-clause-headline
@@ -32,6 +33,12 @@ returns-clause-swept g c = λ e. swept (g.F.Shelf.files c.args.shelf.now) (bytes
 
 pub returns-clause-pipelined : goal.returns-clause-pipelined
 returns-clause-pipelined g c = λ e. pipelined c.rows_laws.ensures.text (g.F.Shelf.files c.args.shelf.now) (bytes_of c.args.words.now) (g.S.Sink.written c.args.sink.now) (g.S.Sink.written c.run_words.new.sink) (output (g.F.Shelf.files c.args.shelf.now) (g.F.Shelf.faults c.args.shelf.now) (g.F.Shelf.faults c.run_words.new.shelf) (bytes_of c.args.words.now) (g.S.Sink.written c.args.sink.now) (g.S.Sink.written c.run_words.new.sink) (g.S.Sink.faults c.args.sink.now) (g.S.Sink.faults c.run_words.new.sink) c.run_words.result c.run_words.ensures e)
+
+pub returns-clause-benched : goal.returns-clause-benched
+returns-clause-benched g c = λ e. benched c.rows_laws.ensures.rows c.drawn_laws.ensures.words (g.F.Shelf.files c.args.shelf.now) (bytes_of c.args.words.now) (g.S.Sink.written c.args.sink.now) (g.S.Sink.written c.run_words.new.sink) (output (g.F.Shelf.files c.args.shelf.now) (g.F.Shelf.faults c.args.shelf.now) (g.F.Shelf.faults c.run_words.new.shelf) (bytes_of c.args.words.now) (g.S.Sink.written c.args.sink.now) (g.S.Sink.written c.run_words.new.sink) (g.S.Sink.faults c.args.sink.now) (g.S.Sink.faults c.run_words.new.sink) c.run_words.result c.run_words.ensures e)
+
+pub returns-clause-waved : goal.returns-clause-waved
+returns-clause-waved g c = λ e. waved c.wave_laws.ensures.lawful (g.F.Shelf.files c.args.shelf.now) (bytes_of c.args.words.now) (g.S.Sink.written c.args.sink.now) (g.S.Sink.written c.run_words.new.sink) (output (g.F.Shelf.files c.args.shelf.now) (g.F.Shelf.faults c.args.shelf.now) (g.F.Shelf.faults c.run_words.new.shelf) (bytes_of c.args.words.now) (g.S.Sink.written c.args.sink.now) (g.S.Sink.written c.run_words.new.sink) (g.S.Sink.faults c.args.sink.now) (g.S.Sink.faults c.run_words.new.sink) c.run_words.result c.run_words.ensures e)
 
 pub returns-clause-ok : goal.returns-clause-ok
 returns-clause-ok g c = output (g.F.Shelf.files c.args.shelf.now) (g.F.Shelf.faults c.args.shelf.now) (g.F.Shelf.faults c.run_words.new.shelf) (bytes_of c.args.words.now) (g.S.Sink.written c.args.sink.now) (g.S.Sink.written c.run_words.new.sink) (g.S.Sink.faults c.args.sink.now) (g.S.Sink.faults c.run_words.new.sink) c.run_words.result c.run_words.ensures

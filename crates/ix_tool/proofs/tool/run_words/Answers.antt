@@ -1,8 +1,8 @@
 use Rattle.std.proofs.Common.{◌≡◌, ◌∙◌, ◌-◌, sym, subst, length, map, take, drop, true}
 use Rattle.std.specs.Prelude.{string_bytes}
-use Rattle.ix_tool.specs.CommandLine.{bytes_of, behind, slots_of, fits_slots}
-use Rattle.ix_tool.specs.CommandOutput.{AreRead, RoseIn}
-use Rattle.ix_tool.specs.Readings.{reading_of}
+use Rattle.ix_words.specs.CommandLine.{bytes_of, behind, slots_of, fits_slots}
+use Rattle.ix_words.specs.WordsRead.{AreRead, RoseIn}
+use Rattle.ix_words.specs.Readings.{reading_of}
 use Rattle.ix_tool.proofs.Headlines.{fit_behind}
 use Rattle.ix_tool.proofs.Taking.{takes}
 use Rattle.ix_tool.proofs.Outcomes.{none_of, rest_of, usage_outcome, answered_outcome, refused_outcome}

@@ -1,0 +1,36 @@
+use Rattle.std.proofs.Common.{refl, subst, inl, inr, [], ◌∷◌}
+use Rattle.ix_extension.specs.Extensions.{view_extension}
+use Rattle.ix_schedules.specs.declared.text.TextErr.TheVariants as T
+use Rattle.ix_words.specs.declared.status.Status.TheVariants.{Extension, NoSchedule}
+use Rattle.ix_words.specs.declared.command.Command.TheVariants.{Bench}
+use Rattle.ix_words.specs.Readings.{number_read}
+use Rattle.ix_tool.specs.CommandOutput.{Writes}
+use Rattle.ix_tool.proofs.Answering.{bench_answered, behaviour_answered}
+use Rattle.ix_tool.proofs.benching.bench_extension.Goals as goal
+
+pub returns-in-Ok : goal.returns-in-Ok
+returns-in-Ok g c = elim c.bench_design.ensures [
+  | inl memory ↦ inl memory
+  | inr done ↦
+      bench_answered (view_extension c.args.extension) c.args.sheet (g.S.Sink.written c.args.sink.now) (g.S.Sink.written c.bench_design.new.sink) (g.S.Sink.faults c.args.sink.now) (g.S.Sink.faults c.bench_design.new.sink) c.bench_design.result c.args.number c.args.count done.0
+      (record {
+        design = record { extension = c.args.extension; sheet = c.args.sheet; plans = c.in-Ok.built.plans; nets = c.in-Ok.built.nets };
+        stands = record { well_formed = c.requires.well_formed; sheet = c.requires.sheet; built = c.in-Ok.ensures.built };
+        extension_is = refl;
+        sheet_is = refl;
+        runs = done.1;
+      })
+      done.2
+]
+
+pub returns-in-TooManyOps : goal.returns-in-TooManyOps
+returns-in-TooManyOps g c =
+    behaviour_answered (view_extension c.args.extension) c.args.sheet (g.S.Sink.written c.args.sink.now) (g.S.Sink.written c.finish.new.sink) (g.S.Sink.faults c.args.sink.now) (g.S.Sink.faults c.finish.new.sink) c.finish.result Bench
+    (number_read c.args.number ∷ number_read c.args.count ∷ []) tt (T.TooManyOps c.in-TooManyOps.line) Extension c.in-TooManyOps.line c.in-TooManyOps.ensures (refl, refl)
+    (subst (λ t. Writes Extension t (g.S.Sink.written c.args.sink.now) (g.S.Sink.written c.finish.new.sink) (g.S.Sink.faults c.args.sink.now) (g.S.Sink.faults c.finish.new.sink) c.finish.result) c.as_slice.ensures c.finish.ensures)
+
+pub returns-in-NoSchedule : goal.returns-in-NoSchedule
+returns-in-NoSchedule g c =
+    behaviour_answered (view_extension c.args.extension) c.args.sheet (g.S.Sink.written c.args.sink.now) (g.S.Sink.written c.finish-in-NoSchedule.new.sink) (g.S.Sink.faults c.args.sink.now) (g.S.Sink.faults c.finish-in-NoSchedule.new.sink) c.finish-in-NoSchedule.result Bench
+    (number_read c.args.number ∷ number_read c.args.count ∷ []) tt (T.NoSchedule c.in-NoSchedule.text) NoSchedule c.in-NoSchedule.text c.in-NoSchedule.ensures (refl, refl)
+    (subst (λ t. Writes NoSchedule t (g.S.Sink.written c.args.sink.now) (g.S.Sink.written c.finish-in-NoSchedule.new.sink) (g.S.Sink.faults c.args.sink.now) (g.S.Sink.faults c.finish-in-NoSchedule.new.sink) c.finish-in-NoSchedule.result) c.as_slice-in-NoSchedule.ensures c.finish-in-NoSchedule.ensures)

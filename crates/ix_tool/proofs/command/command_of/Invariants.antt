@@ -1,6 +1,0 @@
-use Rattle.std.proofs.Common.{◌≡◌, drop}
-use Rattle.ix_tool.specs.CommandLine.{first_command, commands, bytes_of}
-use Rattle.ix_tool.proofs.command.command_of.Given as goal
-
-abbrev pub invariant-loop-command : goal.invariant-loop-command
-invariant-loop-command l = first_command commands (bytes_of l.words) ≡ first_command (drop l.command-index commands) (bytes_of l.words)

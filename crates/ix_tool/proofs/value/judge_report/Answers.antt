@@ -1,5 +1,0 @@
-use Rattle.ix_tool.proofs.Judging.{report_judged}
-use Rattle.ix_tool.proofs.value.judge_report.Goals as goal
-
-pub returns-in-Err : goal.returns-in-Err
-returns-in-Err c = report_judged c.args.bytes.now c.in-Err.error c.report_refusal.result c.in-Err.ensures.no c.report_refusal.ensures.memory c.report_refusal.ensures.line

@@ -1,0 +1,4 @@
+pub mod Codes
+pub mod CommandLine
+pub mod Readings
+pub mod WordsRead

@@ -1,0 +1,5 @@
+pub mod Choosing
+pub mod InRange
+pub mod Drawn
+pub mod Below
+pub mod Counting

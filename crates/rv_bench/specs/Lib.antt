@@ -1,0 +1,4 @@
+pub mod Drawing
+pub mod DrawnImage
+pub mod Words
+pub mod Summary

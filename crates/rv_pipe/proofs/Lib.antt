@@ -1,0 +1,6 @@
+mod Fitting
+mod FewUnits
+mod Nths
+mod Sound
+mod Texts
+pub mod Reaching

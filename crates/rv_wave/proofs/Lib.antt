@@ -1,0 +1,4 @@
+mod Ports
+mod Reached
+mod Sending
+mod Lawful
