@@ -1,5 +1,5 @@
 #!/usr/bin/env python3
-"""Makes stdin and stdout of crates/command_cases: the commands of docs/TUTORIAL.md and the reports of docs/SCHEDULES.md (tools/commands/tutorial, schedules), programs on pipelines with extensions (tools/commands/runs) and of the base set
+"""Makes stdin and stdout of crates/command_cases: the commands of docs/TUTORIAL.md and the reports of docs/SCHEDULES.md (tools/commands/tutorial, schedules), programs on pipelines with extensions (tools/commands/runs; on cores that forward and guess, tools/commands/forwards) and of the base set
 alone on each core of a datasheet (tools/commands/base), whose answers come from a pipeline in another language written from the rules, and, here below, commands on files, with reads and writes
 that fail, and the answers by hand.
 """
@@ -279,8 +279,8 @@ due("bench NONE LINES1 0 1", 6, "refused TooLong LINES1\n")
 due("bench NONE NOTEXT 0 1", 8, "refused Sheet Utf8 -\n")
 for n, line in enumerate(["Toml -", "Core core", "Number period", "Window WrRD", "Number lifetime"]):
     due(f"bench MULX T{n} 0 1", 8, f"refused Sheet {line}\n")
-file("CORE3F", 'core = "three_f"\nperiod = 1000\n')
-due("bench NONE CORE3F 0 1", 8, "refused Sheet Core core\n")
+file("CORE3G", 'core = "three_g"\nperiod = 1000\n')
+due("bench NONE CORE3G 0 1", 8, "refused Sheet Core core\n")
 due("bench LARGE FIVE 0 1", 7, "refused Extension TooManyOps large\n")
 due("bench MULX SLOW 0 1", 10, (NONE + UNTIMED).replace("delay 600", "delay 1200") + "cycle chain 2\nend\n")
 for n in range(0, len(DRAWN) + 2):
@@ -338,7 +338,7 @@ due("wave SUMX LINES1 LOST LOST 20", 6, "refused TooLong LINES1\n")
 due("wave SUMX NOTEXT LOST LOST 20", 8, "refused Sheet Utf8 -\n")
 for n, line in enumerate(["Toml -", "Core core", "Number period", "Window WrRD", "Number lifetime"]):
     due(f"wave MULX T{n} LOST LOST 20", 8, f"refused Sheet {line}\n")
-due("wave SUMX CORE3F LOST LOST 20", 8, "refused Sheet Core core\n")
+due("wave SUMX CORE3G LOST LOST 20", 8, "refused Sheet Core core\n")
 due("wave SUMX KEPT LOST LOST 20", 4, "refused ReadFault LOST\n")
 due("wave SUMX KEPT LINES1 LOST 20", 6, "refused TooLong LINES1\n")
 file("BADWORD", "00500093\n0050009\n")
@@ -357,6 +357,6 @@ for n in range(0, len(DUMP) // 40 + 3):
 file("HERE", "0000006f\n")
 due("wave NONE CORE3 HERE NOWAITS 30000", 5, dump([], *[[]] * 30000)[:8192], ("-", 4096, 2, 4096))
 
-STORED = [Path(__file__).resolve().parent / "commands" / name for name in ["tutorial", "schedules", "runs", "base", "diagnoses"]]
+STORED = [Path(__file__).resolve().parent / "commands" / name for name in ["tutorial", "schedules", "runs", "forwards", "base", "diagnoses"]]
 FOLDER.joinpath("stdin").write_bytes(b"".join(it.with_suffix(".cases").read_bytes() for it in STORED) + "".join(part + END for part in parts).encode())
 FOLDER.joinpath("stdout").write_bytes(b"".join(it.with_suffix(".answers").read_bytes() for it in STORED) + "".join(answer + END for answer in answers).encode())

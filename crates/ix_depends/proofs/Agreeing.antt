@@ -20,22 +20,22 @@ use Rattle.ix_flow.specs.Flows.{kind_of_term, args_of_term, IsArgOf, AreArgsOf, 
 use Rattle.ix_depends.specs.Depends.{Agrees, IsClosed, AreLowWrites, AreLowLoads, value_of_write}
 
 -- ---- terms and operations at places
-record IsTermOp (all : List Term) (os : List Op) (n : ℕ) (t : Term) : Type 0 where
-  op : Op
-  there : slice_get os n ≡ Some op
-  is : IsOpOf all t op
+pub record IsTermOp (all : List Term) (os : List Op) (n : ℕ) (t : Term) : Type 0 where
+  pub op : Op
+  pub there : slice_get os n ≡ Some op
+  pub is : IsOpOf all t op
 
-term_op : (all ts : List Term) (os : List Op) (n : ℕ) (t : Term) → AreOpsOf all ts os → slice_get ts n ≡ Some t → IsTermOp all os n t
+pub term_op : (all ts : List Term) (os : List Op) (n : ℕ) (t : Term) → AreOpsOf all ts os → slice_get ts n ≡ Some t → IsTermOp all os n t
 term_op all [] os n t h e = cc
 term_op all (s ∷ ts) [] n t h e = absurd h
 term_op all (s ∷ ts) (p ∷ os) zero t h e = (let same : s ≡ t = cc in record { op = p; there = refl; is = subst (λ (z : Term). IsOpOf all z p) same h.0 })
 term_op all (s ∷ ts) (p ∷ os) (suc n) t h e = let r = term_op all ts os n t h.1 e in record { op = r.op; there = r.there; is = r.is }
 
-record IsAt (ts : List Term) (t : Term) : Type 0 where
-  place : ℕ
-  there : slice_get ts place ≡ Some t
+pub record IsAt (ts : List Term) (t : Term) : Type 0 where
+  pub place : ℕ
+  pub there : slice_get ts place ≡ Some t
 
-among_place : (ts : List Term) (t : Term) → Among ts t → IsAt ts t
+pub among_place : (ts : List Term) (t : Term) → Among ts t → IsAt ts t
 among_place [] t h = absurd h
 among_place (x ∷ ts) t h =
     ⊎_elim (λ (e : t ≡ x). record { place = 0; there = ap (λ (z : Term). Some z) (sym e) })
@@ -94,7 +94,7 @@ write_operation (suc zero) e = tt
 write_operation (suc (suc zero)) e = tt
 write_operation (suc (suc (suc r))) e = tt
 
-write_target : (n : ℕ) (e : Entry) → target_of (kind_of_term (write_root n e)) ≡ Some n
+pub write_target : (n : ℕ) (e : Entry) → target_of (kind_of_term (write_root n e)) ≡ Some n
 write_target zero e = refl
 write_target (suc zero) e = refl
 write_target (suc (suc zero)) e = refl

@@ -26,12 +26,13 @@ use Rattle.ix_graph_laws.specs.Operations.{operations_at, entries_in, IsGraphOf}
 use Rattle.ix_graphs.specs.Graphed.{IsGraphAt}
 use Rattle.ix_plan.specs.declared.design.Plan.{Plan}
 use Rattle.ix_standing.specs.Standing.{IsPlanned}
-use Rattle.ix_depends.specs.Laws.{DependsLaw, ByExecuteLaw, TimesLaw, UnwrittenLaw}
+use Rattle.ix_depends.specs.Laws.{DependsLaw, BeforeMemoryLaw, TimesLaw, SingleLaw, UnwrittenLaw}
 use Rattle.ix_spawns.specs.Targets.{RegistersLaw}
 use Rattle.ix_depends.proofs.Unspawned.{memory_unspawned, pc_unspawned, flag_there}
-use Rattle.ix_depends.proofs.Times.{IsEarly, IsEarlyNoLoad, early_closed, load_time, store_time, last_most}
+use Rattle.ix_depends.proofs.Times.{IsEarly, IsEarlyNoLoad, early_closed, load_time, store_time, result_time, last_most}
 use Rattle.ix_depends.specs.Depends.{Agrees, IsClosed, value_written, IsSameWhereLow}
 use Rattle.ix_depends.proofs.Agreeing.{target_same, memory_same, reads_same, unwritten}
+use Rattle.ix_depends.proofs.Single.{one_write}
 
 module _ (typed : TypedBehaviourLaw) (effects : BehaviourEffectLaw) (t : TypedTextTree) (x : ExtensionTree) (w : Which) (of : IsOf t x) (has : HasBehaviour x w) where
   abbrev the_loads : List Load
@@ -79,8 +80,8 @@ graph_is x w g h = record { ops = h.ops; few = h.few; targets = flags_at x w; fl
 valid_of : ValidLaw → (t : TypedTextTree) (x : ExtensionTree) (sheet : Sheet) (w : Which) (p : Plan) → IsOf t x → HasBehaviour x w → IsPlanned x sheet w p → IsValidGraph p.graph
 valid_of law t x sheet w p of has planned = law t x w p.graph of has (graph_is x w p.graph planned.graph)
 
-pub by_execute_law : TypedBehaviourLaw → BehaviourEffectLaw → ValidLaw → ByExecuteLaw
-by_execute_law typed effects law t x sheet w p i j of has right planned left other agree =
+pub before_memory_law : TypedBehaviourLaw → BehaviourEffectLaw → ValidLaw → BeforeMemoryLaw
+before_memory_law typed effects law t x sheet w p i j of has right planned left other agree =
     let valid = valid_of law t x sheet w p of has planned in
     same_where_low typed effects t x w of has p.graph.ops planned.graph.ops i j left other (IsEarly p.graph sheet p.mode valid right p.times planned.schedule)
     (IsEarlyNoLoad p.graph sheet p.mode valid right p.times planned.schedule) (early_closed p.graph sheet p.mode valid right p.times planned.schedule i j agree)
@@ -95,10 +96,15 @@ times_law law registers t x sheet w p of has right planned =
       stores = λ k o e is.
           (store_time p.graph sheet p.mode valid right p.times planned.schedule k o e is
           (flag k o true planned.graph.flags e ∙ memory_unspawned x w o none (ap target_of is))).1;
+      results = λ k o e is. result_time p.graph sheet p.mode valid right p.times planned.schedule k o e is;
       stays = λ k o e is. flag k o false planned.graph.flags e ∙ memory_unspawned x w o none (ap target_of is);
       jumps = λ k o e is. flag k o false planned.graph.flags e ∙ pc_unspawned x w o none (ap target_of is);
       last = subst (λ (n : ℕ). n ≤ 64) (sym planned.last) (last_most p.graph sheet p.mode valid right p.times planned.schedule);
     }
+
+pub single_law : ValidLaw → SingleLaw
+single_law law t x sheet w p of has planned =
+    one_write (loads one_term (statement_at x w) (start (frame_at x w))) (effect_terms (frame_at x w) (statement_at x w)).targets p.graph planned.graph.ops (valid_of law t x sheet w p of has planned)
 
 pub unwritten_law : TypedBehaviourLaw → BehaviourEffectLaw → UnwrittenLaw
 unwritten_law typed effects t x w os i of has are inputs n never = never_written typed effects t x w of has os are i inputs n never

@@ -3,4 +3,5 @@ mod Blocks
 mod Edges
 mod Unspawned
 mod Times
+mod Single
 mod Depending

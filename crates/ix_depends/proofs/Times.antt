@@ -1,4 +1,4 @@
--- What a legal schedule says of the times of operations: loads and stores are at EX, and what is done by then does not depend on what is loaded.
+-- What a legal schedule says of the times of operations: loads and stores are at EX, no x register is written before, and what is done before MEM does not depend on what is loaded.
 use Rattle.std.proofs.Common.{◌≡◌, ℕ, suc, ◌+◌, ◌-◌, ◌<◌, ◌≤◌, Bool, true, false, List, [], ◌∷◌, Some, length, get_or, arith, refl, ap, sym, ◌∙◌, subst, All, Contains, lit<}
 use Rattle.std.specs.Prelude.{slice_get, slice_index, IfSome, Option}
 use Rattle.std.specs.List.{zip}
@@ -94,6 +94,29 @@ store_window sheet mode valid = by mode
     by InPipeline = plain
     by Tight = plain
 
+-- the window begins at EX or later
+abbrev IsFromExecute : ℕ → ℕ × ℕ → Type 0
+IsFromExecute ex window = ex ≤ window.0
+
+result_window : (sheet : Sheet) (mode : Mode) (spawned : Bool) → IsValidSheet sheet → IsFromExecute sheet.shape.ex (window_in sheet mode WrRD spawned)
+result_window sheet mode spawned valid = by mode spawned
+  where
+    plain : IsFromExecute sheet.shape.ex (window_of sheet WrRD)
+    plain = (valid.windows 6 (lit< tt)).first
+
+    -- a spawned one is past the last stage
+    behind : sheet.shape.ex ≤ sheet.shape.stages
+    behind = (let late = sheet.shape.lawful.memory_late in let inside = sheet.shape.lawful.memory_inside in omega (arith, late, inside))
+
+    by : (mode : Mode) (spawned : Bool) → IsFromExecute sheet.shape.ex (window_in sheet mode WrRD spawned)
+    by Always spawned = omega arith
+    by Decoupled true = behind
+    by Decoupled false = plain
+    by InPipeline true = behind
+    by InPipeline false = plain
+    by Tight true = behind
+    by Tight false = plain
+
 -- ---- times
 some_op : (xs : List Op) (k : ℕ) → k < length xs → Op
 some_op [] k l = absurd (omega arith)
@@ -164,6 +187,14 @@ module _ (g : Graph) (sheet : Sheet) (mode : Mode) (valid : IsValidGraph g) (rig
   pub store_time : (k : ℕ) (o : Op) → slice_get g.ops k ≡ Some o → o.kind ≡ WrMem → get_or g.spawned k true ≡ false → IsAtExecute k
   store_time k o e is unspawned = within_execute k o WrMem e is unspawned (store_window sheet mode right)
 
+  -- an x register is written at EX or later
+  pub result_time : (k : ℕ) (o : Op) → slice_get g.ops k ≡ Some o → o.kind ≡ WrRD → sheet.shape.ex ≤ slice_index times k
+  result_time k o e is =
+      let low = (in_window k o e).0 in
+      let P : Kind → Type 0 = λ z. IsFromExecute sheet.shape.ex (window_in sheet mode z (get_or g.spawned k true)) in
+      let first = subst P (sym is) (result_window sheet mode (get_or g.spawned k true) right) in
+      omega (arith, low, first)
+
   argument_before : (k : ℕ) (o : Op) (n : ℕ) → slice_get g.ops k ≡ Some o → Contains o.args (arg.Op n) → n < k
   argument_before k o n e c = (All-contains (IsArgument g.ops k) o.args (arg.Op n) (valid.ops k o e).arguments c).0
 
@@ -183,10 +214,10 @@ module _ (g : Graph) (sheet : Sheet) (mode : Mode) (valid : IsValidGraph g) (rig
   latency_is : (n : ℕ) (o : Op) → slice_get g.ops n ≡ Some o → (node_at (problem_of g sheet mode) n).latency ≡ latency_of sheet.shape o.kind
   latency_is n o e = ap (λ (z : Node). z.latency) (node_of_op n o e)
 
-  -- ---- what is done by EX
-  -- the operation is at EX at the latest
+  -- ---- what is done before MEM
+  -- the time of the operation is below MEM
   abbrev pub IsEarly : ℕ → Type 0
-  IsEarly k = slice_index times k ≤ sheet.shape.ex
+  IsEarly k = slice_index times k < sheet.shape.mem
 
   abbrev pub IsNoLoad : ℕ → Type 0
   IsNoLoad k = (o : Op) → slice_get g.ops k ≡ Some o → o.kind ≡ RdMem → ⊥
@@ -194,6 +225,7 @@ module _ (g : Graph) (sheet : Sheet) (mode : Mode) (valid : IsValidGraph g) (rig
   abbrev pub IsEarlyNoLoad : ℕ → Type 0
   IsEarlyNoLoad k = IsEarly k × IsNoLoad k
 
+  -- what a load gives is there at MEM
   no_load : (k : ℕ) (o : Op) (n : ℕ) → slice_get g.ops k ≡ Some o → Contains o.args (arg.Op n) → IsEarly k → IsNoLoad n
   no_load k o n e c early p there is =
       let after = argument_after k o n e c in
@@ -202,7 +234,7 @@ module _ (g : Graph) (sheet : Sheet) (mode : Mode) (valid : IsValidGraph g) (rig
       let at = (load_time n p there is).0 in
       omega (arith, after, wait, late, at, early)
 
-  -- two inputs that agree on what is read but for the memory agree on what is done by EX
+  -- two inputs that agree on what is read but for the memory agree on what is done before MEM
   pub early_closed : (i j : Inputs) → ((n : ℕ) (o : Op) → slice_get g.ops n ≡ Some o → (o.kind ≡ RdMem → ⊥) → Agrees i j o.kind) → IsClosed g.ops i j IsEarly IsEarlyNoLoad
   early_closed i j agree =
       record {

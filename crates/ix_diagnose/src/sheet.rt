@@ -9,7 +9,7 @@ pub(crate) fn sheet_sentence(kind: &str, name: &str) -> &'static str {
             "no such key stands at the top: write `core`, `period`, `lifetime` and the tables `[delay]` and `[window]` alone"
         }
         "Core" => {
-            "no core that this command has is named: write `core = \"three\"`, `core = \"four\"` or `core = \"five\"`; `schedule`, `build` and `sweep` take `\"three_f\"` and `\"five_f\"` too"
+            "no core is named: write `core = \"three\"`, `core = \"four\"`, `core = \"five\"`, `core = \"three_f\"` or `core = \"five_f\"`"
         }
         "Number" if name == "period" => {
             "there is no period, or it is not a whole number from 1 to 1000000: write one, as `period = 1000`"

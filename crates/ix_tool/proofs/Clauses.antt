@@ -8,7 +8,7 @@ use Rattle.ix_words.specs.declared.status.Status.{Status}
 use Rattle.ix_words.specs.declared.status.Status.TheVariants.{Ok as ok_status, Usage, ReadFault, WriteFault, TooLong, Extension as extension_status, Image as image_status, Sheet as sheet_status, NoSchedule, Certificate, Memory, Source, Waits as waits_status}
 use Rattle.ix_words.specs.declared.command.Command.{Command}
 use Rattle.ix_words.specs.declared.command.FileKind.{FileKind}
-use Rattle.ix_words.specs.declared.command.FileKind.TheVariants.{Image, Report, Extension, Sheet, PlainSheet, Source as source_kind, Waits}
+use Rattle.ix_words.specs.declared.command.FileKind.TheVariants.{Image, Report, Extension, Sheet, Source as source_kind, Waits}
 use Rattle.ix_schedules.specs.declared.text.TextErr.{TextErr}
 use Rattle.ix_schedules.specs.declared.text.TextErr.TheVariants as T
 use Rattle.ix_schedules.specs.ScheduleText.{IsRefusedText as IsRefusedSchedule}
@@ -26,7 +26,6 @@ no_text s d i r x o w Image e = i e
 no_text s d i r x o w Report e = r e
 no_text s d i r x o w Extension e = x e
 no_text s d i r x o w Sheet e = d e
-no_text s d i r x o w PlainSheet e = d e
 no_text s d i r x o w source_kind e = o e
 no_text s d i r x o w Waits e = w e
 
@@ -156,7 +155,6 @@ no_source_file files R Image name _ _ (bad_text bytes line file bad) e = cc
 no_source_file files R Report name _ _ (bad_text bytes line file bad) e = cc
 no_source_file files R Extension name _ _ (bad_text bytes line file bad) e = cc
 no_source_file files R Sheet name _ _ (bad_text bytes line file bad) e = cc
-no_source_file files R PlainSheet name _ _ (bad_text bytes line file bad) e = cc
 no_source_file files R Waits name _ _ (bad_text bytes line file bad) e = cc
 no_source_file files R source_kind name _ _ (bad_text bytes line file bad) e = bad
 

@@ -11,7 +11,7 @@ use Rattle.ix_words.specs.declared.command.Command.{Command}
 use Rattle.ix_words.specs.declared.command.RunForm.{RunForm}
 use Rattle.ix_words.specs.declared.command.RunForm.TheVariants.{Rows, Ports}
 use Rattle.ix_words.specs.declared.command.FileKind.{FileKind}
-use Rattle.ix_words.specs.declared.command.FileKind.TheVariants.{Image, Report, Extension, Sheet, PlainSheet, Source as source_kind, Waits}
+use Rattle.ix_words.specs.declared.command.FileKind.TheVariants.{Image, Report, Extension, Sheet, Source as source_kind, Waits}
 use Rattle.ix_words.specs.declared.command.Slot.{Slot}
 use Rattle.ix_words.specs.declared.command.Slot.TheVariants.{Number, File}
 use Rattle.ix_words.specs.Readings.{Reading, number_read, image_read, report_read, extension_read, sheet_read, source_read, waits_read}
@@ -72,17 +72,6 @@ text_apart Sheet bytes line (extension_read x) r bad = r
 text_apart Sheet bytes line (source_read x) r bad = r
 text_apart Sheet bytes line (waits_read x) r bad = r
 text_apart source_kind bytes line v r bad = bad
-text_apart PlainSheet bytes line (sheet_read x) r (inl bad) = sheet_not_refused bytes x bad.0 r.0.sheet_is bad.1
-text_apart PlainSheet bytes line (sheet_read x) r (inr bad) =
-    let same : x ≡ bad.sheet = one_sheet bytes x bad.sheet r.0 bad.read in
-    let kept : bad.sheet.shape.forward ≡ false = subst (λ (y : Datasheet). y.shape.forward ≡ false) same r.1 in
-    let apart : true ≡ false = sym bad.forwards ∙ kept in cc
-text_apart PlainSheet bytes line (image_read x) r bad = r
-text_apart PlainSheet bytes line (number_read x) r bad = r
-text_apart PlainSheet bytes line report_read r bad = r
-text_apart PlainSheet bytes line (extension_read x) r bad = r
-text_apart PlainSheet bytes line (source_read x) r bad = r
-text_apart PlainSheet bytes line (waits_read x) r bad = r
 text_apart Waits bytes line (waits_read waits) r bad = waits_not_refused bytes waits bad.0 r bad.1
 text_apart Waits bytes line (image_read x) r bad = r
 text_apart Waits bytes line (number_read x) r bad = r
@@ -157,19 +146,6 @@ text_one Sheet bytes report_read u r s = absurd r
 text_one Sheet bytes (extension_read x) u r s = absurd r
 text_one Sheet bytes (source_read x) u r s = absurd r
 text_one Sheet bytes (waits_read x) u r s = absurd r
-text_one PlainSheet bytes (sheet_read x) (sheet_read y) r s = ap (λ z. sheet_read z) (one_sheet bytes x y r.0 s.0)
-text_one PlainSheet bytes (sheet_read x) (image_read i) r s = absurd s
-text_one PlainSheet bytes (sheet_read x) (number_read n) r s = absurd s
-text_one PlainSheet bytes (sheet_read x) report_read r s = absurd s
-text_one PlainSheet bytes (sheet_read x) (extension_read y) r s = absurd s
-text_one PlainSheet bytes (sheet_read x) (waits_read y) r s = absurd s
-text_one PlainSheet bytes (sheet_read x) (source_read y) r s = absurd s
-text_one PlainSheet bytes (image_read i) u r s = absurd r
-text_one PlainSheet bytes (number_read n) u r s = absurd r
-text_one PlainSheet bytes report_read u r s = absurd r
-text_one PlainSheet bytes (extension_read x) u r s = absurd r
-text_one PlainSheet bytes (source_read x) u r s = absurd r
-text_one PlainSheet bytes (waits_read x) u r s = absurd r
 text_one Waits bytes (waits_read x) (waits_read y) r s = ap (λ z. waits_read z) (one_text bytes x y r s)
 text_one Waits bytes (waits_read x) (image_read y) r s = absurd s
 text_one Waits bytes (waits_read x) (number_read y) r s = absurd s

@@ -7,7 +7,7 @@ use Rattle.ix_io.specs.Shelf.{NamedFiles}
 use Rattle.ix_cert.specs.Certificates.{IsFaultless}
 use Rattle.ix_words.specs.declared.command.Command.{Command}
 use Rattle.ix_words.specs.declared.command.Command.TheVariants.{RunImage, Check, Certify, Schedule, Build, Sweep, Seq, Assemble, RunExtension, Bench, Wave}
-use Rattle.ix_words.specs.declared.command.FileKind.TheVariants.{Image, Report, Extension, Sheet, PlainSheet, Source as source_kind, Waits}
+use Rattle.ix_words.specs.declared.command.FileKind.TheVariants.{Image, Report, Extension, Sheet, Source as source_kind, Waits}
 use Rattle.ix_words.specs.Readings.{Reading, number_read, image_read, report_read, extension_read, sheet_read, source_read, waits_read}
 use Rattle.rv_asm.specs.ImageText.{IsImageText}
 use Rattle.rv_asm.specs.WaitsText.{IsWaitsText}
@@ -65,15 +65,6 @@ sheet_in bytes report_read r = absurd r
 sheet_in bytes (extension_read x) r = absurd r
 sheet_in bytes (source_read x) r = absurd r
 sheet_in bytes (waits_read x) r = absurd r
-
-plain_sheet_in : (bytes : List ℕ) (v : Reading) → IsReadAs PlainSheet bytes v → (sheet : Datasheet) × (v ≡ sheet_read sheet) × IsSheetRead bytes sheet
-plain_sheet_in bytes (sheet_read sheet) r = (sheet, refl, r.0)
-plain_sheet_in bytes (image_read image) r = absurd r
-plain_sheet_in bytes (number_read n) r = absurd r
-plain_sheet_in bytes report_read r = absurd r
-plain_sheet_in bytes (extension_read x) r = absurd r
-plain_sheet_in bytes (source_read x) r = absurd r
-plain_sheet_in bytes (waits_read x) r = absurd r
 
 waits_in : (bytes : List ℕ) (v : Reading) → IsReadAs Waits bytes v → (waits : List ℕ) × (v ≡ waits_read waits) × IsWaitsText bytes waits
 waits_in bytes (waits_read waits) r = (waits, refl, r)
@@ -315,7 +306,7 @@ pipeline_read files (a ∷ b ∷ c ∷ d ∷ e ∷ f ∷ rest) (v ∷ u ∷ w �
 pipeline_read files (a ∷ b ∷ c ∷ d ∷ e ∷ []) (v ∷ u ∷ w ∷ z ∷ y ∷ t ∷ vs) h = absurd h.1.1.1.1.1
 pipeline_read files (a ∷ b ∷ c ∷ d ∷ e ∷ []) (v ∷ u ∷ w ∷ z ∷ y ∷ []) h =
     let x = extension_in h.0.0 v h.0.2 in
-    let s = plain_sheet_in h.1.0.0 u h.1.0.2 in
+    let s = sheet_in h.1.0.0 u h.1.0.2 in
     let i = image_of h.1.1.0.0 w h.1.1.0.2 in
     let m = waits_in h.1.1.1.0.0 z h.1.1.1.0.2 in
     record {
@@ -397,7 +388,7 @@ bench_read files (a ∷ b ∷ c ∷ d ∷ e ∷ rest) (v ∷ u ∷ w ∷ z ∷ v
 bench_read files (a ∷ b ∷ c ∷ d ∷ []) (v ∷ u ∷ w ∷ z ∷ y ∷ vs) h = absurd h.1.1.1.1
 bench_read files (a ∷ b ∷ c ∷ d ∷ []) (v ∷ u ∷ w ∷ z ∷ []) h =
     let x = extension_in h.0.0 v h.0.2 in
-    let s = plain_sheet_in h.1.0.0 u h.1.0.2 in
+    let s = sheet_in h.1.0.0 u h.1.0.2 in
     record {
       name = a;
       other = b;

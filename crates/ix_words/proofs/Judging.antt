@@ -7,7 +7,7 @@ use Rattle.ix_io.specs.Shelf.{NamedFiles, told_file}
 use Rattle.ix_words.specs.declared.status.Status.{Status}
 use Rattle.ix_words.specs.declared.status.Status.TheVariants.{ReadFault, TooLong, Certificate, Extension as extension_status, Sheet as sheet_status}
 use Rattle.ix_words.specs.declared.command.FileKind.{FileKind}
-use Rattle.ix_words.specs.declared.command.FileKind.TheVariants.{Report, Extension, Sheet, PlainSheet}
+use Rattle.ix_words.specs.declared.command.FileKind.TheVariants.{Report, Extension, Sheet}
 use Rattle.ix_cert.specs.declared.report.CertErr.{CertErr}
 use Rattle.ix_cert.specs.declared.report.CertErr.TheVariants.{Memory as cert_memory}
 use Rattle.ix_cert.specs.Certificates.{IsRefused as IsRefusedReport}
@@ -16,7 +16,7 @@ use Rattle.ix_elab.specs.declared.error.FrontErr.TheVariants.{Memory as front_me
 use Rattle.ix_elab.specs.Refusing.{IsCause}
 use Rattle.ix_listing.specs.RefusalLine.{refusal_line}
 use Rattle.ix_sheet.specs.declared.sheet.SheetErr.{SheetErr}
-use Rattle.ix_sheet.specs.declared.sheet.SheetErr.TheVariants.{Memory as sheet_memory, Core as core_missing}
+use Rattle.ix_sheet.specs.declared.sheet.SheetErr.TheVariants.{Memory as sheet_memory}
 use Rattle.ix_sheet.specs.declared.sheet.Sheet.{Sheet as Datasheet}
 use Rattle.ix_sheet.specs.Datasheets.{IsRefusalOf}
 use Rattle.ix_words.specs.declared.command.Slot.TheVariants.{File}
@@ -54,17 +54,6 @@ pub sheet_judged : (bytes : List ℕ) (e : SheetErr) (why : Refusal) → (e ≢ 
 sheet_judged bytes e refusal.Memory refused memory told = tt
 sheet_judged bytes e (refusal.Line status text) refused memory told =
     judged_err Sheet bytes (sheet_line e) (refusal.Line status text) (e, refused (λ m. line_no_memory status text (memory m)), refl) told
-
--- the same of a datasheet whose core may not forward
-pub plain_sheet_judged : (bytes : List ℕ) (e : SheetErr) (why : Refusal) → (e ≢ sheet_memory → IsRefusalOf bytes e) → (e ≡ sheet_memory → why ≡ refusal.Memory) → Refuses sheet_status (sheet_line e) why → Judged PlainSheet bytes (Err why)
-plain_sheet_judged bytes e refusal.Memory refused memory told = tt
-plain_sheet_judged bytes e (refusal.Line status text) refused memory told =
-    judged_err PlainSheet bytes (sheet_line e) (refusal.Line status text) (inl (e, refused (λ m. line_no_memory status text (memory m)), refl)) told
-
--- and of one whose core does
-pub forwarding_judged : (bytes : List ℕ) (sheet : Datasheet) (why : Refusal) → IsSheetRead bytes sheet → sheet.shape.forward ≡ true → Refuses sheet_status (sheet_line core_missing) why → Judged PlainSheet bytes (Err why)
-forwarding_judged bytes sheet why read forwards told =
-    judged_err PlainSheet bytes (sheet_line core_missing) why (inr (record { sheet = sheet; read = read; forwards = forwards; line_is = refl })) told
 
 told_as : (files : Option NamedFiles) (R : List ℕ → Type 0) (kind : FileKind) (name line : List ℕ) (status : Status) (why : Refusal) → IsRefusedFile files R kind name status line → Refuses status line why → WordRead files R (File kind) name (Err why)
 told_as files R kind name line status refusal.Memory bad told = tt

@@ -5,7 +5,7 @@ use Rattle.std.specs.Str.{bytes_eq}
 use Rattle.std.specs.declared.alloc.Global.{Global}
 use Rattle.ix_words.specs.declared.command.Command.{Command}
 use Rattle.ix_words.specs.declared.command.Command.TheVariants.{RunImage, Check, Certify, Schedule, Build, Sweep, Seq, Assemble, RunExtension, Bench, Wave}
-use Rattle.ix_words.specs.declared.command.FileKind.TheVariants.{Image, Report, Extension, Sheet, PlainSheet, Source, Waits}
+use Rattle.ix_words.specs.declared.command.FileKind.TheVariants.{Image, Report, Extension, Sheet, Source, Waits}
 use Rattle.ix_words.specs.declared.command.Slot.{Slot}
 use Rattle.ix_words.specs.declared.command.Slot.TheVariants.{Number, File}
 
@@ -61,9 +61,9 @@ slots_of Assemble = File Extension ∷ File Source ∷ []
 slots_of Schedule = File Extension ∷ File Sheet ∷ []
 slots_of Build = File Extension ∷ File Sheet ∷ []
 slots_of Sweep = File Extension ∷ File Sheet ∷ []
-slots_of RunExtension = File Extension ∷ File PlainSheet ∷ File Image ∷ File Waits ∷ Number 200000 ∷ []
-slots_of Bench = File Extension ∷ File PlainSheet ∷ Number most_number ∷ Number most_drawn ∷ []
-slots_of Wave = File Extension ∷ File PlainSheet ∷ File Image ∷ File Waits ∷ Number 200000 ∷ []
+slots_of RunExtension = File Extension ∷ File Sheet ∷ File Image ∷ File Waits ∷ Number 200000 ∷ []
+slots_of Bench = File Extension ∷ File Sheet ∷ Number most_number ∷ Number most_drawn ∷ []
+slots_of Wave = File Extension ∷ File Sheet ∷ File Image ∷ File Waits ∷ Number 200000 ∷ []
 
 -- the commands, in the order in which words are tried
 abbrev pub commands : List Command

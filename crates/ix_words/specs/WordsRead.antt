@@ -1,9 +1,9 @@
 -- What the words behind the first stand for, and the first of them that is refused (this project's choice).
-use Rattle.std.specs.Prelude.{◌≡◌, IfSome, ℕ, true, false, ◌<◌, ◌≤◌, List, [], ◌∷◌, ◌++◌, length, Option, Some, codes, decimal, ◌⊎◌, string_bytes, Result, Ok, Err}
+use Rattle.std.specs.Prelude.{◌≡◌, IfSome, ℕ, ◌<◌, ◌≤◌, List, [], ◌∷◌, ◌++◌, length, Option, Some, codes, decimal, ◌⊎◌, string_bytes, Result, Ok, Err}
 use Rattle.ix_words.specs.declared.status.Status.{Status}
 use Rattle.ix_words.specs.declared.status.Status.TheVariants.{ReadFault, TooLong, Extension as extension_status, Sheet as sheet_status, Image as image_status, Certificate, Source, Waits as waits_status}
 use Rattle.ix_words.specs.declared.command.FileKind.{FileKind}
-use Rattle.ix_words.specs.declared.command.FileKind.TheVariants.{Image, Report, Extension, Sheet, PlainSheet, Source as source_kind, Waits}
+use Rattle.ix_words.specs.declared.command.FileKind.TheVariants.{Image, Report, Extension, Sheet, Source as source_kind, Waits}
 use Rattle.ix_words.specs.declared.command.Slot.{Slot}
 use Rattle.ix_words.specs.declared.command.Slot.TheVariants.{Number, File}
 use Rattle.ix_words.specs.declared.value.Value.{Value}
@@ -68,13 +68,6 @@ pub record IsSheetRead (bytes : List ℕ) (sheet : Datasheet) : Type 0 where
   pub delays : length sheet.delay ≡ 34
   pub windows : length sheet.window ≡ 10
 
--- the text is that of a datasheet whose core forwards, for which no pipeline is built yet
-pub record IsForwarding (bytes line : List ℕ) : Type 0 where
-  pub sheet : Datasheet
-  pub read : IsSheetRead bytes sheet
-  pub forwards : sheet.shape.forward ≡ true
-  pub line_is : line ≡ sheet_line S.Core
-
 -- the text of a file of this kind is refused with this line
 abbrev pub IsRefusedText : FileKind → List ℕ → List ℕ → Type 0
 IsRefusedText Image bytes line = (number : ℕ) × IsBadLine bytes number × (line ≡ image_line number)
@@ -82,7 +75,6 @@ IsRefusedText Report bytes line = (e : CertErr) × IsRefusedReport bytes e × (l
 IsRefusedText Extension bytes line = (e : FrontErr) × IsRefusedExtension bytes e × (line ≡ refusal_line e)
 IsRefusedText Waits bytes line = (number : ℕ) × IsBadWait bytes number × (line ≡ waits_line number)
 IsRefusedText Sheet bytes line = (e : SheetErr) × IsRefusedSheet bytes e × (line ≡ sheet_line e)
-IsRefusedText PlainSheet bytes line = ((e : SheetErr) × IsRefusedSheet bytes e × (line ≡ sheet_line e)) ⊎ IsForwarding bytes line
 IsRefusedText source_kind bytes line = ⊥
 
 -- the status of that refusal
@@ -92,7 +84,6 @@ refusal_status Report = Certificate
 refusal_status Extension = extension_status
 refusal_status Waits = waits_status
 refusal_status Sheet = sheet_status
-refusal_status PlainSheet = sheet_status
 refusal_status source_kind = Source
 
 -- the text of a file of this kind is read as this value
@@ -107,8 +98,6 @@ IsReadAs Waits bytes (waits_read waits) = IsWaitsText bytes waits
 IsReadAs Waits bytes v = ⊥
 IsReadAs Sheet bytes (sheet_read sheet) = IsSheetRead bytes sheet
 IsReadAs Sheet bytes v = ⊥
-IsReadAs PlainSheet bytes (sheet_read sheet) = IsSheetRead bytes sheet × (sheet.shape.forward ≡ false)
-IsReadAs PlainSheet bytes v = ⊥
 IsReadAs source_kind bytes (source_read text) = text ≡ bytes
 IsReadAs source_kind bytes v = ⊥
 

@@ -48,8 +48,6 @@ pub enum FileKind {
     Extension,
     /// A datasheet.
     Sheet,
-    /// A datasheet of a core that does not forward.
-    PlainSheet,
     /// An assembly source.
     Source,
     /// The waits of a memory.
@@ -108,7 +106,7 @@ const SCHEDULE: [Slot; 2] = [Slot::File(FileKind::Extension), Slot::File(FileKin
 /// What stands behind `run` for an image on a core with an extension, and behind `wave`.
 const RUN_EXTENSION: [Slot; 5] = [
     Slot::File(FileKind::Extension),
-    Slot::File(FileKind::PlainSheet),
+    Slot::File(FileKind::Sheet),
     Slot::File(FileKind::Image),
     Slot::File(FileKind::Waits),
     Slot::Number(200_000),
@@ -117,7 +115,7 @@ const RUN_EXTENSION: [Slot; 5] = [
 /// What stands behind `bench`.
 const BENCH: [Slot; 4] = [
     Slot::File(FileKind::Extension),
-    Slot::File(FileKind::PlainSheet),
+    Slot::File(FileKind::Sheet),
     Slot::Number(4_294_967_295),
     Slot::Number(10_000),
 ];

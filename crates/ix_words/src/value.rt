@@ -7,7 +7,7 @@ ghost use Rattle.ix_words.specs.CommandLine.{fits_slot, fits_slots, bytes_of};
 ghost use Rattle.ix_words.specs.WordsRead.{image_line, file_line, certificate_line, sheet_text, sheet_line, waits_line, Refuses, Judged, WordRead, WordsRefused, AreRead, RoseIn};
 ghost use Rattle.ix_words.specs.Readings.{reading_of};
 ghost use Rattle.ix_words.specs.declared.command.FileKind.{FileKind as Kind};
-ghost use Rattle.ix_words.specs.declared.command.FileKind.TheVariants.{Image as image_kind, Report as report_kind, Extension as extension_kind, Sheet as sheet_kind, PlainSheet as plain_sheet_kind, Source as source_kind, Waits as waits_kind};
+ghost use Rattle.ix_words.specs.declared.command.FileKind.TheVariants.{Image as image_kind, Report as report_kind, Extension as extension_kind, Sheet as sheet_kind, Source as source_kind, Waits as waits_kind};
 
 use crate::command::{FileKind, Slot, number_within};
 use crate::status::Status;
@@ -184,22 +184,6 @@ fn judge_sheet(alloc: Global, bytes: &[u8]) -> Result<Value, Refusal>
     }
 }
 
-/// A datasheet of a core that does not forward: no pipeline that forwards is built yet, so another is refused as if it named no core.
-fn judge_plain_sheet(alloc: Global, bytes: &[u8]) -> Result<Value, Refusal>
-    ensures { Judged plain_sheet_kind bytes.now result }
-{
-    match read_sheet(alloc, bytes) {
-        Ok(sheet) => {
-            if sheet.shape.forward {
-                Err(sheet_refusal(alloc, &SheetErr::Core))
-            } else {
-                Ok(Value::Sheet(sheet))
-            }
-        }
-        Err(error) => Err(sheet_refusal(alloc, &error)),
-    }
-}
-
 /// A source is read as its bytes; whether it has words depends on the extension.
 fn judge_source(alloc: Global, bytes: &[u8]) -> Result<Value, Refusal>
     ensures { Judged source_kind bytes.now result }
@@ -220,7 +204,6 @@ fn judge(alloc: Global, kind: FileKind, bytes: &[u8]) -> Result<Value, Refusal>
         FileKind::Report => judge_report(alloc, bytes),
         FileKind::Extension => judge_extension(alloc, bytes),
         FileKind::Sheet => judge_sheet(alloc, bytes),
-        FileKind::PlainSheet => judge_plain_sheet(alloc, bytes),
         FileKind::Source => judge_source(alloc, bytes),
         FileKind::Waits => judge_waits(alloc, bytes),
     }

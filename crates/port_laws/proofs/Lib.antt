@@ -5,3 +5,5 @@ mod LoadingInputs
 mod LeapingInputs
 mod FreezingInputs
 mod SummingCycles
+mod ForwardingInputs
+mod LinkingInputs

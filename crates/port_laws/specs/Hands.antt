@@ -24,6 +24,7 @@ use Rattle.rv_seq.specs.declared.commit.Slot.{Slot}
 use Rattle.rv_seq.specs.declared.commit.Slot.TheVariants.{Absent, Now}
 use Rattle.rv_seq.specs.declared.commit.Stop.{Stop}
 use Rattle.rv_seq.specs.declared.commit.Stop.TheVariants.{Ebreak}
+use Rattle.rv_seq.specs.States.{initials}
 use Rattle.rv_trace.specs.declared.row.Cell.{Cell}
 use Rattle.rv_trace.specs.declared.row.Hold.{Hold}
 use Rattle.rv_trace.specs.declared.row.Row.{Row}
@@ -39,6 +40,10 @@ three = record { stages = 3; rd = 1; ex = 1; mem = 2; forward = false; predict =
 -- five stages, each with one thing to do
 abbrev pub five : Shape
 five = record { stages = 5; rd = 1; ex = 2; mem = 3; forward = false; predict = false; trap = 16; lawful = five_lawful }
+
+-- the same, where it forwards
+abbrev pub five_forwarding : Shape
+five_forwarding = record { stages = 5; rd = 1; ex = 2; mem = 3; forward = true; predict = false; trap = 16; lawful = five_lawful }
 
 -- Behaviours
 
@@ -175,6 +180,25 @@ quiet customs =
       unit = None;
     }
 
+-- an instruction that writes this x register in its own body at this time
+abbrev pub puts_to : ℕ → ℕ → Asks
+puts_to rd time =
+    record {
+      first = 0;
+      second = 0;
+      destination = rd;
+      x_time = time;
+      spawned = None;
+      loads = false;
+      stores = false;
+      late = false;
+      tail = 0;
+      customs = no_customs;
+      late_customs = no_customs;
+      spawned_customs = no_customs;
+      unit = None;
+    }
+
 -- no step writes a custom register itself
 abbrev pub none_own : ℕ → List Bool
 none_own p = no_customs
@@ -200,7 +224,7 @@ pub record Hand : Type 0 where
   pub own : ℕ → List Bool
   pub loads : ℕ → Option Access
 
--- what drives its modules; the image, the waits and the accesses of the run drive none
+-- what drives its modules; the image, the waits, the accesses of the run and the jumps of always-blocks drive none
 abbrev pub by_hand : Hand → Drives
 by_hand h =
     record {
@@ -212,6 +236,8 @@ by_hand h =
             course = record { answer = λ p. slice_index_or h.answers p (Stopped Ebreak); pc = λ p. 0; accesses = λ p. false; blocks = h.blocks; own = h.own };
             asks = h.asks;
             units = first_units h.shape.stages h.plans;
+            initial = initials h.registers;
+            jump = λ file at word. None;
           };
       extension = record { name = []; registers = h.registers; tables = []; instructions = []; blocks = [] };
       plans = h.plans;

@@ -5,3 +5,5 @@ pub mod Loading
 pub mod Leaping
 pub mod Freezing
 pub mod Summing
+pub mod Forwarding
+pub mod Linking

@@ -1,6 +1,8 @@
 ghost use Rattle.port_laws.specs.Adding as add;
+ghost use Rattle.port_laws.specs.Forwarding as forward;
 ghost use Rattle.port_laws.specs.Freezing as freeze;
 ghost use Rattle.port_laws.specs.Leaping as leap;
+ghost use Rattle.port_laws.specs.Linking as link;
 ghost use Rattle.port_laws.specs.Loading as load;
 ghost use Rattle.port_laws.specs.Summing as total;
 ghost use Rattle.port_laws.specs.Waiting as wait;
@@ -64,6 +66,22 @@ pub fn freezing_run()
     ensures moves_while_frozen { freeze.AreNotQuick freeze.moves_while_frozen }
     ensures still_while_empty { freeze.AreNotQuick freeze.still_while_empty }
     ensures retires_unseen { freeze.AreNotQuick freeze.retires_unseen }
+{}
+
+/// The same on a run of five stages of a core that forwards: an operand that two older instructions behind EX write is what the younger of them writes,
+/// and neither what the older one does nor what the register file has, while the other one, which is written, is that of the file.
+pub fn forwarding_run()
+    ensures inputs { forward.AreForwarding forward.right }
+    ensures of_file { forward.AreNotForwarding forward.of_file }
+    ensures of_older { forward.AreNotForwarding forward.of_older }
+{}
+
+/// The same on such a run in which a jump leaves EX and flushes the cell at RD, which reads the register of its link: the operand of that cell is the link,
+/// and it does not move.
+pub fn linking_run()
+    ensures inputs { link.AreLinking link.right }
+    ensures of_file { link.AreNotLinking link.of_file }
+    ensures flushed_moves { link.AreNotLinking link.flushed_moves }
 {}
 
 /// A net that is driven by the rows of the first run: its cycles are such a run of it, its output has the sum in the row in which the instruction

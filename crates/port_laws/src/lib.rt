@@ -4,4 +4,7 @@
 
 mod laws;
 
-pub use laws::{adding_run, driven_net, freezing_run, leaping_run, loading_run, waiting_run};
+pub use laws::{
+    adding_run, driven_net, forwarding_run, freezing_run, leaping_run, linking_run, loading_run,
+    waiting_run,
+};

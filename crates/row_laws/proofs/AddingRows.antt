@@ -239,7 +239,7 @@ lawful_0 = record {
   shows : (stage : ℕ) (c : Cell) → Stands adding row_0 stage c → ShowsHold adding [] row_0 stage c
   shows zero c s =
       same_cell (λ d. ShowsHold adding [] row_0 0 d) five c s
-      (shows_none adding_hand [] row_0 0 five refl (λ alive runs g t. elim t [
+      (shows_none adding [] row_0 0 five refl (λ alive runs g t. elim t [
         | inl o ↦ free_front [] row_0 five five_quiet.0 g o
         | inr b ↦ no_second b.1.0 b.1.1
       ]))
@@ -273,13 +273,13 @@ lawful_1 = record {
   shows : (stage : ℕ) (c : Cell) → Stands adding row_1 stage c → ShowsHold adding (row_0 ∷ []) row_1 stage c
   shows zero c s =
       same_cell (λ d. ShowsHold adding (row_0 ∷ []) row_1 0 d) seven c s
-      (shows_none adding_hand (row_0 ∷ []) row_1 0 seven refl (λ alive runs g t. elim t [
+      (shows_none adding (row_0 ∷ []) row_1 0 seven refl (λ alive runs g t. elim t [
         | inl o ↦ free_front (row_0 ∷ []) row_1 seven seven_quiet.0 g o
-        | inr b ↦ goes_before adding_hand (row_0 ∷ []) row_1 0 five refl refl (λ stop r. runs_0 stop r.due) b.1
+        | inr b ↦ goes_before adding (row_0 ∷ []) row_1 0 five refl refl (λ stop r. runs_0 stop r.due) b.1
       ]))
   shows (suc zero) c s =
       same_cell (λ d. ShowsHold adding (row_0 ∷ []) row_1 1 d) five c s
-      (shows_none adding_hand (row_0 ∷ []) row_1 1 five refl (λ alive runs g t. elim t [
+      (shows_none adding (row_0 ∷ []) row_1 1 five refl (λ alive runs g t. elim t [
         | inl o ↦ free_quiet (row_0 ∷ []) row_1 five five_quiet runs_0 g o
         | inr b ↦ cc (b.1.1)
       ]))
@@ -312,15 +312,15 @@ lawful_2 = record {
   shows : (stage : ℕ) (c : Cell) → Stands adding row_2 stage c → ShowsHold adding two_rows row_2 stage c
   shows zero c s =
       same_cell (λ d. ShowsHold adding two_rows row_2 0 d) (sum None) c s
-      (shows_none adding_hand two_rows row_2 0 (sum None) refl (λ alive runs g t. elim t [
+      (shows_none adding two_rows row_2 0 (sum None) refl (λ alive runs g t. elim t [
         | inl o ↦ free_front two_rows row_2 (sum None) sum_loads g o
-        | inr b ↦ goes_before adding_hand two_rows row_2 0 seven refl refl (λ stop r. runs_1 stop r.due) b.1
+        | inr b ↦ goes_before adding two_rows row_2 0 seven refl refl (λ stop r. runs_1 stop r.due) b.1
       ]))
   shows (suc zero) c s =
       same_cell (λ d. ShowsHold adding two_rows row_2 1 d) seven c s
-      (shows_none adding_hand two_rows row_2 1 seven refl (λ alive runs g t. elim t [
+      (shows_none adding two_rows row_2 1 seven refl (λ alive runs g t. elim t [
         | inl o ↦ free_quiet two_rows row_2 seven seven_quiet runs_1 g o
-        | inr b ↦ goes_before adding_hand two_rows row_2 1 five refl refl (λ stop r. at_end r.executing) b.1
+        | inr b ↦ goes_before adding two_rows row_2 1 five refl refl (λ stop r. at_end r.executing) b.1
       ]))
   shows (suc (suc zero)) c s = same_cell (λ d. ShowsHold adding two_rows row_2 2 d) five c s (shows_out two_rows row_2 five refl five_quiet.0)
   shows (suc (suc (suc n))) c s = cc
@@ -342,6 +342,7 @@ sum_waits = record {
   older = record { lower = omega arith; unflushed = seven_stays.0 };
   unretired = seven_stays.1;
   writes = (7340307, inl (2, seven, refl, refl, refl), seven_writes);
+  withheld = λ e. absurd (true_not_false (sym e));
 }
 
 named_3 : AllNamed adding_hand four_rows
@@ -380,10 +381,10 @@ lawful_3 = record {
   shows : (stage : ℕ) (c : Cell) → Stands adding row_3 stage c → ShowsHold adding three_rows row_3 stage c
   shows zero c s =
       same_cell (λ d. ShowsHold adding three_rows row_3 0 d) (break (Some Behind)) c s
-      (shows_behind adding_hand three_rows row_3 0 (break (Some Behind)) refl refl at_front (sum (Some (Operand 2 1)), refl, inl refl) (free_front three_rows row_3 (break (Some Behind)) break_quiet.0))
+      (shows_behind adding three_rows row_3 0 (break (Some Behind)) refl refl at_front (sum (Some (Operand 2 1)), refl, inl refl) (free_front three_rows row_3 (break (Some Behind)) break_quiet.0))
   shows (suc zero) c s =
       same_cell (λ d. ShowsHold adding three_rows row_3 1 d) (sum (Some (Operand 2 1))) c s
-      (shows_own adding_hand three_rows row_3 1 (sum (Some (Operand 2 1))) (Operand 2 1) refl refl sum_waits (operand_first adding_hand none_spawned three_rows row_3 1 (sum (Some (Operand 2 1))) 2 1 sum_first) (inl (omega arith)))
+      (shows_own adding three_rows row_3 1 (sum (Some (Operand 2 1))) (Operand 2 1) refl refl sum_waits (operand_first adding_hand none_spawned three_rows row_3 1 (sum (Some (Operand 2 1))) 2 1 sum_first) (inl (omega arith)))
   shows (suc (suc zero)) c s = same_cell (λ d. ShowsHold adding three_rows row_3 2 d) seven c s (shows_out three_rows row_3 seven refl seven_quiet.0)
   shows (suc (suc (suc n))) c s = cc
 
@@ -419,13 +420,13 @@ lawful_4 = record {
   shows : (stage : ℕ) (c : Cell) → Stands adding row_4 stage c → ShowsHold adding four_rows row_4 stage c
   shows zero c s =
       same_cell (λ d. ShowsHold adding four_rows row_4 0 d) (break None) c s
-      (shows_none adding_hand four_rows row_4 0 (break None) refl (λ alive runs g t. elim t [
+      (shows_none adding four_rows row_4 0 (break None) refl (λ alive runs g t. elim t [
         | inl o ↦ free_front four_rows row_4 (break None) break_quiet.0 g o
-        | inr b ↦ goes_before adding_hand four_rows row_4 0 (sum None) refl refl (λ stop r. runs_2 stop r.due) b.1
+        | inr b ↦ goes_before adding four_rows row_4 0 (sum None) refl refl (λ stop r. runs_2 stop r.due) b.1
       ]))
   shows (suc zero) c s =
       same_cell (λ d. ShowsHold adding four_rows row_4 1 d) (sum None) c s
-      (shows_none adding_hand four_rows row_4 1 (sum None) refl (λ alive runs g t. elim t [
+      (shows_none adding four_rows row_4 1 (sum None) refl (λ alive runs g t. elim t [
         | inl o ↦ free_ex four_rows row_4 (sum None) (free_behind adding_hand none_spawned four_rows row_4 1 (sum None) (λ j lt _. retired_1 j lt)) sum_loads g o
         | inr b ↦ cc (b.1.1)
       ]))
@@ -452,7 +453,7 @@ break_stops : StopsRun adding five_rows row_5 1 (break None) Ebreak
 break_stops = record {
   executing = refl;
   due = break_due;
-  free = free_ex five_rows row_5 (break None) (free_plain five_rows row_5 (break None) (λ r j w. true_not_false (sym w.reads ∙ no_register (adding_asks 1048691) r break_quiet.1 break_quiet.2)) (λ j w. true_not_false (sym (all_retired j w.older.lower) ∙ left_unretired adding_hand none_spawned (row_5 ∷ five_rows) j w.left))) break_quiet.0;
+  free = free_ex five_rows row_5 (break None) (free_plain five_rows row_5 (break None) (λ r j w. true_not_false (sym w.reads ∙ no_register (adding_asks 1048691) r break_quiet.1 break_quiet.2)) (λ j w. true_not_false (sym (all_retired j w.older.lower) ∙ left_unretired adding none_spawned (row_5 ∷ five_rows) j w.left))) break_quiet.0;
 }
 
 one_stop : (stop : Stop) → ◌≡◌ {A = StepAnswer} (Stopped Ebreak) (Stopped stop) → Ebreak ≡ stop
@@ -489,7 +490,7 @@ lawful_5 = record {
   shows zero c s = cc
   shows (suc zero) c s =
       same_cell (λ d. ShowsHold adding five_rows row_5 1 d) (break None) c s
-      (shows_none adding_hand five_rows row_5 1 (break None) refl (λ alive runs g t. runs Ebreak break_stops))
+      (shows_none adding five_rows row_5 1 (break None) refl (λ alive runs g t. runs Ebreak break_stops))
   shows (suc (suc zero)) c s = same_cell (λ d. ShowsHold adding five_rows row_5 2 d) (sum None) c s (shows_out five_rows row_5 (sum None) refl sum_loads)
   shows (suc (suc (suc n))) c s = cc
 

@@ -55,7 +55,7 @@ lawful_0 = record {
   shows : (stage : ℕ) (c : Cell) → Stands detour row_0 stage c → ShowsHold detour [] row_0 stage c
   shows zero c s =
       same_cell (λ d. ShowsHold detour [] row_0 0 d) leaping c s
-      (shows_none detour_hand [] row_0 0 leaping refl (λ alive runs g t. elim t [
+      (shows_none detour [] row_0 0 leaping refl (λ alive runs g t. elim t [
         | inl o ↦ free_front [] row_0 leaping g o
         | inr b ↦ no_second b.1.0 b.1.1
       ]))
@@ -117,10 +117,10 @@ lawful_1 = record {
   flushes stage c x (suc n) d lt stands = let e = x.settles.settling in absurd (omega (arith, lt, e))
 
   shows : (stage : ℕ) (c : Cell) → Stands detour row_1 stage c → ShowsHold detour (row_0 ∷ []) row_1 stage c
-  shows zero c s = same_cell (λ d. ShowsHold detour (row_0 ∷ []) row_1 0 d) passed c s (shows_none detour_hand (row_0 ∷ []) row_1 0 passed refl (λ alive runs g t. true_not_false alive))
+  shows zero c s = same_cell (λ d. ShowsHold detour (row_0 ∷ []) row_1 0 d) passed c s (shows_none detour (row_0 ∷ []) row_1 0 passed refl (λ alive runs g t. true_not_false alive))
   shows (suc zero) c s =
       same_cell (λ d. ShowsHold detour (row_0 ∷ []) row_1 1 d) leaping c s
-      (shows_none detour_hand (row_0 ∷ []) row_1 1 leaping refl (λ alive runs g t. elim t [
+      (shows_none detour (row_0 ∷ []) row_1 1 leaping refl (λ alive runs g t. elim t [
         | inl o ↦ free_ex (row_0 ∷ []) row_1 leaping (λ j lt _. absurd (omega (arith, lt))) g o
         | inr b ↦ cc (b.1.1)
       ]))
@@ -147,7 +147,7 @@ lawful_2 = record {
   shows : (stage : ℕ) (c : Cell) → Stands detour row_2 stage c → ShowsHold detour two_rows row_2 stage c
   shows zero c s =
       same_cell (λ d. ShowsHold detour two_rows row_2 0 d) target c s
-      (shows_none detour_hand two_rows row_2 0 target refl (λ alive runs g t. elim t [
+      (shows_none detour two_rows row_2 0 target refl (λ alive runs g t. elim t [
         | inl o ↦ free_front two_rows row_2 target g o
         | inr b ↦ no_second b.1.0 b.1.1
       ]))
@@ -212,7 +212,7 @@ lawful_3 = record {
   shows zero c s = cc
   shows (suc zero) c s =
       same_cell (λ d. ShowsHold detour three_rows row_3 1 d) target c s
-      (shows_none detour_hand three_rows row_3 1 target refl (λ alive runs g t. runs Ebreak (target_stops (Some Ebreak))))
+      (shows_none detour three_rows row_3 1 target refl (λ alive runs g t. runs Ebreak (target_stops (Some Ebreak))))
   shows (suc (suc zero)) c s = cc
   shows (suc (suc (suc n))) c s = cc
 

@@ -92,7 +92,7 @@ lawful_0 = record {
   shows : (stage : ℕ) (c : Cell) → Stands holding row_0 stage c → ShowsHold holding [] row_0 stage c
   shows zero c s =
       same_cell (λ d. ShowsHold holding [] row_0 0 d) (writer None) c s
-      (shows_none holding_hand [] row_0 0 (writer None) refl (λ alive runs g t. elim t [
+      (shows_none holding [] row_0 0 (writer None) refl (λ alive runs g t. elim t [
         | inl o ↦ free_front [] row_0 (writer None) g o
         | inr b ↦ no_second b.1.0 b.1.1
       ]))
@@ -124,13 +124,13 @@ lawful_1 = record {
   shows : (stage : ℕ) (c : Cell) → Stands holding row_1 stage c → ShowsHold holding (row_0 ∷ []) row_1 stage c
   shows zero c s =
       same_cell (λ d. ShowsHold holding (row_0 ∷ []) row_1 0 d) (reader None) c s
-      (shows_none holding_hand (row_0 ∷ []) row_1 0 (reader None) refl (λ alive runs g t. elim t [
+      (shows_none holding (row_0 ∷ []) row_1 0 (reader None) refl (λ alive runs g t. elim t [
         | inl o ↦ free_front (row_0 ∷ []) row_1 (reader None) g o
-        | inr b ↦ goes_before holding_hand (row_0 ∷ []) row_1 0 (writer None) refl refl (λ stop r. writer_runs two_rows stop r.due) b.1
+        | inr b ↦ goes_before holding (row_0 ∷ []) row_1 0 (writer None) refl refl (λ stop r. writer_runs two_rows stop r.due) b.1
       ]))
   shows (suc zero) c s =
       same_cell (λ d. ShowsHold holding (row_0 ∷ []) row_1 1 d) (writer None) c s
-      (shows_none holding_hand (row_0 ∷ []) row_1 1 (writer None) refl (λ alive runs g t. elim t [
+      (shows_none holding (row_0 ∷ []) row_1 1 (writer None) refl (λ alive runs g t. elim t [
         | inl o ↦ free_ex (row_0 ∷ []) row_1 (writer None) (λ j lt. absurd (omega (arith, lt))) g o
         | inr b ↦ cc (b.1.1)
       ]))
@@ -144,12 +144,12 @@ reader_waits earlier row hold f r w = record { executing = refl; uses = refl; ol
 
 reader_shows : (earlier : List Row) (row : Row) → has_serial row.flushed 1 ≡ false → WaitsForCustom holding earlier row 1 (reader (Some (Custom 0 0))) 0 0 → ShowsHold holding earlier row 1 (reader (Some (Custom 0 0)))
 reader_shows earlier row alive w =
-    shows_own holding_hand earlier row 1 (reader (Some (Custom 0 0))) (Custom 0 0) refl alive w
+    shows_own holding earlier row 1 (reader (Some (Custom 0 0))) (Custom 0 0) refl alive w
     (custom_first holding_hand none_spawned earlier row 1 (reader (Some (Custom 0 0))) (λ r j o. true_not_false (sym o.reads ∙ no_register (holding_asks 299) r refl refl)))
     (inl (omega arith))
 
 behind_shows : (earlier : List Row) (row : Row) (x d : Cell) → x.hold ≡ Some Behind → has_serial row.flushed x.serial ≡ false → Stands holding row 1 d → is_some d.hold ≡ true → ShowsHold holding earlier row 0 x
-behind_shows earlier row x d e alive s held = shows_behind holding_hand earlier row 0 x e alive at_front (d, s, inl held) (free_front earlier row x)
+behind_shows earlier row x d e alive s held = shows_behind holding earlier row 0 x e alive at_front (d, s, inl held) (free_front earlier row x)
 
 -- a cell of EX that is held does not settle
 held_settles : (earlier : List Row) (row : Row) (x : Cell) → is_some x.hold ≡ true → Stands holding row 1 x → (stage : ℕ) (c : Cell) → Stands holding row stage c → Settles holding earlier row stage c → ⊥
@@ -252,13 +252,13 @@ lawful_5 = record {
   shows : (stage : ℕ) (c : Cell) → Stands holding row_5 stage c → ShowsHold holding five_rows row_5 stage c
   shows zero c s =
       same_cell (λ d. ShowsHold holding five_rows row_5 0 d) (sum None) c s
-      (shows_none holding_hand five_rows row_5 0 (sum None) refl (λ alive runs g t. elim t [
+      (shows_none holding five_rows row_5 0 (sum None) refl (λ alive runs g t. elim t [
         | inl o ↦ free_front five_rows row_5 (sum None) g o
-        | inr b ↦ goes_before holding_hand five_rows row_5 0 (reader None) refl refl (λ stop r. reader_runs stop r.due) b.1
+        | inr b ↦ goes_before holding five_rows row_5 0 (reader None) refl refl (λ stop r. reader_runs stop r.due) b.1
       ]))
   shows (suc zero) c s =
       same_cell (λ d. ShowsHold holding five_rows row_5 1 d) (reader None) c s
-      (shows_none holding_hand five_rows row_5 1 (reader None) refl (λ alive runs g t. elim t [
+      (shows_none holding five_rows row_5 1 (reader None) refl (λ alive runs g t. elim t [
         | inl o ↦ free_ex five_rows row_5 (reader None) retired_0 g o
         | inr b ↦ cc (b.1.1)
       ]))
@@ -278,6 +278,7 @@ sum_waits = record {
   older = record { lower = omega arith; unflushed = refl };
   unretired = refl;
   writes = (299, inl (2, reader None, refl, refl, refl), refl);
+  withheld = λ e. absurd (true_not_false (sym e));
 }
 
 writer_retired : is_retired six_rows 0 ≡ true
@@ -304,7 +305,7 @@ lawful_6 = record {
   shows zero c s = same_cell (λ d. ShowsHold holding six_rows row_6 0 d) (break (Some Behind)) c s (behind_shows six_rows row_6 (break (Some Behind)) (sum (Some (Operand 2 1))) refl refl refl refl)
   shows (suc zero) c s =
       same_cell (λ d. ShowsHold holding six_rows row_6 1 d) (sum (Some (Operand 2 1))) c s
-      (shows_own holding_hand six_rows row_6 1 (sum (Some (Operand 2 1))) (Operand 2 1) refl refl sum_waits (operand_first holding_hand none_spawned six_rows row_6 1 (sum (Some (Operand 2 1))) 2 1 sum_first) (inl (omega arith)))
+      (shows_own holding six_rows row_6 1 (sum (Some (Operand 2 1))) (Operand 2 1) refl refl sum_waits (operand_first holding_hand none_spawned six_rows row_6 1 (sum (Some (Operand 2 1))) 2 1 sum_first) (inl (omega arith)))
   shows (suc (suc zero)) c s = same_cell (λ d. ShowsHold holding six_rows row_6 2 d) (reader None) c s (shows_last holding_hand none_spawned six_rows row_6 (reader None) refl refl (omega arith))
   shows (suc (suc (suc n))) c s = cc
 
@@ -343,13 +344,13 @@ lawful_7 = record {
   shows : (stage : ℕ) (c : Cell) → Stands holding row_7 stage c → ShowsHold holding seven_rows row_7 stage c
   shows zero c s =
       same_cell (λ d. ShowsHold holding seven_rows row_7 0 d) (break None) c s
-      (shows_none holding_hand seven_rows row_7 0 (break None) refl (λ alive runs g t. elim t [
+      (shows_none holding seven_rows row_7 0 (break None) refl (λ alive runs g t. elim t [
         | inl o ↦ free_front seven_rows row_7 (break None) g o
-        | inr b ↦ goes_before holding_hand seven_rows row_7 0 (sum None) refl refl (λ stop r. sum_runs stop r.due) b.1
+        | inr b ↦ goes_before holding seven_rows row_7 0 (sum None) refl refl (λ stop r. sum_runs stop r.due) b.1
       ]))
   shows (suc zero) c s =
       same_cell (λ d. ShowsHold holding seven_rows row_7 1 d) (sum None) c s
-      (shows_none holding_hand seven_rows row_7 1 (sum None) refl (λ alive runs g t. elim t [
+      (shows_none holding seven_rows row_7 1 (sum None) refl (λ alive runs g t. elim t [
         | inl o ↦ free_ex seven_rows row_7 (sum None) retired_1 g o
         | inr b ↦ cc (b.1.1)
       ]))
@@ -377,7 +378,7 @@ free_break stop = record {
   operand = λ r j w. true_not_false (sym w.reads ∙ no_register (holding_asks 1048691) r refl refl);
   custom = λ r j w. true_not_false (sym w.uses ∙ no_custom r);
   late = λ j w. true_not_false (sym w.jumps.2 ∙ (in_time w.jumps.0).0);
-  drain = λ j w. true_not_false (sym (retired_2 stop j w.older.lower) ∙ left_unretired holding_hand none_spawned (last_row stop ∷ eight_rows) j w.left);
+  drain = λ j w. true_not_false (sym (retired_2 stop j w.older.lower) ∙ left_unretired holding none_spawned (last_row stop ∷ eight_rows) j w.left);
 }
 
 break_stops : (stop : Option Stop) → StopsRun holding eight_rows (last_row stop) 1 (break None) Ebreak
@@ -421,7 +422,7 @@ lawful_8 = record {
   shows zero c s = cc
   shows (suc zero) c s =
       same_cell (λ d. ShowsHold holding eight_rows row_8 1 d) (break None) c s
-      (shows_none holding_hand eight_rows row_8 1 (break None) refl (λ alive runs g t. runs Ebreak (break_stops (Some Ebreak))))
+      (shows_none holding eight_rows row_8 1 (break None) refl (λ alive runs g t. runs Ebreak (break_stops (Some Ebreak))))
   shows (suc (suc zero)) c s = same_cell (λ d. ShowsHold holding eight_rows row_8 2 d) (sum None) c s (shows_last holding_hand none_spawned eight_rows row_8 (sum None) refl refl (omega arith))
   shows (suc (suc (suc n))) c s = cc
 

@@ -27,7 +27,7 @@ use Rattle.row_laws.proofs.Judging.{inner, stops_now, front_hold, front_shows, i
 abbrev RightAt : Hand → List Row → Row → ℕ → Type 0
 RightAt h earlier row at =
     ((d : Cell) × Stands (by_hand h) row 0 d × (d.at ≡ at))
-    ⊎ (((d : Cell) → Stands (by_hand h) row 0 d → ⊥) × ((at == plain_fetch (by_hand h) (fetch_address (by_hand h) earlier) row) ≡ true))
+    ⊎ (((d : Cell) → Stands (by_hand h) row 0 d → ⊥) × ((at == plain_fetch (by_hand h) earlier (fetch_address (by_hand h) earlier) row) ≡ true))
 
 no_flush : (h : Hand) (earlier : List Row) (row : Row) → row.flushed ≡ none_flushed → row.redirect ≡ None
     → ((stage : ℕ) (c : Cell) → Stands (by_hand h) row stage c → Settles (by_hand h) earlier row stage c → (stage ≡ 1) × RightAt h earlier row (successor (by_hand h) (row ∷ earlier) c))
@@ -64,7 +64,7 @@ no_flush h earlier row f r right = record {
 
 -- the cell of EX goes on to this address
 abbrev pub goes_to : Hand → List Row → Row → Option Cell → ℕ → Bool
-goes_to h earlier row None at = at == plain_fetch (by_hand h) (fetch_address (by_hand h) earlier) row
+goes_to h earlier row None at = at == plain_fetch (by_hand h) earlier (fetch_address (by_hand h) earlier) row
 goes_to h earlier row (Some d) at = d.at == at
 
 abbrev pub follows : Hand → List Row → Row → Option Cell → Option Cell → Bool

@@ -67,7 +67,7 @@ waits_for_write h earlier row c t j all e =
 
 shows_first_board : (h : Hand) (earlier : List Row) (row : Row) (c : Cell) (u : Target) (j : ℕ) → AllNamed h (row ∷ earlier) → has_serial row.flushed c.serial ≡ false → c.hold ≡ Some (Board u j) → board_true h earlier row c u j ≡ true
     → all_below (operand_clear h earlier c) c.serial ≡ true → ((t : Target) (i : ℕ) → WaitsForWrite (by_hand h) earlier row 1 c t i → ComesFirst (Board u j) (Board t i)) → ShowsHold (by_hand h) earlier row 1 c
-shows_first_board h earlier row c u j all alive shown e clear least = shows_own h earlier row 1 c (Board u j) shown alive (waits_for_write h earlier row c u j all e) first (inl (omega arith)) where
+shows_first_board h earlier row c u j all alive shown e clear least = shows_own (by_hand h) earlier row 1 c (Board u j) shown alive (waits_for_write h earlier row c u j all e) first (inl (omega arith)) where
   first : (f : Hold) → OwnHold (by_hand h) earlier row 1 c f → ComesFirst (Board u j) f
   first (Operand s i) o = absurd (no_operand h earlier row 1 c all clear s i o)
   first (Board t i) o = least t i o
@@ -194,7 +194,7 @@ pub shows_drain : (h : Hand) → IsSimple h → (earlier : List Row) (row : Row)
     → ShowsHold (by_hand h) earlier row 1 c
 shows_drain h simple earlier row c j all alive shown e =
     let a = four_true (drain_true h earlier row c j) (all_below (operand_clear h earlier c) c.serial) (all_below (board_clear h earlier c) c.serial) (all_below (settled h (row ∷ earlier)) j) e in
-    shows_own h earlier row 1 c (Drain j) shown alive (waits_to_drain h earlier row c j all a.0) (first a.1 a.2 a.3) (inl (omega arith)) where
+    shows_own (by_hand h) earlier row 1 c (Drain j) shown alive (waits_to_drain h earlier row c j all a.0) (first a.1 a.2 a.3) (inl (omega arith)) where
       least : (i : ℕ) → all_below (settled h (row ∷ earlier)) j ≡ true → WaitsToDrain (by_hand h) earlier row 1 c i → ComesFirst (Drain j) (Drain i)
       least i z w = elim (known (nat_lt i j)) [
         | inl x ↦ absurd (unsettled h (row ∷ earlier) i all (below (settled h (row ∷ earlier)) j i z (less i j x)) w.left)
@@ -226,7 +226,7 @@ waits_for_unit h earlier row c u e =
     record { last = refl; enters = register_there (h.asks c.word).unit u a.0; frozen = slots_there u (slice_get (units_after (by_hand h) earlier) u) (unit_written (units_after (by_hand h) earlier)) a.1 }
 
 pub shows_full : (h : Hand) → IsSimple h → (earlier : List Row) (row : Row) (c : Cell) (u : ℕ) → has_serial row.flushed c.serial ≡ false → c.hold ≡ Some (UnitFull u) → full_shown h earlier c u ≡ true → ShowsHold (by_hand h) earlier row 2 c
-shows_full h simple earlier row c u alive shown e = shows_own h earlier row 2 c (UnitFull u) shown alive (waits_for_unit h earlier row c u e) first (inl (omega arith)) where
+shows_full h simple earlier row c u alive shown e = shows_own (by_hand h) earlier row 2 c (UnitFull u) shown alive (waits_for_unit h earlier row c u e) first (inl (omega arith)) where
   first : (f : Hold) → OwnHold (by_hand h) earlier row 2 c f → ComesFirst (UnitFull u) f
   first (Operand s i) o = absurd (last_not_ex o.reading)
   first (Board t i) o = absurd (last_not_ex o.reading)
@@ -255,7 +255,7 @@ waits_for_port h earlier row c j all e =
 pub shows_port : (h : Hand) → IsSimple h → (earlier : List Row) (row : Row) (c : Cell) (j : ℕ) → AllNamed h (row ∷ earlier) → has_serial row.flushed c.serial ≡ false → c.hold ≡ Some (Port j) → port_shown h earlier row c j ≡ true → ShowsHold (by_hand h) earlier row 2 c
 shows_port h simple earlier row c j all alive shown e =
     let a = both_true (not (full_of (units_after (by_hand h) earlier) (h.asks c.word).unit)) (port_true h earlier row c j) e in
-    shows_own h earlier row 2 c (Port j) shown alive (waits_for_port h earlier row c j all a.1) (first a.0 (waits_for_port h earlier row c j all a.1)) (inl (omega arith)) where
+    shows_own (by_hand h) earlier row 2 c (Port j) shown alive (waits_for_port h earlier row c j all a.1) (first a.0 (waits_for_port h earlier row c j all a.1)) (inl (omega arith)) where
       first : not (full_of (units_after (by_hand h) earlier) (h.asks c.word).unit) ≡ true → WaitsForPort (by_hand h) earlier row 2 c j → (f : Hold) → OwnHold (by_hand h) earlier row 2 c f → ComesFirst (Port j) f
       first n w (Operand s i) o = absurd (last_not_ex o.reading)
       first n w (Board t i) o = absurd (last_not_ex o.reading)
@@ -321,7 +321,7 @@ blocks_behind h simple earlier row d all e = elim (known (is_some d.hold)) [
 pub front_shows : (h : Hand) → IsSimple h → (earlier : List Row) (x : Cell) (b c : Option Cell) (ret : Option (ℕ × Commit)) (wr : Option Written) (stop : Option Stop) → AllNamed h (full_row (Some x) b c ret wr stop ∷ earlier)
     → (hold : Option Hold) → x.hold ≡ hold → front_hold h earlier (full_row (Some x) b c ret wr stop) hold b ≡ true → ShowsHold (by_hand h) earlier (full_row (Some x) b c ret wr stop) 0 x
 front_shows h simple earlier x b c ret wr stop all None e t =
-    shows_none h earlier row 0 x e (λ alive runs g w. elim w [
+    shows_none (by_hand h) earlier row 0 x e (λ alive runs g w. elim w [
       | inl o ↦ none_own h simple earlier row 0 x (clear_front h earlier row x) g o
       | inr s ↦ goes_not_behind h earlier row b s.1.0 (inner b s.1.0 s.1.1) t s.1.2
     ]) where
@@ -329,7 +329,7 @@ front_shows h simple earlier x b c ret wr stop all None e t =
       row = full_row (Some x) b c ret wr stop
 front_shows h simple earlier x None c ret wr stop all (Some Behind) e t = absurd (true_not_false (sym t))
 front_shows h simple earlier x (Some d) c ret wr stop all (Some Behind) e t =
-    shows_hold h earlier row 0 x Behind e refl (λ s q. front_not_ex q.executing) (inr (refl, (d, refl, blocks_behind h simple earlier row d all t)))
+    shows_hold (by_hand h) earlier row 0 x Behind e refl (λ s q. front_not_ex q.executing) (inr (refl, (d, refl, blocks_behind h simple earlier row d all t)))
     (λ f w. elim w [
       | inl o ↦ absurd (none_own h simple earlier row 0 x (clear_front h earlier row x) f o)
       | inr q ↦ subst (λ g. ComesFirst Behind g) (sym q.0) (inr (refl, inr (refl, omega arith)))
@@ -370,7 +370,7 @@ pub ex_shows : (h : Hand) → IsSimple h → (earlier : List Row) (a : Option Ce
     → (hold : Option Hold) → x.hold ≡ hold → ex_hold h earlier (full_row a (Some x) c ret wr stop) x hold c ≡ true → ShowsHold (by_hand h) earlier (full_row a (Some x) c ret wr stop) 1 x
 ex_shows h simple earlier a x c ret wr stop all None e t =
     let p = both_true (ex_free h earlier row x) (is_due h (row ∷ earlier) x || not (is_held c)) t in
-    shows_none h earlier row 1 x e (λ alive runs g w. elim w [
+    shows_none (by_hand h) earlier row 1 x e (λ alive runs g w. elim w [
       | inl o ↦ none_own h simple earlier row 1 x (clear_ex h earlier row x all p.0) g o
       | inr s ↦ elim (known (is_due h (row ∷ earlier) x)) [
         | inl y ↦ let due = stop_there (h.course.answer (place (row ∷ earlier) x.serial)) y in runs due.0 (stops_now h simple earlier row x all p.0 due.0 due.1)
@@ -388,7 +388,7 @@ ex_shows h simple earlier a x None ret wr stop all (Some Behind) e t = absurd (t
 ex_shows h simple earlier a x (Some d) ret wr stop all (Some Behind) e t =
     let p = both_true (ex_free h earlier row x) (not (is_due h (row ∷ earlier) x) && is_some d.hold) t in
     let q = both_true (not (is_due h (row ∷ earlier) x)) (is_some d.hold) p.1 in
-    shows_hold h earlier row 1 x Behind e refl (λ s r. true_not_false (sym (due_now h (row ∷ earlier) x s r.due) ∙ negated (is_due h (row ∷ earlier) x) q.0)) (inr (refl, (d, refl, inl q.1)))
+    shows_hold (by_hand h) earlier row 1 x Behind e refl (λ s r. true_not_false (sym (due_now h (row ∷ earlier) x s r.due) ∙ negated (is_due h (row ∷ earlier) x) q.0)) (inr (refl, (d, refl, inl q.1)))
     (λ f w. elim w [
       | inl o ↦ absurd (none_own h simple earlier row 1 x (clear_ex h earlier row x all p.0) f o)
       | inr r ↦ subst (λ g. ComesFirst Behind g) (sym r.0) (inr (refl, inr (refl, omega arith)))
@@ -422,7 +422,7 @@ nothing_behind h a b c ret wr stop d e = cc
 pub last_shows : (h : Hand) → IsSimple h → (earlier : List Row) (a b : Option Cell) (x : Cell) (ret : Option (ℕ × Commit)) (wr : Option Written) (stop : Option Stop) → AllNamed h (full_row a b (Some x) ret wr stop ∷ earlier)
     → (hold : Option Hold) → x.hold ≡ hold → last_hold h earlier (full_row a b (Some x) ret wr stop) x hold ≡ true → ShowsHold (by_hand h) earlier (full_row a b (Some x) ret wr stop) 2 x
 last_shows h simple earlier a b x ret wr stop all None e t =
-    shows_none h earlier row 2 x e (λ alive runs g w. elim w [
+    shows_none (by_hand h) earlier row 2 x e (λ alive runs g w. elim w [
       | inl o ↦ none_own h simple earlier row 2 x (clear_last h earlier row x all t) g o
       | inr s ↦ nothing_behind h a b (Some x) ret wr stop s.1.0 s.1.1
     ]) where

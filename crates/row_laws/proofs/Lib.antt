@@ -11,3 +11,7 @@ mod SpawningRows
 mod SpawningOthers
 mod SpawningStates
 mod SharingRows
+mod CalmTests
+mod CalmRows
+mod ForwardingRows
+mod GuessingRows

@@ -1,36 +1,30 @@
 -- Lists of rows with decoupled writes that differ from lawful ones in one thing are not lawful.
-use Rattle.std.proofs.Common.{◌≡◌, ℕ, zero, suc, List, [], ◌∷◌, Option, Some, None, true, false, refl, sym, ◌∙◌, subst, arith, inl, inr}
+use Rattle.std.proofs.Common.{◌≡◌, ℕ, zero, suc, List, [], ◌∷◌, Option, Some, None, true, refl, sym, ◌∙◌, subst, arith, inl, inr}
 use Rattle.ix_bits.specs.BaseTable.{base_patterns}
 use Rattle.rv_isa.specs.Table.{row_of as base_row, format_of, base_formats}
 use Rattle.rv_isa.specs.Fields.{fields_of}
 use Rattle.rv_isa.specs.Decoded.{decoded}
 use Rattle.rv_effect.specs.Decoding.{decoded_in}
 use Rattle.rv_effect.specs.WordEffects.{effect_of, over, blocks_effect}
-use Rattle.rv_lawful.specs.LawfulTrace.{fetch_address, OwnHold, IsEmptyAfter, Lawful}
+use Rattle.rv_lawful.specs.LawfulTrace.{fetch_address, IsEmptyAfter}
 use Rattle.rv_lawful.specs.Outstanding.{Decoupled, units_after, is_written, decoupled}
-use Rattle.rv_lawful.specs.Settings.{Setting, Stands}
+use Rattle.rv_lawful.specs.Settings.{Stands}
 use Rattle.rv_seq.specs.Commits.{commit_of, applied}
 use Rattle.rv_seq.specs.Runs.{run}
 use Rattle.rv_seq.specs.States.{first}
 use Rattle.rv_seq.specs.Steps.{attempted, step}
 use Rattle.rv_seq.specs.declared.commit.Stop.{Stop}
 use Rattle.rv_seq.specs.declared.commit.Stop.TheVariants.{Ebreak, Fetch}
-use Rattle.rv_trace.specs.Trace.{has_serial, is_flushed, is_retired, place, newest}
+use Rattle.rv_trace.specs.Trace.{is_flushed, is_retired, place, newest}
 use Rattle.rv_trace.specs.declared.row.Cell.{Cell}
-use Rattle.rv_trace.specs.declared.row.Hold.{Hold}
 use Rattle.rv_trace.specs.declared.row.Hold.TheVariants.{Board, Drain, UnitFull, Port, Behind}
-use Rattle.rv_trace.specs.declared.row.Row.{Row}
 use Rattle.ix_plan.specs.declared.design.Target.TheVariants.{X}
 use Rattle.row_laws.specs.Spawning.{quick, brisk, hollow, sum, native, break, emptying, port_last, passing_hand, passing, passing_three, passing_six, IsUnlawful, board_left_out, board_of_another, board_of_younger, board_after_write, none_written, written_early, written_unretired, written_twice, port_hand, port, port_three, IsUnlawfulAtPort, port_left_out, port_without_write, stop_before_write, stop_left_out, frozen_hand, frozen, frozen_five, frozen_seven, IsUnlawfulFrozen, full_left_out, full_of_another, higher_written, frozen_moves, drain_left_out}
-use Rattle.row_laws.proofs.Stages.{true_not_false, AllNamed}
+use Rattle.row_laws.proofs.Stages.{true_not_false, AllNamed, idle}
 use Rattle.row_laws.proofs.Tests.{has_its}
 use Rattle.row_laws.proofs.Judging.{waits_for_write, waits_to_drain, waits_for_unit, waits_for_port}
 use Rattle.row_laws.proofs.Judged.{row_named}
 use Rattle.row_laws.proofs.SpawningRows.{passing_3_judged, port_3_judged, frozen_7_judged}
-
--- a cell that shows no hold though one of its own is true
-idle : (k : Setting) (earlier : List Row) (row : Row) (stage : ℕ) (c : Cell) (g : Hold) → Lawful k (row ∷ earlier) → Stands k row stage c → c.hold ≡ None → has_serial row.flushed c.serial ≡ false → OwnHold k earlier row stage c g → ⊥
-idle k earlier row stage c g h stands e alive own = (h.0.holds stage c stands).free e alive (λ stop s. s.free g own) g (inl own)
 
 none_not_some : (n : ℕ) → ◌≡◌ {A = Option ℕ} None (Some n) → ⊥
 none_not_some n e = cc

@@ -11,13 +11,13 @@ use Rattle.rv_trace.specs.declared.row.Row.{Row}
 use Rattle.rv_trace.specs.Trace.{has_serial, is_flushed, retires, is_retired, place}
 use Rattle.rv_trace.specs.RowParts.{name_of, leaves, ComesFirst}
 use Rattle.rv_waits.specs.Waits.{wait_at}
-use Rattle.rv_lawful.specs.Settings.{Stands, accesses_before, tailed}
+use Rattle.rv_lawful.specs.Settings.{Setting, Stands, accesses_before, tailed}
 use Rattle.ix_plan.specs.declared.design.Target.{Target}
 use Rattle.ix_plan.specs.declared.design.Target.TheVariants.{X, Custom as custom_target}
 use Rattle.ix_plan.specs.Units.{unit_written, next_units}
 use Rattle.rv_lawful.specs.Outstanding.{is_register, has_target, serial_written, entering, units_after}
 use Rattle.rv_lawful.specs.Sight.{SpawnsNothing}
-use Rattle.rv_lawful.specs.LawfulTrace.{IsWordOf, WaitsForOperand, WaitsForCustom, WaitsForJump, WaitsForWrite, IsUnwritten, WaitsToDrain, WaitsForMemory, WaitsForModule, WaitsForUnit, WaitsForPort, OwnHold, StopsRun, WaitsBehind, TrueHold, ShowsHold, IsSettlingStage, Settles, successor, IsMismatch, Successors, IsEmptyAfter, StopsRightly, Retires, WritesUnit, serial_in, reads_of}
+use Rattle.rv_lawful.specs.LawfulTrace.{IsWordOf, WaitsForOperand, WaitsForCustom, WaitsForJump, WaitsForWrite, IsUnwritten, WaitsToDrain, WaitsForMemory, WaitsForModule, WaitsForUnit, WaitsForPort, OwnHold, StopsRun, WaitsBehind, TrueHold, ShowsHold, IsSettlingStage, Settles, successor, IsMismatch, Successors, IsEmptyAfter, StopsRightly, Retires, WritesUnit, serial_in, reads_of, Lawful}
 use Rattle.row_laws.specs.Hands.{Hand, by_hand, no_customs, none_flushed}
 
 pub true_not_false : true ≡ false → ⊥
@@ -39,7 +39,7 @@ no_custom r = none 16 r where
   none (suc n) (suc r) = none n r
 
 -- of two cells in one stage the one is the other
-inside : (x d : Cell) → ◌≡◌ {A = Option (Option Cell)} (Some (Some x)) (Some (Some d)) → x ≡ d
+pub inside : (x d : Cell) → ◌≡◌ {A = Option (Option Cell)} (Some (Some x)) (Some (Some d)) → x ≡ d
 inside x d e = cc
 
 -- what holds of the cell that is written out holds of the cell of its stage
@@ -48,13 +48,20 @@ same_cell P x d e p = subst P (inside x d e) p
 
 -- The words of earlier cells
 
--- each cell of the row has the word of the image at its serial
+-- each cell of the row has the word of its serial in this list
+abbrev pub NamedBy : Setting → List ℕ → Row → Type 0
+NamedBy k words row = (stage : ℕ) (c : Cell) → Stands k row stage c → c.word ≡ get_or words c.serial 0
+
+abbrev pub AllNamedBy : Setting → List ℕ → List Row → Type 0
+AllNamedBy k words [] = Unit {0}
+AllNamedBy k words (row ∷ rows) = NamedBy k words row × AllNamedBy k words rows
+
+-- that of the image, where the run goes straight on
 abbrev pub Named : Hand → Row → Type 0
-Named h row = (stage : ℕ) (c : Cell) → Stands (by_hand h) row stage c → c.word ≡ get_or h.image c.serial 0
+Named h row = NamedBy (by_hand h) h.image row
 
 abbrev pub AllNamed : Hand → List Row → Type 0
-AllNamed h [] = Unit {0}
-AllNamed h (row ∷ rows) = Named h row × AllNamed h rows
+AllNamed h rows = AllNamedBy (by_hand h) h.image rows
 
 abbrev pub HasWord : Hand → Option Cell → Type 0
 HasWord h None = Unit {0}
@@ -73,37 +80,44 @@ named h row a b c rest e x y z stage d s = of_stage stage (subst (λ l. slice_ge
   of_stage (suc (suc (suc n))) q = cc
 
 -- then the word of an earlier cell is that of its serial
-pub word_is : (h : Hand) (rows : List Row) → AllNamed h rows → (s word : ℕ) → IsWordOf (by_hand h) rows s word → word ≡ get_or h.image s 0
-word_is h [] all s word w = absurd w
-word_is h (row ∷ rows) all s word w = elim w [
-  | inl here ↦ sym here.4 ∙ all.0 here.0 here.1 here.2 ∙ ap (λ n. get_or h.image n 0) here.3
-  | inr before ↦ word_is h rows all.1 s word before
+pub word_by : (k : Setting) (words : List ℕ) (rows : List Row) → AllNamedBy k words rows → (s word : ℕ) → IsWordOf k rows s word → word ≡ get_or words s 0
+word_by k words [] all s word w = absurd w
+word_by k words (row ∷ rows) all s word w = elim w [
+  | inl here ↦ sym here.4 ∙ all.0 here.0 here.1 here.2 ∙ ap (λ n. get_or words n 0) here.3
+  | inr before ↦ word_by k words rows all.1 s word before
 ]
+
+pub word_is : (h : Hand) (rows : List Row) → AllNamed h rows → (s word : ℕ) → IsWordOf (by_hand h) rows s word → word ≡ get_or h.image s 0
+word_is h rows all s word w = word_by (by_hand h) h.image rows all s word w
 
 -- Hands that spawn nothing
 
--- no instruction of the hand spawns
+-- no instruction spawns
+abbrev pub SpawnsNothingAt : Setting → Type 0
+SpawnsNothingAt k = (word : ℕ) → SpawnsNothing (k.asks word)
+
+-- none of the hand
 abbrev pub SpawnsNone : Hand → Type 0
-SpawnsNone h = (word : ℕ) → SpawnsNothing (h.asks word)
+SpawnsNone h = SpawnsNothingAt (by_hand h)
 
 no_target : (a : Asks) → SpawnsNothing a → (t : Target) → has_target a t ≡ true → ⊥
 no_target a s (X r) e = true_not_false (sym e ∙ ap (λ o. is_register o r) s.x)
 no_target a s (custom_target c) e = true_not_false (sym e ∙ s.customs c)
 
-never_boards : (h : Hand) → SpawnsNone h → (earlier : List Row) (row : Row) (stage : ℕ) (c : Cell) (t : Target) (j : ℕ) → WaitsForWrite (by_hand h) earlier row stage c t j → ⊥
-never_boards h none earlier row stage c t j w = no_target (h.asks w.spawns.0) (none w.spawns.0) t w.spawns.2
+pub never_boards : (k : Setting) → SpawnsNothingAt k → (earlier : List Row) (row : Row) (stage : ℕ) (c : Cell) (t : Target) (j : ℕ) → WaitsForWrite k earlier row stage c t j → ⊥
+never_boards k none earlier row stage c t j w = no_target (k.asks w.spawns.0) (none w.spawns.0) t w.spawns.2
 
-never_full : (h : Hand) → SpawnsNone h → (earlier : List Row) (row : Row) (stage : ℕ) (c : Cell) (u : ℕ) → WaitsForUnit (by_hand h) earlier row stage c u → ⊥
-never_full h none earlier row stage c u w = no_unit (sym (none c.word).unit ∙ w.enters) where
+pub never_full : (k : Setting) → SpawnsNothingAt k → (earlier : List Row) (row : Row) (stage : ℕ) (c : Cell) (u : ℕ) → WaitsForUnit k earlier row stage c u → ⊥
+never_full k none earlier row stage c u w = no_unit (sym (none c.word).unit ∙ w.enters) where
   no_unit : ◌≡◌ {A = Option ℕ} None (Some u) → ⊥
   no_unit e = cc
 
-never_taken : (h : Hand) → SpawnsNone h → (earlier : List Row) (row : Row) (stage : ℕ) (c : Cell) (j : ℕ) → WaitsForPort (by_hand h) earlier row stage c j → ⊥
-never_taken h none earlier row stage c j w = true_not_false (sym w.spawns.2 ∙ ap (λ o. is_some o) (none w.spawns.0).x)
+pub never_taken : (k : Setting) → SpawnsNothingAt k → (earlier : List Row) (row : Row) (stage : ℕ) (c : Cell) (j : ℕ) → WaitsForPort k earlier row stage c j → ⊥
+never_taken k none earlier row stage c j w = true_not_false (sym w.spawns.2 ∙ ap (λ o. is_some o) (none w.spawns.0).x)
 
 -- each older cell that drains is retired
-pub left_unretired : (h : Hand) → SpawnsNone h → (rows : List Row) (j : ℕ) → (is_retired rows j ≡ false) ⊎ IsUnwritten (by_hand h) rows j → is_retired rows j ≡ false
-left_unretired h none rows j left = elim left [
+pub left_unretired : (k : Setting) → SpawnsNothingAt k → (rows : List Row) (j : ℕ) → (is_retired rows j ≡ false) ⊎ IsUnwritten k rows j → is_retired rows j ≡ false
+left_unretired k none rows j left = elim left [
   | inl x ↦ x
   | inr u ↦ absurd (true_not_false (sym u.decoupled.2 ∙ ap (λ o. is_some o) (none u.decoupled.0).unit))
 ]
@@ -133,7 +147,7 @@ free_behind h none earlier row stage c done = record {
   operand = λ r j w. true_not_false (sym (done j w.older.lower w.older.unflushed) ∙ w.unretired);
   custom = λ r j w. true_not_false (sym (done j w.older.lower w.older.unflushed) ∙ w.unretired);
   late = λ j w. true_not_false (sym (done j w.older.lower w.older.unflushed) ∙ w.unretired);
-  drain = λ j w. true_not_false (sym (still j (done j w.older.lower w.older.unflushed)) ∙ left_unretired h none (row ∷ earlier) j w.left);
+  drain = λ j w. true_not_false (sym (still j (done j w.older.lower w.older.unflushed)) ∙ left_unretired (by_hand h) none (row ∷ earlier) j w.left);
 } where
   or_true : (a b : Bool) → b ≡ true → (a || b) ≡ true
   or_true true b e = refl
@@ -153,7 +167,7 @@ pub done_after : (h : Hand) (earlier : List Row) (row : Row) (stage : ℕ) (c : 
 done_after h earlier row stage c le left w = let e = w.still in let some = w.some in absurd (omega (arith, le, e, some))
 
 -- the memory never waits
-never_waits : (n : ℕ) → wait_at [] n ≡ 0
+pub never_waits : (n : ℕ) → wait_at [] n ≡ 0
 never_waits zero = refl
 never_waits (suc n) = refl
 
@@ -164,7 +178,7 @@ no_wait h earlier row stage c left w =
 -- no hold of the cell's own is true
 pub no_own : (h : Hand) → SpawnsNone h → (earlier : List Row) (row : Row) (stage : ℕ) (c : Cell) → Free h earlier row stage c → (h.asks c.word).loads ≡ false → IsDone h earlier row stage c → (g : Hold) → OwnHold (by_hand h) earlier row stage c g → ⊥
 no_own h none earlier row stage c free loads done (Operand r j) o = free.operand r j o
-no_own h none earlier row stage c free loads done (Board t j) o = never_boards h none earlier row stage c t j o
+no_own h none earlier row stage c free loads done (Board t j) o = never_boards (by_hand h) none earlier row stage c t j o
 no_own h none earlier row stage c free loads done (Custom r j) o = free.custom r j o
 no_own h none earlier row stage c free loads done (Late j) o = free.late j o
 no_own h none earlier row stage c free loads done Trap o = o
@@ -172,26 +186,26 @@ no_own h none earlier row stage c free loads done (Drain j) o = free.drain j o
 no_own h none earlier row stage c free loads done (Wait left) o = no_wait h earlier row stage c left o
 no_own h none earlier row stage c free loads done (StoreAhead j) o = true_not_false (sym o.loads ∙ loads)
 no_own h none earlier row stage c free loads done (Tail left) o = done left o
-no_own h none earlier row stage c free loads done (UnitFull u) o = never_full h none earlier row stage c u o
-no_own h none earlier row stage c free loads done (Port j) o = never_taken h none earlier row stage c j o
+no_own h none earlier row stage c free loads done (UnitFull u) o = never_full (by_hand h) none earlier row stage c u o
+no_own h none earlier row stage c free loads done (Port j) o = never_taken (by_hand h) none earlier row stage c j o
 no_own h none earlier row stage c free loads done Behind o = o
 
 -- the next stage has a cell that is not held and does not stop the run
-pub goes_before : (h : Hand) (earlier : List Row) (row : Row) (stage : ℕ) (x : Cell) → Stands (by_hand h) row (suc stage) x → x.hold ≡ None → ((stop : Stop) → StopsRun (by_hand h) earlier row (suc stage) x stop → ⊥) → WaitsBehind (by_hand h) earlier row stage → ⊥
-goes_before h earlier row stage x stands free runs w = next w.0 (inside x w.0 (sym stands ∙ w.1)) w.2 where
-  next : (d : Cell) → x ≡ d → (is_some d.hold ≡ true) ⊎ ((stop : Stop) × StopsRun (by_hand h) earlier row (suc stage) d stop) → ⊥
+pub goes_before : (k : Setting) (earlier : List Row) (row : Row) (stage : ℕ) (x : Cell) → Stands k row (suc stage) x → x.hold ≡ None → ((stop : Stop) → StopsRun k earlier row (suc stage) x stop → ⊥) → WaitsBehind k earlier row stage → ⊥
+goes_before k earlier row stage x stands free runs w = next w.0 (inside x w.0 (sym stands ∙ w.1)) w.2 where
+  next : (d : Cell) → x ≡ d → (is_some d.hold ≡ true) ⊎ ((stop : Stop) × StopsRun k earlier row (suc stage) d stop) → ⊥
   next d e o = elim o [
     | inl held ↦ true_not_false (sym held ∙ ap (λ (y : Cell). is_some y.hold) (sym e) ∙ ap (λ o. is_some o) free)
-    | inr s ↦ runs s.0 (subst (λ y. StopsRun (by_hand h) earlier row (suc stage) y s.0) (sym e) s.1)
+    | inr s ↦ runs s.0 (subst (λ y. StopsRun k earlier row (suc stage) y s.0) (sym e) s.1)
   ]
 
 -- Holds that are shown
 
 -- a cell without a hold
-pub shows_none : (h : Hand) (earlier : List Row) (row : Row) (stage : ℕ) (c : Cell) → c.hold ≡ None
-    → (has_serial row.flushed c.serial ≡ false → ((stop : Stop) → StopsRun (by_hand h) earlier row stage c stop → ⊥) → (g : Hold) → TrueHold (by_hand h) earlier row stage c g → ⊥)
-    → ShowsHold (by_hand h) earlier row stage c
-shows_none h earlier row stage c none free = record {
+pub shows_none : (k : Setting) (earlier : List Row) (row : Row) (stage : ℕ) (c : Cell) → c.hold ≡ None
+    → (has_serial row.flushed c.serial ≡ false → ((stop : Stop) → StopsRun k earlier row stage c stop → ⊥) → (g : Hold) → TrueHold k earlier row stage c g → ⊥)
+    → ShowsHold k earlier row stage c
+shows_none k earlier row stage c none free = record {
   flushed = λ _. none;
   stopping = λ stop s. none;
   shown = λ g e. cc (none, e);
@@ -200,13 +214,13 @@ shows_none h earlier row stage c none free = record {
 }
 
 -- a cell with a hold, which no stop comes before
-pub shows_hold : (h : Hand) (earlier : List Row) (row : Row) (stage : ℕ) (c : Cell) (g : Hold) → c.hold ≡ Some g → has_serial row.flushed c.serial ≡ false
-    → ((stop : Stop) → StopsRun (by_hand h) earlier row stage c stop → ⊥) → TrueHold (by_hand h) earlier row stage c g
-    → ((f : Hold) → TrueHold (by_hand h) earlier row stage c f → ComesFirst g f) → ShowsHold (by_hand h) earlier row stage c
-shows_hold h earlier row stage c g e alive runs is_true first = record {
+pub shows_hold : (k : Setting) (earlier : List Row) (row : Row) (stage : ℕ) (c : Cell) (g : Hold) → c.hold ≡ Some g → has_serial row.flushed c.serial ≡ false
+    → ((stop : Stop) → StopsRun k earlier row stage c stop → ⊥) → TrueHold k earlier row stage c g
+    → ((f : Hold) → TrueHold k earlier row stage c f → ComesFirst g f) → ShowsHold k earlier row stage c
+shows_hold k earlier row stage c g e alive runs is_true first = record {
   flushed = λ f. absurd (true_not_false (sym f ∙ alive));
   stopping = λ stop s. absurd (runs stop s);
-  shown = λ f q. subst (λ x. TrueHold (by_hand h) earlier row stage c x) (same f q) is_true;
+  shown = λ f q. subst (λ x. TrueHold k earlier row stage c x) (same f q) is_true;
   shown_first = λ f x q t. subst (λ y. ComesFirst y x) (same f q) (first x t);
   free = λ q. cc (e, q);
 } where
@@ -217,23 +231,27 @@ shows_hold h earlier row stage c g e alive runs is_true first = record {
   same f q = the f (sym e ∙ q)
 
 -- a cell below the last stage that is held by the next one alone
-pub shows_behind : (h : Hand) (earlier : List Row) (row : Row) (stage : ℕ) (c : Cell) → c.hold ≡ Some Behind → has_serial row.flushed c.serial ≡ false → (stage ≡ 1 → ⊥) → WaitsBehind (by_hand h) earlier row stage
-    → ((g : Hold) → OwnHold (by_hand h) earlier row stage c g → ⊥) → ShowsHold (by_hand h) earlier row stage c
-shows_behind h earlier row stage c e alive other behind none =
-    shows_hold h earlier row stage c Behind e alive (λ stop s. other s.executing) (inr (refl, behind))
+pub shows_behind : (k : Setting) (earlier : List Row) (row : Row) (stage : ℕ) (c : Cell) → c.hold ≡ Some Behind → has_serial row.flushed c.serial ≡ false → (stage ≡ k.shape.ex → ⊥) → WaitsBehind k earlier row stage
+    → ((g : Hold) → OwnHold k earlier row stage c g → ⊥) → ShowsHold k earlier row stage c
+shows_behind k earlier row stage c e alive other behind none =
+    shows_hold k earlier row stage c Behind e alive (λ stop s. other s.executing) (inr (refl, behind))
     (λ f t. elim t [ inl o ↦ absurd (none f o) | inr b ↦ subst (λ x. ComesFirst Behind x) (sym b.0) (inr (refl, inr (refl, omega arith))) ])
 
 -- a cell that is held by a hold of its own
-pub shows_own : (h : Hand) (earlier : List Row) (row : Row) (stage : ℕ) (c : Cell) (g : Hold) → c.hold ≡ Some g → has_serial row.flushed c.serial ≡ false → OwnHold (by_hand h) earlier row stage c g
-    → ((f : Hold) → OwnHold (by_hand h) earlier row stage c f → ComesFirst g f) → ComesFirst g Behind → ShowsHold (by_hand h) earlier row stage c
-shows_own h earlier row stage c g e alive own first last =
-    shows_hold h earlier row stage c g e alive (λ stop s. s.free g own) (inl own)
+pub shows_own : (k : Setting) (earlier : List Row) (row : Row) (stage : ℕ) (c : Cell) (g : Hold) → c.hold ≡ Some g → has_serial row.flushed c.serial ≡ false → OwnHold k earlier row stage c g
+    → ((f : Hold) → OwnHold k earlier row stage c f → ComesFirst g f) → ComesFirst g Behind → ShowsHold k earlier row stage c
+shows_own k earlier row stage c g e alive own first last =
+    shows_hold k earlier row stage c g e alive (λ stop s. s.free g own) (inl own)
     (λ f t. elim t [ inl o ↦ first f o | inr b ↦ subst (λ x. ComesFirst g x) (sym b.0) last ])
+
+-- no cell shows no hold where one of its own is true
+pub idle : (k : Setting) (earlier : List Row) (row : Row) (stage : ℕ) (c : Cell) (g : Hold) → Lawful k (row ∷ earlier) → Stands k row stage c → c.hold ≡ None → has_serial row.flushed c.serial ≡ false → OwnHold k earlier row stage c g → ⊥
+idle k earlier row stage c g h stands e alive own = (h.0.holds stage c stands).free e alive (λ stop s. s.free g own) g (inl own)
 
 -- Custom with the least number comes first where no operand is missing
 pub custom_first : (h : Hand) → SpawnsNone h → (earlier : List Row) (row : Row) (stage : ℕ) (c : Cell) → ((r j : ℕ) → WaitsForOperand (by_hand h) earlier row stage c r j → ⊥) → (f : Hold) → OwnHold (by_hand h) earlier row stage c f → ComesFirst (Custom 0 0) f
 custom_first h none earlier row stage c free (Operand r j) o = absurd (free r j o)
-custom_first h none earlier row stage c free (Board t j) o = absurd (never_boards h none earlier row stage c t j o)
+custom_first h none earlier row stage c free (Board t j) o = absurd (never_boards (by_hand h) none earlier row stage c t j o)
 custom_first h none earlier row stage c free (Custom zero j) o = inr (refl, inr (refl, omega arith))
 custom_first h none earlier row stage c free (Custom (suc r) j) o = inr (refl, inl (omega arith))
 custom_first h none earlier row stage c free (Late j) o = inl (omega arith)
@@ -242,15 +260,15 @@ custom_first h none earlier row stage c free (Drain j) o = inl (omega arith)
 custom_first h none earlier row stage c free (Wait left) o = inl (omega arith)
 custom_first h none earlier row stage c free (StoreAhead j) o = inl (omega arith)
 custom_first h none earlier row stage c free (Tail left) o = inl (omega arith)
-custom_first h none earlier row stage c free (UnitFull u) o = absurd (never_full h none earlier row stage c u o)
-custom_first h none earlier row stage c free (Port j) o = absurd (never_taken h none earlier row stage c j o)
+custom_first h none earlier row stage c free (UnitFull u) o = absurd (never_full (by_hand h) none earlier row stage c u o)
+custom_first h none earlier row stage c free (Port j) o = absurd (never_taken (by_hand h) none earlier row stage c j o)
 custom_first h none earlier row stage c free Behind o = absurd o
 
 -- Late with the least serial comes first where no register is missing
 pub late_first : (h : Hand) → SpawnsNone h → (earlier : List Row) (row : Row) (stage : ℕ) (c : Cell) → ((r j : ℕ) → WaitsForOperand (by_hand h) earlier row stage c r j → ⊥) → ((r j : ℕ) → WaitsForCustom (by_hand h) earlier row stage c r j → ⊥)
     → (f : Hold) → OwnHold (by_hand h) earlier row stage c f → ComesFirst (Late 0) f
 late_first h none earlier row stage c still free (Operand r j) o = absurd (still r j o)
-late_first h none earlier row stage c still free (Board t j) o = absurd (never_boards h none earlier row stage c t j o)
+late_first h none earlier row stage c still free (Board t j) o = absurd (never_boards (by_hand h) none earlier row stage c t j o)
 late_first h none earlier row stage c still free (Custom r j) o = absurd (free r j o)
 late_first h none earlier row stage c still free (Late j) o = inr (refl, inr (refl, omega arith))
 late_first h none earlier row stage c still free Trap o = absurd o
@@ -258,15 +276,15 @@ late_first h none earlier row stage c still free (Drain j) o = inl (omega arith)
 late_first h none earlier row stage c still free (Wait left) o = inl (omega arith)
 late_first h none earlier row stage c still free (StoreAhead j) o = inl (omega arith)
 late_first h none earlier row stage c still free (Tail left) o = inl (omega arith)
-late_first h none earlier row stage c still free (UnitFull u) o = absurd (never_full h none earlier row stage c u o)
-late_first h none earlier row stage c still free (Port j) o = absurd (never_taken h none earlier row stage c j o)
+late_first h none earlier row stage c still free (UnitFull u) o = absurd (never_full (by_hand h) none earlier row stage c u o)
+late_first h none earlier row stage c still free (Port j) o = absurd (never_taken (by_hand h) none earlier row stage c j o)
 late_first h none earlier row stage c still free Behind o = absurd o
 
 -- Operand comes first where it does among the operands
 pub operand_first : (h : Hand) → SpawnsNone h → (earlier : List Row) (row : Row) (stage : ℕ) (c : Cell) (r j : ℕ) → ((s i : ℕ) → WaitsForOperand (by_hand h) earlier row stage c s i → ComesFirst (Operand r j) (Operand s i))
     → (f : Hold) → OwnHold (by_hand h) earlier row stage c f → ComesFirst (Operand r j) f
 operand_first h none earlier row stage c r j first (Operand s i) o = first s i o
-operand_first h none earlier row stage c r j first (Board t i) o = absurd (never_boards h none earlier row stage c t i o)
+operand_first h none earlier row stage c r j first (Board t i) o = absurd (never_boards (by_hand h) none earlier row stage c t i o)
 operand_first h none earlier row stage c r j first (Custom s i) o = inl (omega arith)
 operand_first h none earlier row stage c r j first (Late i) o = inl (omega arith)
 operand_first h none earlier row stage c r j first Trap o = absurd o
@@ -274,21 +292,21 @@ operand_first h none earlier row stage c r j first (Drain i) o = inl (omega arit
 operand_first h none earlier row stage c r j first (Wait left) o = inl (omega arith)
 operand_first h none earlier row stage c r j first (StoreAhead i) o = inl (omega arith)
 operand_first h none earlier row stage c r j first (Tail left) o = inl (omega arith)
-operand_first h none earlier row stage c r j first (UnitFull u) o = absurd (never_full h none earlier row stage c u o)
-operand_first h none earlier row stage c r j first (Port i) o = absurd (never_taken h none earlier row stage c i o)
+operand_first h none earlier row stage c r j first (UnitFull u) o = absurd (never_full (by_hand h) none earlier row stage c u o)
+operand_first h none earlier row stage c r j first (Port i) o = absurd (never_taken (by_hand h) none earlier row stage c i o)
 operand_first h none earlier row stage c r j first Behind o = absurd o
 
 -- a cell of the last stage that is held by Tail
 pub shows_tail : (h : Hand) → SpawnsNone h → (earlier : List Row) (row : Row) (c : Cell) (left : ℕ) → c.hold ≡ Some (Tail left) → has_serial row.flushed c.serial ≡ false → (h.asks c.word).loads ≡ false
     → left + tailed (by_hand h) earlier c.serial ≡ (h.asks c.word).tail → 0 < left → ShowsHold (by_hand h) earlier row 2 c
 shows_tail h none earlier row c left e alive loads still some =
-    shows_own h earlier row 2 c (Tail left) e alive (record { last = refl; still = still; some = some }) first (inl (omega arith)) where
+    shows_own (by_hand h) earlier row 2 c (Tail left) e alive (record { last = refl; still = still; some = some }) first (inl (omega arith)) where
       outside : Free h earlier row 2 c
       outside = free_outside h earlier row 2 c (λ q. absurd (omega (arith, q)))
 
       first : (f : Hold) → OwnHold (by_hand h) earlier row 2 c f → ComesFirst (Tail left) f
       first (Operand r j) o = absurd (outside.operand r j o)
-      first (Board t j) o = absurd (never_boards h none earlier row 2 c t j o)
+      first (Board t j) o = absurd (never_boards (by_hand h) none earlier row 2 c t j o)
       first (Custom r j) o = absurd (outside.custom r j o)
       first (Late j) o = absurd (outside.late j o)
       first Trap o = absurd o
@@ -296,14 +314,14 @@ shows_tail h none earlier row c left e alive loads still some =
       first (Wait n) o = absurd (no_wait h earlier row 2 c n o)
       first (StoreAhead j) o = absurd (true_not_false (sym o.loads ∙ loads))
       first (Tail n) o = inr (refl, inr (refl, omega arith))
-      first (UnitFull u) o = absurd (never_full h none earlier row 2 c u o)
-      first (Port j) o = absurd (never_taken h none earlier row 2 c j o)
+      first (UnitFull u) o = absurd (never_full (by_hand h) none earlier row 2 c u o)
+      first (Port j) o = absurd (never_taken (by_hand h) none earlier row 2 c j o)
       first Behind o = absurd o
 
 -- a cell of the last stage that goes
 pub shows_last : (h : Hand) → SpawnsNone h → (earlier : List Row) (row : Row) (c : Cell) → c.hold ≡ None → (h.asks c.word).loads ≡ false → (h.asks c.word).tail ≤ tailed (by_hand h) earlier c.serial → ShowsHold (by_hand h) earlier row 2 c
 shows_last h none earlier row c e loads le =
-    shows_none h earlier row 2 c e (λ alive runs g t. elim t [
+    shows_none (by_hand h) earlier row 2 c e (λ alive runs g t. elim t [
       | inl o ↦ no_own h none earlier row 2 c (free_outside h earlier row 2 c (λ q. absurd (omega (arith, q)))) loads (done_after h earlier row 2 c le) g o
       | inr b ↦ none_behind b.1.0 b.1.1
     ]) where

@@ -79,7 +79,7 @@ lawful_0 = record {
   shows : (stage : ℕ) (c : Cell) → Stands turning row_0 stage c → ShowsHold turning [] row_0 stage c
   shows zero c s =
       same_cell (λ d. ShowsHold turning [] row_0 0 d) (jump None) c s
-      (shows_none turning_hand [] row_0 0 (jump None) refl (λ alive runs g t. elim t [
+      (shows_none turning [] row_0 0 (jump None) refl (λ alive runs g t. elim t [
         | inl o ↦ free_front [] row_0 (jump None) g o
         | inr b ↦ no_second b.1.0 b.1.1
       ]))
@@ -113,13 +113,13 @@ lawful_1 = record {
   shows : (stage : ℕ) (c : Cell) → Stands turning row_1 stage c → ShowsHold turning (row_0 ∷ []) row_1 stage c
   shows zero c s =
       same_cell (λ d. ShowsHold turning (row_0 ∷ []) row_1 0 d) (passed None) c s
-      (shows_none turning_hand (row_0 ∷ []) row_1 0 (passed None) refl (λ alive runs g t. elim t [
+      (shows_none turning (row_0 ∷ []) row_1 0 (passed None) refl (λ alive runs g t. elim t [
         | inl o ↦ free_front (row_0 ∷ []) row_1 (passed None) g o
-        | inr b ↦ goes_before turning_hand (row_0 ∷ []) row_1 0 (jump None) refl refl (λ stop r. jump_runs two_rows None stop r.due) b.1
+        | inr b ↦ goes_before turning (row_0 ∷ []) row_1 0 (jump None) refl refl (λ stop r. jump_runs two_rows None stop r.due) b.1
       ]))
   shows (suc zero) c s =
       same_cell (λ d. ShowsHold turning (row_0 ∷ []) row_1 1 d) (jump None) c s
-      (shows_none turning_hand (row_0 ∷ []) row_1 1 (jump None) refl (λ alive runs g t. elim t [
+      (shows_none turning (row_0 ∷ []) row_1 1 (jump None) refl (λ alive runs g t. elim t [
         | inl o ↦ no_own turning_hand none_spawned (row_0 ∷ []) row_1 1 (jump None) (free_behind turning_hand none_spawned (row_0 ∷ []) row_1 1 (jump None) (λ j lt _. absurd (omega (arith, lt)))) refl (done_below turning_hand (row_0 ∷ []) row_1 1 (jump None) (omega arith)) g o
         | inr b ↦ cc (b.1.1)
       ]))
@@ -161,10 +161,10 @@ lawful_2 = record {
   shows : (stage : ℕ) (c : Cell) → Stands turning row_2 stage c → ShowsHold turning two_rows row_2 stage c
   shows zero c s =
       same_cell (λ d. ShowsHold turning two_rows row_2 0 d) (passed_too (Some Behind)) c s
-      (shows_behind turning_hand two_rows row_2 0 (passed_too (Some Behind)) refl refl at_front (passed (Some (Late 0)), refl, inl refl) (free_front two_rows row_2 (passed_too (Some Behind))))
+      (shows_behind turning two_rows row_2 0 (passed_too (Some Behind)) refl refl at_front (passed (Some (Late 0)), refl, inl refl) (free_front two_rows row_2 (passed_too (Some Behind))))
   shows (suc zero) c s =
       same_cell (λ d. ShowsHold turning two_rows row_2 1 d) (passed (Some (Late 0))) c s
-      (shows_own turning_hand two_rows row_2 1 (passed (Some (Late 0))) (Late 0) refl refl wait
+      (shows_own turning two_rows row_2 1 (passed (Some (Late 0))) (Late 0) refl refl wait
       (late_first turning_hand none_spawned two_rows row_2 1 (passed (Some (Late 0))) (λ r j o. true_not_false (sym o.reads ∙ no_register (turning_asks 19) r refl refl)) (λ r j o. true_not_false (sym o.uses ∙ no_custom r)))
       (inl (omega arith)))
   shows (suc (suc zero)) c s = same_cell (λ d. ShowsHold turning two_rows row_2 2 d) (jump (Some (Tail 1))) c s (shows_tail turning_hand none_spawned two_rows row_2 (jump (Some (Tail 1))) 1 refl refl refl (omega arith) (omega arith))
@@ -251,8 +251,8 @@ lawful_3 = record {
   named c e = subst (λ d. ◌≡◌ {A = Option ℕ} (Some 12) (Some (successor turning (row_3 ∷ three_rows) d))) e (ap Some (sym (jump_goes_on (row_3 ∷ three_rows))))
 
   shows : (stage : ℕ) (c : Cell) → Stands turning row_3 stage c → ShowsHold turning three_rows row_3 stage c
-  shows zero c s = same_cell (λ d. ShowsHold turning three_rows row_3 0 d) (passed_too None) c s (shows_none turning_hand three_rows row_3 0 (passed_too None) refl (λ alive runs g t. true_not_false alive))
-  shows (suc zero) c s = same_cell (λ d. ShowsHold turning three_rows row_3 1 d) (passed None) c s (shows_none turning_hand three_rows row_3 1 (passed None) refl (λ alive runs g t. true_not_false alive))
+  shows zero c s = same_cell (λ d. ShowsHold turning three_rows row_3 0 d) (passed_too None) c s (shows_none turning three_rows row_3 0 (passed_too None) refl (λ alive runs g t. true_not_false alive))
+  shows (suc zero) c s = same_cell (λ d. ShowsHold turning three_rows row_3 1 d) (passed None) c s (shows_none turning three_rows row_3 1 (passed None) refl (λ alive runs g t. true_not_false alive))
   shows (suc (suc zero)) c s = same_cell (λ d. ShowsHold turning three_rows row_3 2 d) (jump None) c s (shows_last turning_hand none_spawned three_rows row_3 (jump None) refl refl (omega arith))
   shows (suc (suc (suc n))) c s = cc
 
@@ -285,7 +285,7 @@ lawful_4 = record {
   shows : (stage : ℕ) (c : Cell) → Stands turning row_4 stage c → ShowsHold turning four_rows row_4 stage c
   shows zero c s =
       same_cell (λ d. ShowsHold turning four_rows row_4 0 d) target c s
-      (shows_none turning_hand four_rows row_4 0 target refl (λ alive runs g t. elim t [
+      (shows_none turning four_rows row_4 0 target refl (λ alive runs g t. elim t [
         | inl o ↦ free_front four_rows row_4 target g o
         | inr b ↦ no_second b.1.0 b.1.1
       ]))
@@ -362,7 +362,7 @@ lawful_5 = record {
   shows zero c s = cc
   shows (suc zero) c s =
       same_cell (λ d. ShowsHold turning five_rows row_5 1 d) target c s
-      (shows_none turning_hand five_rows row_5 1 target refl (λ alive runs g t. runs Ebreak target_stops))
+      (shows_none turning five_rows row_5 1 target refl (λ alive runs g t. runs Ebreak target_stops))
   shows (suc (suc zero)) c s = cc
   shows (suc (suc (suc n))) c s = cc
 

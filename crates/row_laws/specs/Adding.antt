@@ -14,7 +14,7 @@ use Rattle.rv_trace.specs.declared.row.Cell.{Cell}
 use Rattle.rv_trace.specs.declared.row.Hold.{Hold}
 use Rattle.rv_trace.specs.declared.row.Hold.TheVariants.{Operand, Behind}
 use Rattle.rv_trace.specs.declared.row.Row.{Row}
-use Rattle.row_laws.specs.Hands.{Hand, by_hand, three, cell, none_flushed, row_with, row_of}
+use Rattle.row_laws.specs.Hands.{Hand, by_hand, no_values, no_jump, three, cell, none_flushed, row_with, row_of}
 
 -- addi x1, x0, 5 (00500093); addi x2, x0, 7 (00700113); add x3, x1, x2 (002081b3); ebreak (00100073)
 abbrev pub adding_image : List ℕ
@@ -26,7 +26,7 @@ adding_asks word = asks_with three [] (λ n. None) (blank_outline three []) word
 
 -- the run of the image, with its words
 abbrev pub adding_hand : Hand
-adding_hand = record { image = adding_image; course = course_of bare adding_image; asks = adding_asks; units = [] }
+adding_hand = record { image = adding_image; course = course_of bare adding_image; asks = adding_asks; units = []; initial = no_values; jump = no_jump }
 
 -- what its rows are judged against
 abbrev pub adding : Setting

@@ -8,7 +8,7 @@ use Rattle.rv_seq.specs.declared.commit.Stop.{Stop}
 use Rattle.rv_seq.specs.declared.commit.Stop.TheVariants.{Ebreak}
 use Rattle.rv_trace.specs.declared.row.Cell.{Cell}
 use Rattle.rv_trace.specs.declared.row.Row.{Row}
-use Rattle.row_laws.specs.Hands.{Hand, by_hand, no_blocks, none_own, quiet, going, cell, none_flushed, row_with, row_of}
+use Rattle.row_laws.specs.Hands.{Hand, by_hand, no_values, no_jump, no_blocks, none_own, quiet, going, cell, none_flushed, row_with, row_of}
 
 -- the first instruction goes on at address 8, where the run stops
 abbrev pub detour_answer : ℕ → StepAnswer
@@ -22,7 +22,7 @@ detour_pc (suc p) = 8
 
 -- nop (00000013), twice; ebreak (00100073)
 abbrev pub detour_hand : Hand
-detour_hand = record { image = 19 ∷ 19 ∷ 1048691 ∷ []; course = record { answer = detour_answer; pc = detour_pc; accesses = λ p. false; blocks = no_blocks; own = none_own }; asks = λ word. quiet; units = [] }
+detour_hand = record { image = 19 ∷ 19 ∷ 1048691 ∷ []; course = record { answer = detour_answer; pc = detour_pc; accesses = λ p. false; blocks = no_blocks; own = none_own }; asks = λ word. quiet; units = []; initial = no_values; jump = no_jump }
 
 -- what its rows are judged against
 abbrev pub detour : Setting

@@ -1,44 +1,74 @@
--- Runs and rows that are made by hand, on the core of three stages (this project's choice).
-use Rattle.std.specs.Prelude.{ℕ, List, [], ◌∷◌, replicate, Option, None, Bool, false}
+-- Runs and rows that are made by hand, most of them on the core of three stages (this project's choice).
+use Rattle.std.specs.Prelude.{ℕ, List, [], ◌∷◌, replicate, Option, None, Bool, true, false}
 use Rattle.ix_bits.specs.declared.number.Bits.{Bits}
 use Rattle.ix_plan.specs.Units.{Slots}
 use Rattle.rv_asks.specs.declared.asks.Asks.{Asks}
 use Rattle.rv_core.specs.declared.Shape.{Shape}
-use Rattle.rv_core.specs.Stages.{three_lawful}
+use Rattle.rv_core.specs.Stages.{three_lawful, five_lawful}
 use Rattle.rv_lawful.specs.Settings.{Setting, Course}
 use Rattle.rv_seq.specs.declared.commit.Commit.{Commit}
 use Rattle.rv_seq.specs.declared.commit.Slot.TheVariants.{Absent}
 use Rattle.rv_seq.specs.declared.commit.Stop.{Stop}
+use Rattle.rv_seq.specs.States.{zero_bit}
 use Rattle.rv_trace.specs.declared.row.Cell.{Cell}
 use Rattle.rv_trace.specs.declared.row.Hold.{Hold}
 use Rattle.rv_trace.specs.declared.row.Row.{Row}
 
--- what is made by hand: the words of an image, a run, what is asked of each word's instruction, and the units before the first row
+-- what is made by hand: the words of an image, a run, what is asked of each word's instruction, the units and the custom registers before the first row, and where the
+-- always-blocks jump to
 pub record Hand : Type 0 where
   pub image : List ℕ
   pub course : Course
   pub asks : ℕ → Asks
   pub units : List Slots
+  pub initial : List Bits
+  pub jump : List Bits → ℕ → ℕ → Option ℕ
 
 -- the numbers of that core
 abbrev pub three : Shape
 three = record { stages = 3; rd = 1; ex = 1; mem = 2; forward = false; predict = false; trap = 16; lawful = three_lawful }
 
--- what its rows are judged against, over a memory that never waits
-abbrev pub by_hand : Hand → Setting
-by_hand h =
+-- those of one that forwards
+abbrev pub three_forwarding : Shape
+three_forwarding = record { stages = 3; rd = 1; ex = 1; mem = 2; forward = true; predict = false; trap = 16; lawful = three_lawful }
+
+-- those of one that predicts
+abbrev pub three_predicting : Shape
+three_predicting = record { stages = 3; rd = 1; ex = 1; mem = 2; forward = false; predict = true; trap = 16; lawful = three_lawful }
+
+-- those of the core of five stages, where it forwards
+abbrev pub five_forwarding : Shape
+five_forwarding = record { stages = 5; rd = 1; ex = 2; mem = 3; forward = true; predict = false; trap = 16; lawful = five_lawful }
+
+-- what the rows of a core with these numbers are judged against, over a memory that never waits
+abbrev pub on_core : Shape → Hand → Setting
+on_core shape h =
     record {
       image = h.image;
       waits = [];
-      shape = three;
+      shape = shape;
       course = h.course;
       asks = h.asks;
       units = h.units;
+      initial = h.initial;
+      jump = h.jump;
     }
+
+-- those of the core of three stages
+abbrev pub by_hand : Hand → Setting
+by_hand h = on_core three h
 
 -- no custom register
 abbrev pub no_customs : List Bool
 no_customs = replicate 16 false
+
+-- nor a value of one
+abbrev pub no_values : List Bits
+no_values = replicate 16 zero_bit
+
+-- always-blocks that never jump
+abbrev pub no_jump : List Bits → ℕ → ℕ → Option ℕ
+no_jump file at word = None
 
 -- always-blocks that write no custom register
 abbrev pub no_blocks : ℕ → List (Option Bits)
@@ -96,3 +126,16 @@ row_with a b c retired flushed redirect stop =
 -- a row that flushes nothing and goes on
 abbrev pub row_of : Option Cell → Option Cell → Option Cell → Option (ℕ × Commit) → Row
 row_of a b c retired = row_with a b c retired none_flushed None None
+
+-- a row of a core of five stages that flushes nothing, with what it retires and its stop
+abbrev pub long_row : Option Cell → Option Cell → Option Cell → Option Cell → Option Cell → Option (ℕ × Commit) → Option Stop → Row
+long_row a b c d e retired stop =
+    record {
+      cells = a ∷ b ∷ c ∷ d ∷ e ∷ [];
+      retired = retired;
+      written = None;
+      flushed = none_flushed;
+      redirect = None;
+      taken = None;
+      stop = stop;
+    }

@@ -16,7 +16,7 @@ use Rattle.rv_trace.specs.declared.row.Cell.{Cell}
 use Rattle.rv_trace.specs.declared.row.Hold.{Hold}
 use Rattle.rv_trace.specs.declared.row.Hold.TheVariants.{Operand, Custom, Tail, Behind, Trap}
 use Rattle.rv_trace.specs.declared.row.Row.{Row}
-use Rattle.row_laws.specs.Hands.{Hand, by_hand, no_blocks, none_own, quiet, no_customs, going, cell, none_flushed, row_with, row_of}
+use Rattle.row_laws.specs.Hands.{Hand, by_hand, no_values, no_jump, no_blocks, none_own, quiet, no_customs, going, cell, none_flushed, row_with, row_of}
 
 -- custom register 0
 abbrev pub register_0 : List Bool
@@ -55,7 +55,7 @@ holding_answer (suc (suc (suc p))) = Stopped Ebreak
 
 -- the run, with its words
 abbrev pub holding_hand : Hand
-holding_hand = record { image = 11 ∷ 299 ∷ 65579 ∷ 1048691 ∷ []; course = record { answer = holding_answer; pc = λ p. 4 * p; accesses = λ p. false; blocks = no_blocks; own = none_own }; asks = holding_asks; units = [] }
+holding_hand = record { image = 11 ∷ 299 ∷ 65579 ∷ 1048691 ∷ []; course = record { answer = holding_answer; pc = λ p. 4 * p; accesses = λ p. false; blocks = no_blocks; own = none_own }; asks = holding_asks; units = []; initial = no_values; jump = no_jump }
 
 -- what its rows are judged against
 abbrev pub holding : Setting

@@ -5,3 +5,5 @@ pub mod Detour
 pub mod Adding
 pub mod Spawning
 pub mod Sharing
+pub mod Forwarding
+pub mod Guessing

@@ -21,7 +21,7 @@ use Rattle.rv_trace.specs.declared.row.Cell.{Cell}
 use Rattle.rv_trace.specs.declared.row.Hold.{Hold}
 use Rattle.rv_trace.specs.declared.row.Hold.TheVariants.{Board, Drain}
 use Rattle.rv_trace.specs.declared.row.Row.{Row}
-use Rattle.row_laws.specs.Hands.{Hand, by_hand, no_customs, cell}
+use Rattle.row_laws.specs.Hands.{Hand, by_hand, no_values, no_jump, no_customs, cell}
 use Rattle.row_laws.specs.Holding.{register_0}
 use Rattle.row_laws.specs.Spawning.{full_row}
 
@@ -79,6 +79,8 @@ sharing_hand b =
       course = record { answer = sharing_answer b; pc = λ p. 4 * p; accesses = λ p. false; blocks = λ p. Some of_block ∷ replicate 15 None; own = λ p. b ∷ replicate 15 false };
       asks = sharing_asks;
       units = (None ∷ []) ∷ [];
+      initial = no_values;
+      jump = no_jump;
     }
 
 -- what its rows are judged against, by the condition

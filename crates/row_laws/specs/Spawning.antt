@@ -18,7 +18,7 @@ use Rattle.rv_trace.specs.declared.row.Cell.{Cell}
 use Rattle.rv_trace.specs.declared.row.Hold.{Hold}
 use Rattle.rv_trace.specs.declared.row.Hold.TheVariants.{Board, Drain, UnitFull, Port, Behind}
 use Rattle.rv_trace.specs.declared.row.Row.{Row}
-use Rattle.row_laws.specs.Hands.{Hand, by_hand, no_customs, cell, none_flushed}
+use Rattle.row_laws.specs.Hands.{Hand, by_hand, no_values, no_jump, no_customs, cell, none_flushed}
 
 -- Words
 
@@ -72,7 +72,7 @@ two_units m n = replicate m None ∷ replicate n None ∷ []
 
 -- a run of an image of the base set with these units
 abbrev pub spawning_hand : List ℕ → List Slots → Hand
-spawning_hand image units = record { image = image; course = course_of bare image; asks = spawning_asks; units = units }
+spawning_hand image units = record { image = image; course = course_of bare image; asks = spawning_asks; units = units; initial = no_values; jump = no_jump }
 
 -- Rows
 

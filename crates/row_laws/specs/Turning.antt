@@ -11,7 +11,7 @@ use Rattle.rv_trace.specs.declared.row.Cell.{Cell}
 use Rattle.rv_trace.specs.declared.row.Hold.{Hold}
 use Rattle.rv_trace.specs.declared.row.Hold.TheVariants.{Late, Tail, Behind}
 use Rattle.rv_trace.specs.declared.row.Row.{Row}
-use Rattle.row_laws.specs.Hands.{Hand, by_hand, no_blocks, none_own, quiet, no_customs, going, cell, none_flushed, row_with, row_of}
+use Rattle.row_laws.specs.Hands.{Hand, by_hand, no_values, no_jump, no_blocks, none_own, quiet, no_customs, going, cell, none_flushed, row_with, row_of}
 
 -- the first instruction writes the pc late, in one more cycle in the last stage
 abbrev pub turning_asks : ℕ → Asks
@@ -32,7 +32,7 @@ turning_pc (suc p) = 12
 
 -- nop (00000013); ebreak (00100073)
 abbrev pub turning_hand : Hand
-turning_hand = record { image = 91 ∷ 19 ∷ 19 ∷ 1048691 ∷ []; course = record { answer = turning_answer; pc = turning_pc; accesses = λ p. false; blocks = no_blocks; own = none_own }; asks = turning_asks; units = [] }
+turning_hand = record { image = 91 ∷ 19 ∷ 19 ∷ 1048691 ∷ []; course = record { answer = turning_answer; pc = turning_pc; accesses = λ p. false; blocks = no_blocks; own = none_own }; asks = turning_asks; units = []; initial = no_values; jump = no_jump }
 
 -- what its rows are judged against
 abbrev pub turning : Setting

@@ -5,6 +5,8 @@ ghost use Rattle.rv_seq.specs.Bare.{bare};
 ghost use Rattle.rv_seq.specs.States.{zero_bit};
 ghost use Rattle.row_laws.specs.Adding.{adding, adding_rows, IsOther, wrong_value, wrong_order, other_stop};
 ghost use Rattle.row_laws.specs.Detour as leap;
+ghost use Rattle.row_laws.specs.Forwarding as forward;
+ghost use Rattle.row_laws.specs.Guessing as guess;
 ghost use Rattle.row_laws.specs.Holding.{holding, holding_rows, IsUnlawful, untrue_hold, later_hold, tail_one_more, tail_one_less, tail_left_out, custom_left_out, idle_cell, skipped_word, wrong_stop, missing_stop, after_stop, cell_behind, untrue_trap, taken_unasked};
 ghost use Rattle.row_laws.specs.Sharing as share;
 ghost use Rattle.row_laws.specs.Spawning as spawn;
@@ -125,4 +127,30 @@ pub fn sharing_run()
     ensures instruction_last { (b : Bool) → share.Holds b (share.sharing_four b) (share.left_by b) }
     ensures writes_own { (b : Bool) → IsSpawnWrite (share.sharing b) share.sharing_three (share.sharing_write b) }
     ensures block_by_unit { (b : Bool) → share.IsNoWrite b share.block_by_unit }
+{}
+
+/// The laws of rows, tried on the run that adds five and seven, on cores that forward. On the one of three stages no cell is held: rows in which the sum
+/// waits for the seven to retire, as on a core that never forwards, are not lawful. On the one of five stages the sum waits in one row, in which
+/// the seven is at EX, the time of its write: rows without this hold are not lawful, nor are rows in which it waits for what is forwarded.
+pub fn forwarding_run()
+    ensures short { Lawful forward.short forward.short_rows }
+    ensures never_forwarded { forward.IsUnlawfulShort forward.never_forwarded }
+    ensures long { Lawful forward.long forward.long_rows }
+    ensures forwarded_early { forward.IsUnlawfulLong forward.forwarded_early }
+    ensures waits_for_forwarded { forward.IsUnlawfulLong forward.waits_for_forwarded }
+    ensures waits_longer { forward.IsUnlawfulLong forward.waits_longer }
+{}
+
+/// The same on a core that predicts, with an always-block that jumps: what is fetched behind its instruction is the word at the address of the jump, with
+/// nothing flushed, and rows with the next word there are not lawful, while on a core that does not predict it is the other way round. The jump is that
+/// with the custom registers before the row in which the instruction leaves stage 0: where it does not come, what was fetched is flushed.
+pub fn guessing_run()
+    ensures over { Lawful guess.jumping guess.over_rows }
+    ensures next_word_fetched { guess.IsUnlawfulOver guess.next_word_fetched }
+    ensures plain { guess.IsLawfulPlain guess.next_word_fetched }
+    ensures jump_fetched { guess.IsUnlawfulPlain guess.jump_fetched }
+    ensures back { Lawful guess.looping guess.back_rows }
+    ensures never_guessed { guess.IsUnlawfulBack guess.never_guessed }
+    ensures guessed_ahead { guess.IsUnlawfulBack guess.guessed_ahead }
+    ensures miss_kept { guess.IsUnlawfulBack guess.miss_kept }
 {}

@@ -5,6 +5,6 @@
 mod laws;
 
 pub use laws::{
-    adding_run, detour_run, frozen_run, holding_run, passing_run, port_run, sharing_run,
-    turning_run,
+    adding_run, detour_run, forwarding_run, frozen_run, guessing_run, holding_run, passing_run,
+    port_run, sharing_run, turning_run,
 };

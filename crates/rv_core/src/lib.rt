@@ -12,7 +12,7 @@ pub use predictors::{Blocks, Plain, Predictor};
 
 /// A core of three to five stages, numbered from 0, the fetch. Its last stage, STAGES - 1, is the write-back.
 /// A user's core is one more `impl`, which proves the law on its numbers (this project's choice).
-/// No pipeline reads FORWARD, Next or TRAP yet: they stand in the shape.
+/// No pipeline reads TRAP yet: it stands in the shape.
 pub trait Core {
     /// The count of stages, 3 to 5.
     const STAGES: u8;

@@ -1,6 +1,6 @@
 -- The tokens of the slots stay fitting through a row.
 use Rattle.std.proofs.Common.{◌≡◌, refl, sym, subst, ℕ, zero, suc, ◌<◌, List, [], ◌∷◌, ◌++◌, take, drop, length, get_or, replicate, Option, Some, None, Bool, true, false, arith}
-use Rattle.std.specs.Prelude.{IfSome, slice_get, if◌then◌else◌, ◌==◌, is_some}
+use Rattle.std.specs.Prelude.{IfSome, slice_get, option_map, if◌then◌else◌, is_some}
 use Rattle.ix_extension.specs.Extensions.{ExtensionTree, view_extension}
 use Rattle.ix_plan.specs.declared.design.Design.{Design}
 use Rattle.rv_core.specs.declared.Shape.{Shape}
@@ -24,7 +24,8 @@ use Rattle.rv_effect.specs.declared.decoded.Decoded.{Decoded}
 use Rattle.rv_effect.specs.declared.decoded.Decoded.TheVariants as D
 use Rattle.rv_asks.specs.Asks.{asks_in}
 use Rattle.rv_engine.specs.Owing.{Outstanding}
-use Rattle.rv_engine.specs.Rows.{fill_first, operands, with_operands, reading, waited, going, kept, advanced, leaving, first_slot, native_in, native_tried, native_of}
+use Rattle.rv_engine.specs.declared.reading.Operands.{Operands}
+use Rattle.rv_engine.specs.Rows.{fill_first, slot_operands, with_pair, read_with, reading, waited, going, kept, advanced, leaving, first_slot, native_in, native_tried, native_of}
 use Rattle.rv_engine.specs.Kept.{IsSoundTrial, IsFitting, IsFittingSlot, AreFitting, AreStoredInside}
 
 pub fill_fitting : (d : Design) (new : Option Token) (slots : Slots) → IsFittingSlot d new → AreFitting d slots → AreFitting d (fill_first new slots)
@@ -32,16 +33,16 @@ fill_fitting d new [] n h = tt
 fill_fitting d new (None ∷ older) n h = (n, h.1)
 fill_fitting d new (Some t ∷ older) n h = h
 
-operands_fitting : (d : Design) (k : Shape) (file : List ℕ) (wait : ℕ) (o : Outstanding) (stage : ℕ) (s : Option Token) → IsFittingSlot d s → IsFittingSlot d (with_operands k file wait o stage s)
-operands_fitting d k file wait o stage None h = tt
-operands_fitting d k file wait o stage (Some t) h = record { is_in = h.is_in; unit = h.unit; wide = by_case (stage == k.rd); sound = h.sound } where
-  by_case : (b : Bool) → AreWide (view_extension d.extension) (if b then operands file t.inputs else t.inputs).custom
-  by_case true = h.wide
-  by_case false = h.wide
+read_fitting : (d : Design) (k : Shape) (operands : Option Operands) (wait : ℕ) (o : Outstanding) (stage : ℕ) (s : Option Token) → IsFittingSlot d s → IsFittingSlot d (option_map (read_with k operands wait o stage) s)
+read_fitting d k operands wait o stage None h = tt
+read_fitting d k operands wait o stage (Some t) h = record { is_in = h.is_in; unit = h.unit; wide = by_pair operands; sound = h.sound } where
+  by_pair : (p : Option Operands) → AreWide (view_extension d.extension) (with_pair p t.inputs).custom
+  by_pair None = h.wide
+  by_pair (Some p) = h.wide
 
 pub reading_fitting : (d : Design) (k : Shape) (file : List ℕ) (wait : ℕ) (o : Outstanding) (stage : ℕ) (slots : Slots) → AreFitting d slots → AreFitting d (reading k file wait o stage slots)
 reading_fitting d k file wait o stage [] h = tt
-reading_fitting d k file wait o stage (s ∷ older) h = (operands_fitting d k file wait o stage s h.0, reading_fitting d k file wait o (suc stage) older h.1)
+reading_fitting d k file wait o stage (s ∷ older) h = (read_fitting d k (slot_operands k stage s older file) wait o stage s h.0, reading_fitting d k file wait o (suc stage) older h.1)
 
 held_fitting : (d : Design) (h : Option Hold) (t : Token) → IsFitting d t → IsFitting d (held h t)
 held_fitting d h t f = record { is_in = f.is_in; unit = f.unit; wide = f.wide; sound = f.sound }

@@ -8,8 +8,9 @@ use Rattle.ix_bits.specs.declared.number.Bits.{Bits}
 use Rattle.ix_extension.specs.Extensions.{ExtensionTree}
 use Rattle.rv_core.specs.declared.Shape.{Shape}
 use Rattle.rv_holds.specs.declared.token.Token.{Token}
+use Rattle.ix_plan.specs.declared.design.Design.{Design}
 use Rattle.rv_holds.specs.Tokens.{Slots}
-use Rattle.rv_engine.specs.Rows.{tried_with, seeing, is_ripe, with_trial, trying, with_load, loading}
+use Rattle.rv_engine.specs.Rows.{with_guess, guess_first, tried_with, seeing, is_ripe, with_trial, trying, with_load, loading}
 
 unequal : (a b : ℕ) → b < a → (a == b) ≡ false
 unequal a b h = grind (arith, nat_tests)
@@ -95,3 +96,8 @@ pub placed_mem : (x : ExtensionTree) (k : Shape) (memory : List ℕ) (slots : Sl
     → r ≡ with_load x k memory k.mem (get_or slots n s) → slice_set slots n r ≡ loading x k memory 0 slots
 placed_mem x k memory slots n s r e lt h g =
     ap (λ (u : Option Token). slice_set slots n u) (g ∙ ap (λ (u : Option Token). with_load x k memory k.mem u) (sym h)) ∙ sym (at_mem x k memory 0 n slots s (omega (arith, e)) (omega (arith, e, lt)) h)
+
+-- the token of stage 0 has its guess
+pub guess_here : (d : Design) (future : List Bits) (memory : List ℕ) (slots : Slots) (u r : Option Token) → 0 < length slots → r ≡ option_map (with_guess d future memory) (get_or slots 0 u) → slice_set slots 0 r ≡ guess_first d future memory slots
+guess_here d future memory [] u r lt e = absurd (omega (arith, lt))
+guess_here d future memory (s ∷ older) u r lt e = ap (λ (z : Option Token). z ∷ older) e

@@ -1,12 +1,13 @@
 -- What slots show, stage by stage.
-use Rattle.std.proofs.Common.{◌≡◌, ◌∙◌, refl, sym, ap, ℕ, zero, suc, ◌<◌, ◌≤◌, List, [], ◌∷◌, length, take, drop, get_or, Option, Some, None, Bool, false, arith, inl, inr}
-use Rattle.std.specs.Prelude.{◌+◌, ◌-◌, nat_lt, option_map, slice_set}
+use Rattle.std.proofs.Common.{◌≡◌, ◌∙◌, refl, sym, ap, ℕ, zero, suc, ◌<◌, ◌≤◌, List, [], ◌∷◌, length, take, drop, get_or, Option, Some, None, Bool, true, false, arith, inl, inr}
+use Rattle.std.specs.Prelude.{◌+◌, ◌-◌, nat_lt, option_map, slice_set, IfSome}
 use Rattle.std.proofs.lemmas.Bool.{cases_lt}
 use Rattle.std.proofs.lemmas.List.{take_all}
 use Rattle.std.proofs.lemmas.Bool.Decides.{nat_tests}
 use Rattle.rv_holds.specs.declared.token.Token.{Token}
 use Rattle.rv_holds.specs.declared.flushing.Turn.{Turn}
 use Rattle.rv_holds.specs.Tokens.{Slots}
+use Rattle.rv_holds.specs.Forwarding.{operand_in}
 use Rattle.rv_holds.specs.Flushing.{struck}
 use Rattle.rv_core.specs.declared.Shape.{Shape}
 use Rattle.ix_bits.specs.declared.number.Bits.{Bits}
@@ -37,9 +38,30 @@ drop_few (s ∷ l) (suc n) = let rest = drop_few l n in omega (arith, rest)
 pub rest_all : (l : Slots) (n : ℕ) → take (length l - n) (drop n l) ≡ drop n l
 rest_all l n = take_all (length l - n) (drop n l) (drop_few l n)
 
+-- all that stands behind a stage
+pub behind_stage : (l : Slots) (n : ℕ) → take (length l - (n + 1)) (drop (n + 1) l) ≡ drop (suc n) l
+behind_stage l n = let e : n + 1 ≡ suc n = omega arith in rest_all l (n + 1) ∙ ap (λ i. drop i l) e
+
+-- an operand from the slots behind these stages, however their count was found
+pub operand_behind : (k : Shape) (x : List ℕ) (l : Slots) (n m r v : ℕ) → n ≡ m → v ≡ operand_in k true n (take (length l - n) (drop n l)) x r → v ≡ operand_in k true m (drop m l) x r
+operand_behind k x l n m r v same e = e ∙ ap (λ z. operand_in k true n z x r) (rest_all l n) ∙ ap (λ j. operand_in k true j (drop j l) x r) same
+
 -- what the slot of a stage shows
-pub here_shown : (k : Shape) (x : List ℕ) (flushed : ℕ) (l : Slots) (n : ℕ) (s : Option Token) → n < length l → s ≡ get_or l n s → option_map (seat_by k x flushed n (drop (suc n) l)) s ≡ slot_seat k x flushed l n
-here_shown k x flushed l n s lt e = sym (ap (λ o. option_map (seat_by k x flushed n (drop (suc n) l)) o) (got_at l n s lt e))
+here_shown : (k : Shape) (x : List ℕ) (flushed : ℕ) (l : Slots) (n : ℕ) (s : Option Token) → n < length l → s ≡ get_or l n s → option_map (seat_by k x flushed l n) s ≡ slot_seat k x flushed l n
+here_shown k x flushed l n s lt e = sym (ap (λ o. option_map (seat_by k x flushed l n) o) (got_at l n s lt e))
+
+-- where it has a token, and where it is free
+pub token_shown : (k : Shape) (x : List ℕ) (flushed : ℕ) (l : Slots) (n : ℕ) (s : Option Token) (t : Token) (seat : Seat) → n < length l → s ≡ get_or l n s → s ≡ Some t → seat ≡ seat_by k x flushed l n t → Some seat ≡ slot_seat k x flushed l n
+token_shown k x flushed l n s t seat lt e some same =
+    ap (λ (z : Seat). Some z) same ∙ sym (ap (λ o. option_map (seat_by k x flushed l n) o) some) ∙ here_shown k x flushed l n s lt e
+
+pub free_shown : (k : Shape) (x : List ℕ) (flushed : ℕ) (l : Slots) (n : ℕ) (s : Option Token) → n < length l → s ≡ get_or l n s → s ≡ None → None ≡ slot_seat k x flushed l n
+free_shown k x flushed l n s lt e none = sym (ap (λ o. option_map (seat_by k x flushed l n) o) none) ∙ here_shown k x flushed l n s lt e
+
+-- no more stages are flushed than there are
+pub struck_within : (turn : Option Turn) (n m : ℕ) → m ≡ struck turn → IfSome turn (λ t. t.stage < n) → m ≤ n
+struck_within None n m e h = omega (arith, e)
+struck_within (Some t) n m e h = omega (arith, e, h)
 
 abbrev all_shown : Shape → Arch → List Bits → List ℕ → List Entry → ℕ → Slots → Shown
 all_shown k arch future lasts entries flushed l = record { seats = table (slot_seat k arch.x flushed l) 5; custom = future; datum = loaded arch.mem (slot_load (get_or l k.mem None)); frozen = table (is_frozen lasts entries) 64 }

@@ -1,24 +1,21 @@
 -- The row that a machine makes, and what it keeps then (this project's choice).
-use Rattle.std.specs.Prelude.{◌≡◌, ℕ, suc, ◌-◌, List, [], ◌∷◌, get_or, take, drop, replicate, slice_index, Option, Some, None, Bool, true, false, ◌&&◌, ◌||◌, if◌then◌else◌, ◌==◌, is_some, is_none}
+use Rattle.std.specs.Prelude.{◌≡◌, ℕ, suc, ◌-◌, List, [], ◌∷◌, take, drop, replicate, Option, Some, None, Bool, true, false, ◌&&◌, ◌||◌, if◌then◌else◌, ◌==◌, is_some, is_none, option_map}
 use Rattle.ix_bits.specs.declared.number.Bits.{Bits}
-use Rattle.ix_eval.specs.Tables.{table}
 use Rattle.ix_extension.specs.Extensions.{ExtensionTree, view_extension}
 use Rattle.ix_plan.specs.declared.design.Design.{Design}
 use Rattle.ix_mean.specs.declared.evaluate.State.{State}
 use Rattle.rv_core.specs.declared.Shape.{Shape}
+use Rattle.rv_core.specs.Guesses.{next_word, guess_of}
 use Rattle.rv_isa.specs.Fields.{rs1_of, rs2_of}
 use Rattle.rv_effect.specs.Decoding.{decoded_in}
 use Rattle.rv_seq.specs.declared.arch.Arch.{Arch}
 use Rattle.rv_seq.specs.declared.answer.StepAnswer.{StepAnswer}
 use Rattle.rv_seq.specs.declared.answer.StepAnswer.TheVariants.{Done, Stopped}
-use Rattle.rv_seq.specs.declared.commit.Slot.{Slot}
-use Rattle.rv_seq.specs.declared.commit.Slot.TheVariants.{Absent}
 use Rattle.rv_seq.specs.declared.commit.Commit.{Commit}
 use Rattle.rv_seq.specs.declared.commit.Stop.{Stop}
 use Rattle.rv_seq.specs.declared.commit.Stop.TheVariants.{Fetch}
-use Rattle.rv_seq.specs.States.{zero_bit}
 use Rattle.rv_seq.specs.Steps.{word_at}
-use Rattle.rv_seq.specs.Commits.{slot_of, with_slot, applied}
+use Rattle.rv_seq.specs.Commits.{applied}
 use Rattle.rv_waits.specs.Waits.{wait_at}
 use Rattle.rv_trace.specs.declared.row.Hold.{Hold}
 use Rattle.rv_trace.specs.declared.row.Hold.TheVariants.{Tail}
@@ -30,13 +27,16 @@ use Rattle.rv_tried.specs.Tried.{tried}
 use Rattle.rv_tried.specs.Parts.{shown, native, spawned, paid}
 use Rattle.rv_lawful.specs.Outstanding.{Written}
 use Rattle.rv_lawful.specs.Future.{early_after, late_after, spawned_after}
+use Rattle.rv_lawful.specs.Settings.{jump_with}
 use Rattle.rv_holds.specs.declared.token.Beside.{Beside}
 use Rattle.rv_holds.specs.declared.token.Token.{Token}
 use Rattle.rv_holds.specs.declared.flushing.Turn.{Turn}
 use Rattle.rv_holds.specs.Tokens.{Slots, or_else, commit_of, makes_access, cells_of}
+use Rattle.rv_holds.specs.Forwarding.{operand_in}
 use Rattle.rv_holds.specs.Holds.{waiting_hold, decided}
 use Rattle.rv_holds.specs.Flushing.{turn_of, struck, redirect_of, unheld, cleared, flushed_of, slot_stop, remains, fetch_after}
 use Rattle.rv_engine.specs.declared.owing.Owed.{Owed}
+use Rattle.rv_engine.specs.declared.reading.Operands.{Operands}
 use Rattle.rv_engine.specs.Owing.{Outstanding, beside_of, paying, outstanding_after}
 use Rattle.rv_engine.specs.Settings.{Setting, Machine, shape_of, tree_of, outstanding_in}
 
@@ -54,6 +54,7 @@ new_token d future serial at word =
       wait = 0;
       tail = (asks_in d word (decoded_in (view_extension d.extension) word)).tail;
       beside = record { board = None; port = None; left = None };
+      guess = next_word at;
     }
 
 -- what is fetched, where there is a word
@@ -72,27 +73,55 @@ next_after next [] new = next
 next_after next (Some t ∷ older) new = next
 next_after next (None ∷ older) new = if is_some new then suc next else next
 
+-- the token with the guess of the address behind it: on a core that predicts where the always-blocks jump to from it with the future file, if they jump, else the next word's
+abbrev pub with_guess : Design → List Bits → List ℕ → Token → Token
+with_guess d future memory t =
+    record {
+      cell = t.cell;
+      decoded = t.decoded;
+      asks = t.asks;
+      inputs = t.inputs;
+      trial = t.trial;
+      wait = t.wait;
+      tail = t.tail;
+      beside = t.beside;
+      guess = guess_of d.sheet.shape.predict (jump_with (view_extension d.extension) future memory t.cell.at t.cell.word) t.cell.at;
+    }
+
+-- the token of stage 0, so
+abbrev pub guess_first : Design → List Bits → List ℕ → Slots → Slots
+guess_first d future memory [] = []
+guess_first d future memory (s ∷ older) = option_map (with_guess d future memory) s ∷ older
+
 -- Operands and what is tried
 
 -- the token with these inputs, so many rows to wait, and what it meets beside the stages
 abbrev pub with_inputs : State → ℕ → Beside → Token → Token
 with_inputs i wait beside t =
-    record { cell = t.cell; decoded = t.decoded; asks = t.asks; inputs = i; trial = t.trial; wait = wait; tail = t.tail; beside = beside }
+    record { cell = t.cell; decoded = t.decoded; asks = t.asks; inputs = i; trial = t.trial; wait = wait; tail = t.tail; beside = beside; guess = t.guess }
 
--- the operands that the register file has
-abbrev pub operands : List ℕ → State → State
-operands x i = record { word = i.word; rs1 = slice_index x (rs1_of i.word); rs2 = slice_index x (rs2_of i.word); pc = i.pc; custom = i.custom }
+-- the operands of a word before these tokens, the first of them in this stage, as a row begins
+abbrev pub operand_pair : Shape → ℕ → Slots → List ℕ → ℕ → Operands
+operand_pair k stage older x word = record { first = operand_in k false stage older x (rs1_of word); second = operand_in k false stage older x (rs2_of word) }
 
--- the token of RD with its operands, that of MEM with the rows for which its access still waits, and each with what it meets beside the stages
-abbrev pub with_operands : Shape → List ℕ → ℕ → Outstanding → ℕ → Option Token → Option Token
-with_operands k x wait o stage None = None
-with_operands k x wait o stage (Some t) =
-    Some (with_inputs (if stage == k.rd then operands x t.inputs else t.inputs) (if (stage == k.mem) && makes_access t then wait else 0) (beside_of k o stage t.asks) t)
+-- those of the token of RD, where one is there
+abbrev pub slot_operands : Shape → ℕ → Option Token → Slots → List ℕ → Option Operands
+slot_operands k stage None older x = None
+slot_operands k stage (Some t) older x = if stage == k.rd then Some (operand_pair k (suc stage) older x t.inputs.word) else None
 
--- each slot so
+-- with these operands, where there are some
+abbrev pub with_pair : Option Operands → State → State
+with_pair None i = i
+with_pair (Some o) i = record { word = i.word; rs1 = o.first; rs2 = o.second; pc = i.pc; custom = i.custom }
+
+-- the token with these operands, where there are some; at MEM with the rows for which its access still waits; and with what it meets beside the stages
+abbrev pub read_with : Shape → Option Operands → ℕ → Outstanding → ℕ → Token → Token
+read_with k operands wait o stage t = with_inputs (with_pair operands t.inputs) (if (stage == k.mem) && makes_access t then wait else 0) (beside_of k o stage t.asks) t
+
+-- each slot so, that of RD with its operands
 abbrev pub reading : Shape → List ℕ → ℕ → Outstanding → ℕ → Slots → Slots
 reading k x wait o stage [] = []
-reading k x wait o stage (s ∷ older) = with_operands k x wait o stage s ∷ reading k x wait o (suc stage) older
+reading k x wait o stage (s ∷ older) = option_map (read_with k (slot_operands k stage s older x) wait o stage) s ∷ reading k x wait o (suc stage) older
 
 -- the token tried with these inputs on this memory
 abbrev pub tried_with : ExtensionTree → List ℕ → State → Token → Token
@@ -106,6 +135,7 @@ tried_with x memory i t =
       wait = t.wait;
       tail = t.tail;
       beside = t.beside;
+      guess = t.guess;
     }
 
 -- it sees the custom registers of the future file
@@ -160,6 +190,7 @@ waited t =
       wait = t.wait;
       tail = tail_after t.cell.hold t.tail;
       beside = t.beside;
+      guess = t.guess;
     }
 
 -- the token that goes on from a slot
@@ -272,9 +303,13 @@ owed_by k m = wait_at k.waits m.accesses - m.stood
 abbrev pub new_by : Setting → Machine → Option Token
 new_by k m = fetched k.design m.future m.next m.fetch (word_at k.image m.fetch)
 
--- the slots after the fetch, with their operands
+-- the slots after the fetch, with the guess behind the first
+abbrev pub filled_by : Setting → Machine → Slots
+filled_by k m = guess_first k.design m.future m.arch.mem (fill_first (new_by k m) m.slots)
+
+-- with their operands
 abbrev pub read_by : Setting → Machine → Slots
-read_by k m = reading (shape_of k) m.arch.x (owed_by k m) (outstanding_in k m) 0 (fill_first (new_by k m) m.slots)
+read_by k m = reading (shape_of k) m.arch.x (owed_by k m) (outstanding_in k m) 0 (filled_by k m)
 
 -- with their holds, once the token of EX is tried
 abbrev pub held_by : Setting → Machine → Slots

@@ -1,5 +1,5 @@
 -- What a machine shows the modules in a row, with what it has before the row's writes (this project's choice).
-use Rattle.std.specs.Prelude.{ℕ, suc, ◌+◌, ◌-◌, List, drop, get_or, Option, Some, None, ◌&&◌, not, if◌then◌else◌, ◌==◌, is_none, nat_lt, option_map, slice_index}
+use Rattle.std.specs.Prelude.{ℕ, suc, ◌+◌, ◌-◌, List, drop, get_or, Option, Some, None, true, ◌&&◌, not, if◌then◌else◌, ◌==◌, is_none, nat_lt, option_map, max}
 use Rattle.ix_bits.specs.declared.number.Bits.{Bits}
 use Rattle.ix_eval.specs.declared.access.Access.{Access}
 use Rattle.ix_eval.specs.Tables.{table}
@@ -15,6 +15,7 @@ use Rattle.rv_tried.specs.declared.trial.Trial.{Trial}
 use Rattle.rv_unit.specs.Entries.{is_frozen}
 use Rattle.rv_holds.specs.declared.token.Token.{Token}
 use Rattle.rv_holds.specs.Tokens.{Slots}
+use Rattle.rv_holds.specs.Forwarding.{operand_in}
 use Rattle.rv_holds.specs.Holds.{stops_now}
 use Rattle.rv_holds.specs.Flushing.{struck}
 use Rattle.rv_engine.specs.Owing.{Outstanding}
@@ -25,24 +26,32 @@ use Rattle.rv_engine.specs.Rows.{loaded_by, turn_by}
 abbrev pub time_by : Shape → ℕ → Token → ℕ
 time_by k stage t = if suc stage == k.stages then stage + (t.asks.tail - t.tail) else stage
 
--- what a token shows in this stage, before these older ones, where so many stages are flushed: what is flushed waits for nothing, and goes nowhere
-abbrev pub seat_by : Shape → List ℕ → ℕ → ℕ → Slots → Token → Seat
-seat_by k x flushed stage older t =
+-- the stage of the first of the tokens that are older than one of this stage and not flushed, where so many stages are flushed
+abbrev pub first_older : ℕ → ℕ → ℕ
+first_older flushed stage = max (suc stage) flushed
+
+-- the x register r as an operand of a token of this stage
+abbrev pub operand_by : Shape → List ℕ → ℕ → Slots → ℕ → ℕ → ℕ
+operand_by k x flushed slots stage r = operand_in k true (first_older flushed stage) (drop (first_older flushed stage) slots) x r
+
+-- what a token shows in this stage of these, where so many stages are flushed: what is flushed waits for nothing, and goes nowhere
+abbrev pub seat_by : Shape → List ℕ → ℕ → Slots → ℕ → Token → Seat
+seat_by k x flushed slots stage t =
     record {
       behaviour = own_number t.decoded;
       time = time_by k stage t;
       at = t.cell.at;
       word = t.cell.word;
-      first = slice_index x (rs1_of t.cell.word);
-      second = slice_index x (rs2_of t.cell.word);
+      first = operand_by k x flushed slots stage (rs1_of t.cell.word);
+      second = operand_by k x flushed slots stage (rs2_of t.cell.word);
       silent = is_silent t.cell.hold && not (nat_lt stage flushed);
       tails = is_tail t.cell.hold && not (nat_lt stage flushed);
-      moves = (is_none t.cell.hold && not (nat_lt stage flushed)) && not (stops_now k stage t older);
+      moves = (is_none t.cell.hold && not (nat_lt stage flushed)) && not (stops_now k stage t (drop (suc stage) slots));
     }
 
 -- what the stage shows, where it has a token
 abbrev pub slot_seat : Shape → List ℕ → ℕ → Slots → ℕ → Option Seat
-slot_seat k x flushed slots stage = option_map (seat_by k x flushed stage (drop (suc stage) slots)) (get_or slots stage None)
+slot_seat k x flushed slots stage = option_map (seat_by k x flushed slots stage) (get_or slots stage None)
 
 -- the load of a token that was tried
 abbrev pub load_tried : Option Trial → Option Access

@@ -14,7 +14,7 @@ ghost use Rattle.rv_engine.specs.Showing.{shown_of};
 ghost use Rattle.rv_engine.specs.Kept.{machine_with, machine_of, AreFitting, AreWideOwed, IsLastOpen, IsFit, AreStoredInside};
 ghost use Rattle.rv_engine.specs.Owing.{IsOwingOf};
 
-use crate::filling::fetch;
+use crate::filling::{fetch, guess};
 use crate::front::{Front, Kept};
 use crate::moving::{accesses_then, advance, last, put_early, put_late, retired_in, stood_then};
 use crate::owing::{Owed, Owing};
@@ -92,7 +92,7 @@ fn write(
     put_early(&slots[usize::from(shape.ex)], future);
 }
 
-/// The slots up to their loads: what is fetched comes in, operands are read, the token of EX is tried, holds are decided, and the load
+/// The slots up to their loads: what is fetched comes in, the address behind it is guessed, operands are read, the token of EX is tried, holds are decided, and the load
 /// of MEM reads. Gives the serial of the next fetch.
 fn prepare(
     design: &Design,
@@ -124,6 +124,7 @@ fn prepare(
     let shape = design.sheet.shape;
     let word = word_at(image, front.fetch);
     let next = fetch(design, asking, front, future, word, slots);
+    guess(design, future, &arch.mem, slots, scratch);
     read(design, &arch.x, owed_in(waits, front), owing, slots);
     try_executing(design, future, &arch.mem, slots, scratch);
     decide(shape, slots);

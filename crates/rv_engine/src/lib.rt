@@ -16,3 +16,4 @@ pub use engine::make_row;
 pub use front::{Front, Kept};
 pub use kept::first_kept;
 pub use owing::{Owed, Owing};
+pub use reading::Operands;

@@ -1,9 +1,9 @@
-ghost use Rattle.std.specs.Prelude.{◌≡◌, ◌-◌, ◌<◌, ◌==◌, ◌&&◌, if◌then◌else◌, length, IfSome};
+ghost use Rattle.std.specs.Prelude.{◌≡◌, ◌-◌, ◌<◌, ◌==◌, ◌&&◌, if◌then◌else◌, length, option_map, IfSome};
 ghost use Rattle.rv_waits.specs.Waits.{wait_at};
 ghost use Rattle.rv_holds.specs.Tokens.{makes_access};
 ghost use Rattle.rv_unit.specs.Numbering.{lasts_of};
 ghost use Rattle.rv_engine.specs.Owing.{paying, unpaid, oldest_serial, port_serial as specified_port_serial, beside_of as specified_beside_of};
-ghost use Rattle.rv_engine.specs.Rows.{operands, with_inputs, with_operands, reading};
+ghost use Rattle.rv_engine.specs.Rows.{operand_pair, slot_operands, with_pair, read_with, reading};
 ghost use Rattle.rv_engine.specs.Kept.{IsFittingSlot, AreFitting};
 
 use crate::front::Front;
@@ -14,7 +14,7 @@ use ix_plan::Design;
 use rv_asks::Asks;
 use rv_core::Shape;
 use rv_effect::{rs1_of, rs2_of};
-use rv_holds::{Beside, Token, access_of, is_last};
+use rv_holds::{Beside, Token, access_of, is_last, operand_of};
 use rv_waits::Waits;
 
 /// For how many rows the next access still waits.
@@ -36,13 +36,62 @@ fn wait_of(shape: Shape, owed: u8, stage: usize, token: &Token) -> u8
     }
 }
 
-/// Puts the operands that the register file has into inputs.
-fn read_operands(file: &[u32; 32], inputs: &mut Inputs)
-    ensures { inputs.new ≡ operands file.now inputs.old }
+/// The x operands of a token.
+#[derive(Clone, Copy)]
+pub struct Operands {
+    pub first: u32,
+    pub second: u32,
+}
+
+/// The operands of a token before these, the first of them in this stage.
+fn operands_of(
+    shape: Shape,
+    stage: usize,
+    older: &[Option<Token>],
+    file: &[u32; 32],
+    word: u32,
+) -> Operands
+    requires { length older.now < 100 }
+    ensures { result ≡ operand_pair shape stage older.now file.now word }
 {
-    let word = inputs.word;
-    inputs.rs1 = file[usize::from(rs1_of(word))];
-    inputs.rs2 = file[usize::from(rs2_of(word))];
+    Operands {
+        first: operand_of(shape, false, stage, older, file, rs1_of(word)),
+        second: operand_of(shape, false, stage, older, file, rs2_of(word)),
+    }
+}
+
+/// The operands of the token of a slot of RD, where one is there.
+fn operands_in(
+    shape: Shape,
+    stage: usize,
+    slot: &Option<Token>,
+    older: &[Option<Token>],
+    file: &[u32; 32],
+) -> Option<Operands>
+    requires few { length older.now < 100 }
+    requires inside { stage < 100 }
+    ensures { result ≡ slot_operands shape stage slot.now older.now file.now }
+{
+    match slot {
+        Some(token) if stage == usize::from(shape.rd) => Some(operands_of(
+            shape,
+            stage + 1,
+            older,
+            file,
+            token.inputs.word,
+        )),
+        _ => None,
+    }
+}
+
+/// Puts operands into inputs, where there are some.
+fn put_operands(operands: Option<Operands>, inputs: &mut Inputs)
+    ensures { inputs.new ≡ with_pair operands inputs.old }
+{
+    if let Some(operands) = operands {
+        inputs.rs1 = operands.first;
+        inputs.rs2 = operands.second;
+    }
 }
 
 /// What tokens meet in a row of what is outstanding, found once.
@@ -87,10 +136,10 @@ fn beside_of(shape: Shape, owing: &Owing, met: Met, stage: usize, asks: &Asks) -
     }
 }
 
-/// Gives a token its operands, where its stage is RD, the rows for which it waits, where that is MEM, and what it meets beside the stages.
+/// Gives a token these operands, where there are some, the rows for which it waits, where its stage is MEM, and what it meets beside the stages.
 fn read_token(
     shape: Shape,
-    file: &[u32; 32],
+    operands: Option<Operands>,
     wait: u8,
     owing: &Owing,
     met: Met,
@@ -100,19 +149,17 @@ fn read_token(
     requires left { met.left ≡ oldest_serial (unpaid owing.now) }
     requires port { met.port ≡ specified_port_serial (paying owing.now) }
     requires unit { IfSome token.old.asks.unit (λ unit. unit < length owing.now.lasts) }
-    ensures { token.new ≡ with_inputs (if stage == shape.rd then operands file.now token.old.inputs else token.old.inputs) (if (stage == shape.mem) && makes_access token.old then wait else 0) (specified_beside_of shape owing.now stage token.old.asks) token.old }
+    ensures { token.new ≡ read_with shape operands wait owing.now stage token.old }
 {
     token.wait = wait_of(shape, wait, stage, token);
     token.beside = beside_of(shape, owing, met, stage, &token.asks);
-    if stage == usize::from(shape.rd) {
-        read_operands(file, &mut token.inputs);
-    }
+    put_operands(operands, &mut token.inputs);
 }
 
 /// The same for the token of a slot, where one is there.
 fn read_slot(
     design: &Design,
-    file: &[u32; 32],
+    operands: Option<Operands>,
     wait: u8,
     owing: &Owing,
     met: Met,
@@ -123,10 +170,10 @@ fn read_slot(
     requires port { met.port ≡ specified_port_serial (paying owing.now) }
     requires lasts { owing.now.lasts ≡ lasts_of design.now.plans }
     requires fitting { IsFittingSlot design.now slot.old }
-    ensures { slot.new ≡ with_operands design.now.sheet.shape file.now wait owing.now stage slot.old }
+    ensures { slot.new ≡ option_map (read_with design.now.sheet.shape operands wait owing.now stage) slot.old }
 {
     if let Some(token) = slot {
-        read_token(design.sheet.shape, file, wait, owing, met, stage, token);
+        read_token(design.sheet.shape, operands, wait, owing, met, stage, token);
     }
 }
 
@@ -134,10 +181,18 @@ fn read_slot(
 pub fn read(design: &Design, file: &[u32; 32], wait: u8, owing: &Owing, slots: &mut [Option<Token>])
     requires lasts { owing.now.lasts ≡ lasts_of design.now.plans }
     requires fitting { AreFitting design.now slots.old }
+    requires few { length slots.old < 100 }
     ensures { slots.new ≡ reading design.now.sheet.shape file.now wait owing.now 0 slots.old }
 {
     let met = met_in(owing);
     for stage in 0..slots.len() {
-        read_slot(design, file, wait, owing, met, stage, &mut slots[stage]);
+        let operands = operands_in(
+            design.sheet.shape,
+            stage,
+            &slots[stage],
+            &slots[stage + 1..],
+            file,
+        );
+        read_slot(design, operands, wait, owing, met, stage, &mut slots[stage]);
     }
 }

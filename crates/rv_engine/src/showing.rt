@@ -1,18 +1,19 @@
-ghost use Rattle.std.specs.Prelude.{◌≡◌, ◌-◌, ◌<◌, ◌≤◌, None, length, get_or, option_map};
+ghost use Rattle.std.specs.Prelude.{◌≡◌, ◌-◌, ◌<◌, ◌≤◌, suc, None, length, drop, get_or, IfSome};
 ghost use Rattle.ix_eval.specs.Tables.{table};
 ghost use Rattle.rv_lawful.specs.Settings.{is_tail as specified_is_tail};
 ghost use Rattle.rv_ports.specs.Drives.{own_number as specified_own_number};
 ghost use Rattle.rv_ports.specs.Seats.{is_silent as specified_is_silent, loaded};
 ghost use Rattle.rv_unit.specs.Entries.{is_frozen};
+ghost use Rattle.rv_holds.specs.Holds.{stops_now};
 ghost use Rattle.rv_holds.specs.Flushing.{struck as specified_struck};
-ghost use Rattle.rv_engine.specs.Showing.{time_by, seat_by, slot_seat, load_tried, slot_load as specified_slot_load, shown_with};
+ghost use Rattle.rv_engine.specs.Showing.{time_by, operand_by as specified_operand_by, seat_by, slot_seat, load_tried, slot_load as specified_slot_load, shown_with};
 
 use crate::owing::Owing;
 use ix_bits::Bits;
 use ix_eval::Access;
 use rv_core::Shape;
 use rv_effect::{Decoded, peek, rs1_of, rs2_of};
-use rv_holds::{Token, Turn, does_stop, is_last, struck};
+use rv_holds::{Token, Turn, does_stop, is_last, operand_of, struck};
 use rv_memory::RandomAccess;
 use rv_ports::{Seat, Shown};
 use rv_seq::Arch;
@@ -67,31 +68,61 @@ fn time_of(shape: Shape, stage: usize, token: &Token) -> u16
     }
 }
 
-/// What a token shows in its stage, before these older ones, where so many stages are flushed.
+/// The x register that an operand of a token of this stage names, from those of the tokens that are older and not flushed, where so many stages are.
+fn operand_by(
+    shape: Shape,
+    file: &[u32; 32],
+    flushed: usize,
+    slots: &[Option<Token>],
+    stage: usize,
+    r: u8,
+) -> u32
+    requires few { length slots.now ≤ 5 }
+    requires inside { stage < length slots.now }
+    requires flushed { flushed ≤ length slots.now }
+    requires register { r < 32 }
+    ensures { result ≡ specified_operand_by shape file.now flushed slots.now stage r }
+{
+    let first = flushed.max(stage + 1);
+    operand_of(shape, true, first, &slots[first..], file, r)
+}
+
+/// Whether a token of this stage of these stops the run in the row.
+fn stops_at(shape: Shape, stage: usize, token: &Token, slots: &[Option<Token>]) -> bool
+    requires { stage < length slots.now }
+    ensures { result ≡ stops_now shape stage token.now (drop (suc stage) slots.now) }
+{
+    does_stop(shape, stage, token, &slots[stage + 1..])
+}
+
+/// What a token shows in its stage of these, where so many stages are flushed.
 fn seat_of(
     shape: Shape,
     file: &[u32; 32],
     flushed: usize,
+    slots: &[Option<Token>],
     stage: usize,
     token: &Token,
-    older: &[Option<Token>],
 ) -> Seat
-    requires { stage < 5 }
-    ensures { result ≡ seat_by shape file.now flushed stage older.now token.now }
+    requires few { length slots.now ≤ 5 }
+    requires inside { stage < length slots.now }
+    requires flushed { flushed ≤ length slots.now }
+    ensures { result ≡ seat_by shape file.now flushed slots.now stage token.now }
 {
     let word = token.cell.word;
     let hold = token.cell.hold;
     let is_left = stage >= flushed;
+    let is_going = hold.is_none() && is_left;
     Seat {
         behaviour: own_number(token.decoded),
         time: time_of(shape, stage, token),
         at: token.cell.at,
         word,
-        first: file[usize::from(rs1_of(word))],
-        second: file[usize::from(rs2_of(word))],
+        first: operand_by(shape, file, flushed, slots, stage, rs1_of(word)),
+        second: operand_by(shape, file, flushed, slots, stage, rs2_of(word)),
         silent: is_silent(hold) && is_left,
         tails: is_tail(hold) && is_left,
-        moves: hold.is_none() && is_left && !does_stop(shape, stage, token, older),
+        moves: is_going && !stops_at(shape, stage, token, slots),
     }
 }
 
@@ -100,16 +131,17 @@ fn seat_in(
     shape: Shape,
     file: &[u32; 32],
     flushed: usize,
+    slots: &[Option<Token>],
     stage: usize,
-    slot: &Option<Token>,
-    older: &[Option<Token>],
 ) -> Option<Seat>
-    requires { stage < 5 }
-    ensures { result ≡ option_map (seat_by shape file.now flushed stage older.now) slot.now }
+    requires few { length slots.now ≤ 5 }
+    requires inside { stage < length slots.now }
+    requires flushed { flushed ≤ length slots.now }
+    ensures { result ≡ slot_seat shape file.now flushed slots.now stage }
 {
-    match slot {
+    match &slots[stage] {
         None => None,
-        Some(token) => Some(seat_of(shape, file, flushed, stage, token, older)),
+        Some(token) => Some(seat_of(shape, file, flushed, slots, stage, token)),
     }
 }
 
@@ -120,19 +152,13 @@ fn seats_in(
     flushed: usize,
     slots: &[Option<Token>],
 ) -> [Option<Seat>; 5]
-    requires { length slots.now ≤ 5 }
+    requires few { length slots.now ≤ 5 }
+    requires flushed { flushed ≤ length slots.now }
     ensures { result ≡ table (slot_seat shape file.now flushed slots.now) 5 }
 {
     let mut seats = [None; 5];
     for stage in 0..slots.len() {
-        seats[stage] = seat_in(
-            shape,
-            file,
-            flushed,
-            stage,
-            &slots[stage],
-            &slots[stage + 1..],
-        );
+        seats[stage] = seat_in(shape, file, flushed, slots, stage);
     }
     seats
 }
@@ -182,6 +208,7 @@ pub fn show(
 ) -> Shown
     requires few { length slots.now ≤ 5 }
     requires inside { shape.mem < length slots.now }
+    requires turn { IfSome turn (λ turn. turn.stage < length slots.now) }
     ensures { result ≡ shown_with shape arch.now future.now owing.now (specified_struck turn) slots.now }
 {
     let seats = seats_in(shape, &arch.x, struck(turn), slots);

@@ -97,4 +97,4 @@ remains (Some t ∷ u ∷ rest) = true
 abbrev pub fetch_after : ℕ → Slots → ℕ
 fetch_after fetch [] = fetch
 fetch_after fetch (None ∷ older) = fetch
-fetch_after fetch (Some t ∷ older) = if is_some t.cell.hold then fetch else (t.cell.at + 4) % 2 ^ 32
+fetch_after fetch (Some t ∷ older) = if is_some t.cell.hold then fetch else t.guess

@@ -1,5 +1,5 @@
 -- Why a token stays in its stage, as a pipeline decides it (this project's choice).
-use Rattle.std.specs.Prelude.{ℕ, zero, suc, ◌-◌, [], ◌∷◌, get_or, Option, Some, None, Bool, false, ◌&&◌, ◌||◌, if◌then◌else◌, ◌==◌, nat_lt, is_some, is_none, min, max}
+use Rattle.std.specs.Prelude.{ℕ, zero, suc, ◌-◌, [], ◌∷◌, get_or, Option, Some, None, Bool, false, ◌&&◌, ◌||◌, not, if◌then◌else◌, ◌==◌, nat_lt, is_some, is_none, min, max}
 use Rattle.ix_plan.specs.declared.design.Target.{Target}
 use Rattle.ix_plan.specs.declared.design.Target.TheVariants.{X}
 use Rattle.ix_plan.specs.declared.design.Target.TheVariants as target
@@ -17,10 +17,17 @@ oldest f [] = None
 oldest f (None ∷ older) = oldest f older
 oldest f (Some t ∷ older) = or_else (oldest f older) (if f t then Some t.cell.serial else None)
 
--- does a token write this x register, write this custom register late, store, write the pc late?
-abbrev pub does_write : ℕ → Token → Bool
-does_write r t = t.asks.destination == r
+-- does the token of this stage write this x register, its value not there yet for a younger one? On a core that forwards it is there above the time of the write
+abbrev pub withholds : Shape → ℕ → ℕ → Token → Bool
+withholds k r stage t = (t.asks.destination == r) && not (k.forward && nat_lt t.asks.x_time stage)
 
+-- the oldest such token of these, the first of them in this stage
+abbrev pub withholder : Shape → ℕ → ℕ → Slots → Option ℕ
+withholder k r stage [] = None
+withholder k r stage (None ∷ older) = withholder k r (suc stage) older
+withholder k r stage (Some t ∷ older) = or_else (withholder k r (suc stage) older) (if withholds k r stage t then Some t.cell.serial else None)
+
+-- does a token write this custom register late, store, write the pc late?
 abbrev pub writes_late : ℕ → Token → Bool
 writes_late r t = get_or t.asks.late_customs r false
 
@@ -35,11 +42,12 @@ abbrev pub operand : ℕ → Option ℕ → Option Hold
 operand r None = None
 operand r (Some j) = Some (Operand r j)
 
-abbrev pub waits_for : ℕ → Slots → Option Hold
-waits_for r older = if r == 0 then None else operand r (oldest (does_write r) older)
+abbrev pub waits_for : Shape → ℕ → ℕ → Slots → Option Hold
+waits_for k r stage older = if r == 0 then None else operand r (withholder k r stage older)
 
-abbrev pub operand_hold : Slots → Asks → Option Hold
-operand_hold older a = or_else (waits_for (min a.first a.second) older) (waits_for (max a.first a.second) older)
+-- of an instruction before these, the first of them in this stage
+abbrev pub operand_hold : Shape → ℕ → Slots → Asks → Option Hold
+operand_hold k stage older a = or_else (waits_for k (min a.first a.second) stage older) (waits_for k (max a.first a.second) stage older)
 
 -- how many registers there are: 32 of the base, and 16 custom ones
 unfoldable pub register_count : ℕ
@@ -106,13 +114,13 @@ abbrev pub late_hold : Slots → Option Hold
 late_hold older = late (oldest is_late older)
 
 -- a token at RD waits for an operand first, and then for an outstanding register
-abbrev pub reading_hold : Token → Slots → Option Hold
-reading_hold t older = or_else (operand_hold older t.asks) (board_hold t older)
+abbrev pub reading_hold : Shape → ℕ → Token → Slots → Option Hold
+reading_hold k stage t older = or_else (operand_hold k (suc stage) older t.asks) (board_hold t older)
 
 -- the holds until which a token can't be tried at EX
 abbrev pub waiting_hold : Shape → ℕ → Token → Slots → Option Hold
 waiting_hold k stage t older =
-    or_else (if stage == k.rd then reading_hold t older else None)
+    or_else (if stage == k.rd then reading_hold k stage t older else None)
     (if stage == k.ex then or_else (custom_hold older t.asks) (late_hold older) else None)
 
 abbrev pub drain : Option ℕ → Option Hold
@@ -196,6 +204,7 @@ held h t =
       wait = t.wait;
       tail = t.tail;
       beside = t.beside;
+      guess = t.guess;
     }
 
 abbrev pub with_hold : Shape → ℕ → Option Token → Slots → Option Token

@@ -1,3 +1,4 @@
 pub mod Tokens
+pub mod Forwarding
 pub mod Holds
 pub mod Flushing

@@ -1,21 +1,29 @@
 ghost use Rattle.std.specs.Prelude.{◌≡◌, ◌+◌, ◌<◌, ◌==◌, length, suc, is_some, option_map, IfSome};
 ghost use Rattle.rv_holds.specs.Tokens.{or_else};
-ghost use Rattle.rv_holds.specs.Holds.{oldest, does_write, writes_late, does_store, is_late, waits_for, operand_hold, waits_for_custom, custom_hold, late_hold, waiting_hold as specified_waiting_hold, staying, entering, left_behind, drain_hold, reading_hold, ending_hold, store_hold, memory_hold, tail_hold, own_hold, stops_now, is_blocked as specified_is_blocked, shown, held as specified_held, decided};
+ghost use Rattle.rv_holds.specs.Holds.{oldest, withholds as specified_withholds, withholder, writes_late, does_store, is_late, waits_for, operand_hold, waits_for_custom, custom_hold, late_hold, waiting_hold as specified_waiting_hold, staying, entering, left_behind, drain_hold, reading_hold, ending_hold, store_hold, memory_hold, tail_hold, own_hold, stops_now, is_blocked as specified_is_blocked, shown, held as specified_held, decided};
 
 use crate::board::board_of;
+use crate::forwarding::is_below;
 use crate::token::{Token, stop_of};
 use rv_asks::Asks;
 use rv_core::Shape;
 use rv_trace::Hold;
 
-/// The oldest token that writes this x register.
-fn oldest_writer(older: &[Option<Token>], r: u8) -> Option<u32>
-    ensures { result ≡ oldest (does_write r) older.now }
+/// Whether a token writes this x register, its value not there yet for a younger one: it stands so many stages on from a stage.
+fn withholds(shape: Shape, r: u8, stage: usize, further: usize, token: &Token) -> bool
+    ensures { result ≡ specified_withholds shape r (stage + further) token.now }
+{
+    token.asks.destination == r && !(shape.forward && is_below(token.asks.x_time, stage, further))
+}
+
+/// The oldest token that does, the first of these in this stage.
+fn oldest_withholding(shape: Shape, r: u8, stage: usize, older: &[Option<Token>]) -> Option<u32>
+    ensures { result ≡ withholder shape r stage older.now }
 {
     let mut found = None;
-    for slot in older {
-        if let Some(token) = slot {
-            if token.asks.destination == r {
+    for further in 0..older.len() {
+        if let Some(token) = &older[further] {
+            if withholds(shape, r, stage, further, token) {
                 found = Some(token.cell.serial);
             }
         }
@@ -69,26 +77,26 @@ fn oldest_late(older: &[Option<Token>]) -> Option<u32>
     found
 }
 
-fn waited_for(older: &[Option<Token>], r: u8) -> Option<Hold>
-    ensures { result ≡ waits_for r older.now }
+fn waited_for(shape: Shape, r: u8, stage: usize, older: &[Option<Token>]) -> Option<Hold>
+    ensures { result ≡ waits_for shape r stage older.now }
 {
     if r == 0 {
         return None;
     }
-    match oldest_writer(older, r) {
+    match oldest_withholding(shape, r, stage, older) {
         None => None,
         Some(serial) => Some(Hold::Operand(r, serial)),
     }
 }
 
 /// The hold of an instruction that waits for an operand, the least register first.
-fn operand(older: &[Option<Token>], asks: &Asks) -> Option<Hold>
-    ensures { result ≡ operand_hold older.now asks.now }
+fn operand(shape: Shape, stage: usize, older: &[Option<Token>], asks: &Asks) -> Option<Hold>
+    ensures { result ≡ operand_hold shape stage older.now asks.now }
 {
     let first = asks.first;
     let second = asks.second;
-    match waited_for(older, first.min(second)) {
-        None => waited_for(older, first.max(second)),
+    match waited_for(shape, first.min(second), stage, older) {
+        None => waited_for(shape, first.max(second), stage, older),
         hold => hold,
     }
 }
@@ -127,10 +135,10 @@ fn late(older: &[Option<Token>]) -> Option<Hold>
 }
 
 /// The hold of a token at RD, which waits for an operand first and then for an outstanding register.
-fn reading(token: &Token, older: &[Option<Token>]) -> Option<Hold>
-    ensures { result ≡ reading_hold token.now older.now }
+fn reading(shape: Shape, token: &Token, older: &[Option<Token>]) -> Option<Hold>
+    ensures { result ≡ reading_hold shape shape.rd token.now older.now }
 {
-    match operand(older, &token.asks) {
+    match operand(shape, usize::from(shape.rd) + 1, older, &token.asks) {
         None => board_of(token, older),
         hold => hold,
     }
@@ -146,7 +154,7 @@ pub fn waiting_hold(
     ensures { result ≡ specified_waiting_hold shape stage token.now older.now }
 {
     if stage == usize::from(shape.rd) {
-        let hold = reading(token, older);
+        let hold = reading(shape, token, older);
         if hold.is_some() {
             return hold;
         }

@@ -242,7 +242,7 @@ pub fn fetch_following(fetch: u32, slots: &[Option<Token>]) -> u32
     ensures { result ≡ fetch_after fetch slots.now }
 {
     match slots {
-        [Some(token), ..] if token.cell.hold.is_none() => token.cell.at.wrapping_add(4),
+        [Some(token), ..] if token.cell.hold.is_none() => token.guess,
         _ => fetch,
     }
 }

@@ -35,6 +35,8 @@ pub struct Token {
     pub tail: u8,
     /// What it meets beside the stages.
     pub beside: Beside,
+    /// The guess of the address behind it, as it was when the token left stage 0.
+    pub guess: u32,
 }
 
 /// The stop that a token makes, where it has been tried and makes one.

@@ -3,7 +3,6 @@
 use Rattle.std.specs.Prelude.{ℕ, List, [], ◌∷◌, get_or, slice_get, Option, Some, None, Bool, false, ◌&&◌, ◌||◌, if◌then◌else◌, is_some}
 use Rattle.ix_bits.specs.declared.number.Bits.{Bits}
 use Rattle.ix_eval.specs.Tables.{table}
-use Rattle.ix_extension.specs.Extensions.{ExtensionTree}
 use Rattle.rv_asks.specs.declared.asks.Asks.{Asks}
 use Rattle.rv_seq.specs.declared.answer.StepAnswer.{StepAnswer}
 use Rattle.rv_seq.specs.declared.answer.StepAnswer.TheVariants.{Done, Stopped}
@@ -11,7 +10,7 @@ use Rattle.rv_seq.specs.declared.commit.Commit.{Commit}
 use Rattle.rv_seq.specs.declared.commit.Slot.{Slot}
 use Rattle.rv_seq.specs.declared.commit.Slot.TheVariants.{Absent}
 use Rattle.rv_seq.specs.Commits.{slot_of, with_slot}
-use Rattle.rv_seq.specs.States.{first, zero_bit}
+use Rattle.rv_seq.specs.States.{zero_bit}
 use Rattle.rv_tried.specs.declared.parts.Spawned.{Spawned}
 use Rattle.rv_trace.specs.declared.row.Cell.{Cell}
 use Rattle.rv_trace.specs.declared.row.Row.{Row}
@@ -80,7 +79,7 @@ after_unit None file = file
 after_unit (Some w) file = spawned_after (writes_of w) file
 
 -- the future file after these rows: at first the initial values, then in each row what a unit writes, what retires writes late, and what leaves EX writes there
-unfoldable pub future_file : ExtensionTree → Setting → List Row → List Bits
-future_file x k [] = (first x).custom
-future_file x k (row ∷ earlier) =
-    after_executed k (row ∷ earlier) (leaves_execute k row) (after_late k (retirements earlier) row.retired (after_unit row.written (future_file x k earlier)))
+unfoldable pub future_file : Setting → List Row → List Bits
+future_file k [] = k.initial
+future_file k (row ∷ earlier) =
+    after_executed k (row ∷ earlier) (leaves_execute k row) (after_late k (retirements earlier) row.retired (after_unit row.written (future_file k earlier)))

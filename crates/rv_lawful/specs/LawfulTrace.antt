@@ -1,5 +1,5 @@
 -- Which rows of a pipeline with an extension are lawful after the earlier ones (this project's choice). `row` is the row that is judged, `earlier` are those before it.
-use Rattle.std.specs.Prelude.{◌≡◌, ◌≢◌, ℕ, suc, drop, ◌+◌, ◌<◌, List, [], ◌∷◌, get_or, Option, Some, None, Bool, true, false, ◌&&◌, ◌||◌, not, if◌then◌else◌, ◌==◌, is_some, slice_get, ◌⊎◌}
+use Rattle.std.specs.Prelude.{◌≡◌, ◌≢◌, ℕ, suc, drop, ◌+◌, ◌<◌, ◌≤◌, List, [], ◌∷◌, get_or, Option, Some, None, Bool, true, false, ◌&&◌, ◌||◌, not, if◌then◌else◌, ◌==◌, is_some, slice_get, ◌⊎◌}
 use Rattle.rv_trace.specs.declared.row.Cell.{Cell}
 use Rattle.rv_trace.specs.declared.row.Row.{Row}
 use Rattle.rv_trace.specs.declared.row.Hold.{Hold}
@@ -14,20 +14,32 @@ use Rattle.ix_plan.specs.Units.{Slots, unit_written, frozen_with}
 use Rattle.rv_asks.specs.declared.asks.Asks.{Asks}
 use Rattle.rv_waits.specs.Waits.{wait_at}
 use Rattle.rv_trace.specs.Trace.{has_serial, is_retired, place, newest}
-use Rattle.rv_trace.specs.RowParts.{Name, name_of, names_of, stays, leaves, address_after, front, unless, serial_after, fetched, comes, MovesInto, IsOlder, ComesFirst, AreEmpty, AscendFrom}
+use Rattle.rv_trace.specs.RowParts.{Name, name_of, names_of, stays, leaves, front, unless, serial_after, fetched, comes, MovesInto, IsOlder, ComesFirst, AreEmpty, AscendFrom}
+use Rattle.rv_core.specs.Guesses.{guess_of}
+use Rattle.rv_lawful.specs.Future.{future_file}
 use Rattle.rv_lawful.specs.Settings.{Setting, accesses_before, stages_of, Stands, stood, tailed}
 use Rattle.rv_lawful.specs.Outstanding.{has_target, touches, serial_written, units_after, is_written, outstanding}
 
 -- Moves and fetch
 
--- the next fetch address where the row names none: behind the cell of stage 0 where that moves
-abbrev pub plain_fetch : Setting → ℕ → Row → ℕ
-plain_fetch k before row = address_after before (leaves row (front (stages_of k row)))
+-- the guess of the address behind what is fetched, after these rows: on a core that predicts the address to which the always-blocks jump there with the future file,
+-- if they jump, else that of the next word
+abbrev pub guess_after : Setting → List Row → Name → ℕ
+guess_after k earlier n = guess_of k.shape.predict (k.jump (future_file k earlier) n.1 n.2) n.1
+
+-- the guess behind what leaves stage 0 in the row after these, where something does
+abbrev pub guessed : Setting → List Row → ℕ → Option Name → ℕ
+guessed k earlier before None = before
+guessed k earlier before (Some n) = guess_after k earlier n
+
+-- the next fetch address where the row names none: the guess behind the cell of stage 0 where that moves
+abbrev pub plain_fetch : Setting → List Row → ℕ → Row → ℕ
+plain_fetch k earlier before row = guessed k earlier before (leaves row (front (stages_of k row)))
 
 -- the fetch address after these rows: 0 at first, then the address that the row names, or else the plain one
 unfoldable pub fetch_address : Setting → List Row → ℕ
 fetch_address k [] = 0
-fetch_address k (row ∷ earlier) = unless row.redirect (plain_fetch k (fetch_address k earlier) row)
+fetch_address k (row ∷ earlier) = unless row.redirect (plain_fetch k earlier (fetch_address k earlier) row)
 
 -- the serial of the next fetch: serials count the fetches, and the last one stands in stage 0 first
 unfoldable pub next_serial : Setting → List Row → ℕ
@@ -65,13 +77,15 @@ IsDueToStop k rows c stop = k.course.answer (place rows c.serial) ≡ Stopped st
 abbrev pub reads_of : Asks → ℕ → Bool
 reads_of a r = not (r == 0) && ((r == a.first) || (r == a.second))
 
--- Operand: at RD the cell reads x register r, and an older cell, not retired in an earlier row, has r as target
+-- Operand: at RD the cell reads x register r, and an older cell, not retired in an earlier row, has r as target; on a core that forwards the time of that write is not below
+-- the stage in which the older cell stands
 pub record WaitsForOperand (k : Setting) (earlier : List Row) (row : Row) (stage : ℕ) (c : Cell) (r j : ℕ) : Type 0 where
   pub reading : stage ≡ k.shape.rd
   pub reads : reads_of (k.asks c.word) r ≡ true
   pub older : IsOlder (row ∷ earlier) c.serial j
   pub unretired : is_retired earlier j ≡ false
   pub writes : (word : ℕ) × IsWordOf k (row ∷ earlier) j word × ((k.asks word).destination ≡ r)
+  pub withheld : k.shape.forward ≡ true → (at : ℕ) × (d : Cell) × Stands k row at d × (d.serial ≡ j) × (at ≤ (k.asks d.word).x_time)
 
 -- Custom: at EX the cell or an always-block reads or writes custom register r, and an older cell, not retired in an earlier row, writes r at a time above EX
 pub record WaitsForCustom (k : Setting) (earlier : List Row) (row : Row) (stage : ℕ) (c : Cell) (r j : ℕ) : Type 0 where
@@ -218,7 +232,7 @@ pub record Successors (k : Setting) (earlier : List Row) (row : Row) : Type 0 wh
   pub named : (stage : ℕ) (c : Cell) → IsMismatch k earlier row stage c → row.redirect ≡ Some (successor k (row ∷ earlier) c)
   -- with no younger cell the successor is named where the plain fetch address is another
   pub alone : (stage : ℕ) (c : Cell) → Stands k row stage c → Settles k earlier row stage c → HasNoYounger k row stage
-      → row.redirect ≡ (if successor k (row ∷ earlier) c == plain_fetch k (fetch_address k earlier) row then None else Some (successor k (row ∷ earlier) c))
+      → row.redirect ≡ (if successor k (row ∷ earlier) c == plain_fetch k earlier (fetch_address k earlier) row then None else Some (successor k (row ∷ earlier) c))
   -- no other cell is flushed
   pub flushed_only : (s : ℕ) → has_serial row.flushed s ≡ true
       → (stage : ℕ) × (c : Cell) × (below : ℕ) × (d : Cell) × IsMismatch k earlier row stage c × (below < stage) × Stands k row below d × (d.serial ≡ s)

@@ -9,14 +9,14 @@ use Rattle.rv_effect.specs.declared.decoded.Decoded.{Decoded}
 use Rattle.rv_effect.specs.Decoding.{decoded_in}
 use Rattle.rv_seq.specs.declared.arch.Arch.{Arch}
 use Rattle.rv_seq.specs.declared.answer.StepAnswer.{StepAnswer}
-use Rattle.rv_seq.specs.States.{state_at}
+use Rattle.rv_seq.specs.States.{first, state_at}
 use Rattle.rv_seq.specs.Steps.{word_at, own_effect}
 use Rattle.rv_seq.specs.Stops.{stop_of}
 use Rattle.rv_seq.specs.Runs.{run, answer_at, access_in}
 use Rattle.rv_asks.specs.declared.asks.Asks.{Asks}
 use Rattle.rv_asks.specs.Asks.{asks_in}
 use Rattle.rv_tried.specs.declared.trial.Trial.{Trial}
-use Rattle.rv_tried.specs.Tried.{tried, no_trial}
+use Rattle.rv_tried.specs.Tried.{tried, no_trial, blocks_seen}
 use Rattle.rv_trace.specs.declared.row.Cell.{Cell}
 use Rattle.rv_trace.specs.declared.row.Row.{Row}
 use Rattle.rv_trace.specs.declared.row.Hold.{Hold}
@@ -62,8 +62,16 @@ course_of x image =
       own = λ p. (run_trial x image p).own;
     }
 
--- what a trace is judged against: the image, the waits of the memory, the shape of the core, the run, what is asked of the instruction of a word, and the units before the
--- first row
+-- where the always-blocks jump to from this address, with this word there, these custom registers and this memory, if they jump
+abbrev pub jump_with : ExtensionTree → List Bits → List ℕ → ℕ → ℕ → Option ℕ
+jump_with x file memory at word = (blocks_seen x (record { word = word; rs1 = 0; rs2 = 0; pc = at; custom = file }) memory).pc
+
+-- the same of no memory: they know neither x registers nor memory
+abbrev pub jump_of : ExtensionTree → List Bits → ℕ → ℕ → Option ℕ
+jump_of x file at word = jump_with x file [] at word
+
+-- what a trace is judged against: the image, the waits of the memory, the shape of the core, the run, what is asked of the instruction of a word, the units and the custom
+-- registers before the first row, and where the always-blocks jump to, with these custom registers, from an address with a word
 pub record Setting : Type 0 where
   pub image : List ℕ
   pub waits : List ℕ
@@ -71,6 +79,8 @@ pub record Setting : Type 0 where
   pub course : Course
   pub asks : ℕ → Asks
   pub units : List Slots
+  pub initial : List Bits
+  pub jump : List Bits → ℕ → ℕ → Option ℕ
 
 -- an image on the core of a design whose memory has these waits
 abbrev pub setting : Design → List ℕ → List ℕ → Setting
@@ -82,6 +92,8 @@ setting d image waits =
       course = course_of (view_extension d.extension) image;
       asks = λ word. asks_in d word (decoded_in (view_extension d.extension) word);
       units = first_units d.sheet.shape.stages d.plans;
+      initial = (first (view_extension d.extension)).custom;
+      jump = jump_of (view_extension d.extension);
     }
 
 -- how many accesses the steps before this place make: the number of the access of the step there, from 0

@@ -1,6 +1,7 @@
 -- What a word comes to with what a pipeline sees, beside the step of a state: where both agree on what the instruction asks for, they come to the same, but for what is
 -- written late or read from memory (this project's choice).
-use Rattle.std.specs.Prelude.{◌≡◌, ◌≢◌, ℕ, ◌≤◌, ◌<◌, ◌^◌, List, [], get_or, slice_index, None, true, false}
+use Rattle.std.specs.Prelude.{◌≡◌, ◌≢◌, ℕ, ◌≤◌, ◌<◌, ◌^◌, List, get_or, slice_index, None, true, false}
+use Rattle.ix_bits.specs.declared.number.Bits.{Bits}
 use Rattle.ix_extension.specs.Extensions.{view_extension}
 use Rattle.ix_mean.specs.declared.evaluate.State.{State}
 use Rattle.ix_plan.specs.declared.design.Design.{Design}
@@ -19,7 +20,8 @@ use Rattle.rv_seq.specs.States.{zero_bit, state_at}
 use Rattle.rv_seq.specs.Steps.{of_decoded}
 use Rattle.rv_tried.specs.declared.trial.Trial.{Trial}
 use Rattle.rv_tried.specs.Tried.{tried}
-use Rattle.rv_lawful.specs.Settings.{does_access}
+use Rattle.rv_lawful.specs.Forwarding.{x_written}
+use Rattle.rv_lawful.specs.Settings.{does_access, jump_with, jump_of}
 use Rattle.rv_lawful.specs.Outstanding.{is_register}
 
 -- what is asked of the instruction of a word on the core of the design
@@ -63,12 +65,14 @@ abbrev pub state_tried : Design → ℕ → Arch → Trial
 state_tried d word s = tried (view_extension d.extension) (state_at word s) s.mem (decoded_in (view_extension d.extension) word)
 
 -- a word tried with what agrees with a state comes to the step of that state, whatever the memory holds, but for rd and late and spawned writes; it accesses the memory where that step
--- does, with the same load, and the always-blocks write the same
+-- does, with the same load, and the always-blocks write the same; so does the instruction's own body to its x register, where it has one and the time of that write is below MEM
 pub record ComesEarly (d : Design) (word : ℕ) (s : Arch) (i : State) (memory : List ℕ) : Type 0 where
   pub answer : IsEarly (asked d word) (tried (view_extension d.extension) i memory (decoded_in (view_extension d.extension) word)).answer (of_decoded (view_extension d.extension) s word (decoded_in (view_extension d.extension) word))
   pub accesses : (tried (view_extension d.extension) i memory (decoded_in (view_extension d.extension) word)).accesses ≡ does_access (view_extension d.extension) s word (decoded_in (view_extension d.extension) word)
   pub load : (tried (view_extension d.extension) i memory (decoded_in (view_extension d.extension) word)).load ≡ (state_tried d word s).load
   pub blocks : (tried (view_extension d.extension) i memory (decoded_in (view_extension d.extension) word)).blocks ≡ (state_tried d word s).blocks
+  pub x : (asked d word).destination ≢ 0 → (asked d word).x_time < d.sheet.shape.mem →
+      x_written (tried (view_extension d.extension) i memory (decoded_in (view_extension d.extension) word)).answer ≡ x_written (of_decoded (view_extension d.extension) s word (decoded_in (view_extension d.extension) word))
 
 abbrev pub EarlyLaw : Design → Type 0
 EarlyLaw d =
@@ -107,6 +111,16 @@ pub record SpawnsNothing (a : Asks) : Type 0 where
   pub x : a.spawned ≡ None
   pub customs : (r : ℕ) → get_or a.spawned_customs r false ≡ false
   pub unit : a.unit ≡ None
+
+-- no x register is written before EX
+abbrev pub TimeLaw : Design → Type 0
+TimeLaw d = (word : ℕ) → (asked d word).destination ≢ 0 → d.sheet.shape.ex ≤ (asked d word).x_time
+
+-- the always-blocks jump to the same address whatever the memory holds
+abbrev pub JumpLaw : Design → Type 0
+JumpLaw d =
+    (file : List Bits) (at word : ℕ) (memory : List ℕ) →
+    jump_with (view_extension d.extension) file memory at word ≡ jump_of (view_extension d.extension) file at word
 
 -- a module goes on for at most 64 cycles
 abbrev pub TailLaw : Design → Type 0

@@ -14,7 +14,7 @@ use Rattle.rv_engine.specs.Rows.{fill_first}
 use Rattle.rv_lawful.specs.Outstanding.{has_target, touches}
 use Rattle.rv_machine.specs.Owing.{IsApart, Apart}
 use Rattle.rv_machine.proofs.Deciding.{or_else_none, or_else_none_b, no_waiting}
-use Rattle.rv_machine.proofs.Reading.{Alike, alike_oldest}
+use Rattle.rv_machine.proofs.Alike.{Alike, alike_oldest}
 use Rattle.rv_machine.proofs.Unboarded.{board_parts, least_none}
 
 -- where none of these owes a register, the first does not, and none of the rest
@@ -84,6 +84,6 @@ at_stage a b x y e = by_case (a == b) (same a b e) where
 
 pub leaves_reading : (k : Setting) (owed : List Owed) (stage : ℕ) (t : Token) (older : Slots) → stage ≡ (shape_of k).rd → t.beside.board ≡ (if stage == (shape_of k).rd then board_of owed t.asks else None) → own_hold (shape_of k) stage t older ≡ None → IsApart owed older t
 leaves_reading k owed stage t older at met none =
-    let waits = or_else_none (if stage == (shape_of k).rd then reading_hold t older else None) _ (no_waiting (shape_of k) stage t older none) in
-    let reads : reading_hold t older ≡ None = sym (at_stage stage (shape_of k).rd (reading_hold t older) None at) ∙ waits in
+    let waits = or_else_none (if stage == (shape_of k).rd then reading_hold (shape_of k) stage t older else None) _ (no_waiting (shape_of k) stage t older none) in
+    let reads : reading_hold (shape_of k) stage t older ≡ None = sym (at_stage stage (shape_of k).rd (reading_hold (shape_of k) stage t older) None at) ∙ waits in
     reads_apart owed older t (met ∙ at_stage stage (shape_of k).rd (board_of owed t.asks) None at) (or_else_none_b _ (board_hold t older) reads)

@@ -12,22 +12,27 @@ use Rattle.rv_trace.specs.Trace.{retirements}
 use Rattle.rv_holds.specs.declared.token.Token.{Token}
 use Rattle.rv_holds.specs.declared.flushing.Turn.{Turn}
 use Rattle.rv_holds.specs.Tokens.{Slots}
-use Rattle.rv_holds.specs.Flushing.{next_of, settles, settled, nearest, mismatch, turn_of, struck}
+use Rattle.rv_holds.specs.Flushing.{next_of, settles, settled, nearest, mismatch, turn_of, struck, cleared}
 use Rattle.rv_engine.specs.Settings.{Setting, Machine, shape_of, tree_of, outstanding_in}
-use Rattle.rv_engine.specs.Rows.{fill_first, trying, loading, owed_by, new_by, read_by, held_by, loaded_by, turn_by, seen_by}
-use Rattle.rv_machine.specs.Placed.{run, count, tail, settling_stage, expected_after, expected, owed_write, paid_late, IsFuture, Placed, IsReady, Inv, paid_file}
+use Rattle.rv_engine.specs.Rows.{fill_first, guess_first, filled_by, trying, loading, owed_by, new_by, read_by, held_by, loaded_by, turn_by, seen_by}
+use Rattle.rv_machine.specs.Placed.{run, count, tail, settling_stage, expected_after, expected, owed_write, paid_late, IsFuture, IsPlacedSlot, Placed, IsReady, Inv, paid_file}
 use Rattle.rv_machine.specs.Told.{Decided, NoStops}
 use Rattle.rv_machine.proofs.Deciding.{decided_is}
 use Rattle.rv_machine.proofs.Moving.{fill_length}
-use Rattle.rv_machine.proofs.Filling.{fill_placed}
-use Rattle.rv_machine.proofs.Reading.{AlikeSlot, Alike, IsAlike, alike_length, alike_count, reading_alike, trying_alike, decided_alike, loading_alike, Read, AreUnowed, reading_placed, reading_read, trying_read, decided_read, loading_read, cleared_read, all_decided}
+use Rattle.rv_machine.proofs.Filling.{fill_placed, guess_placed, FirstGuess}
+use Rattle.rv_machine.proofs.Alike.{AlikeSlot, Alike, IsAlike, alike_length, alike_count, same_first, guesses, guesses_drop, guess_alike, reading_alike, reading_guesses, trying_alike, trying_guesses, decided_alike, decided_guesses, loading_alike, loading_guesses}
+use Rattle.rv_machine.proofs.Reading.{Read, AreUnowed, reading_placed, reading_read, trying_read, decided_read, loading_read, cleared_read, all_decided}
 use Rattle.rv_machine.proofs.Trying.{at_ex, trying_placed, Boards}
 use Rattle.rv_machine.proofs.Loading.{Loaded, loading_decided, loading_placed, loading_loaded}
 use Rattle.rv_machine.proofs.Ripe.{Ripe, trying_ripe, decided_ripe, loading_ripe, cleared_ripe}
 use Rattle.rv_machine.proofs.Clearing.{cleared_drop, cleared_length, cleared_placed, cleared_decided, cleared_loaded}
 use Rattle.rv_machine.proofs.Going.{AreSeen}
 use Rattle.rv_machine.proofs.Unboarded.{operand_unowed}
+use Rattle.rv_core.specs.Guesses.{guess_of}
+use Rattle.rv_lawful.specs.LawfulTrace.{guess_after}
 use Rattle.rv_lawful.specs.Outstanding.{outstanding}
+use Rattle.rv_lawful.specs.Settings.{jump_of}
+use Rattle.ix_plan.specs.declared.design.Design.{Design}
 use Rattle.rv_machine.specs.Owing.{judged, Apart}
 use Rattle.rv_machine.proofs.Repaid.{repaid_memory}
 use Rattle.rv_engine.specs.Owing.{Outstanding}
@@ -87,22 +92,53 @@ pub alike_future : (k : Setting) (r : ℕ) (future : List Bits) (a b : Slots) �
 alike_future k r future a b h file reg lt =
     alike_paid k r reg a b (get_or future reg zero_bit) h ∙ file reg lt ∙ ap (λ n. get_or (run k (r + n)).custom reg zero_bit) (sym (alike_count a b h))
 
+drop_guessed : (d : Design) (future : List Bits) (memory : List ℕ) (n : ℕ) (l : Slots) → drop (suc n) (guess_first d future memory l) ≡ drop (suc n) l
+drop_guessed d future memory n [] = refl
+drop_guessed d future memory n (s ∷ l) = refl
+
+alike_back : (a b : Slots) → Alike a b → Alike b a
+alike_back [] [] h = tt
+alike_back [] (u ∷ b) h = absurd h
+alike_back (s ∷ a) [] h = absurd h
+alike_back (None ∷ a) (None ∷ b) h = (tt, alike_back a b h.1)
+alike_back (None ∷ a) (Some u ∷ b) h = absurd h.0
+alike_back (Some t ∷ a) (None ∷ b) h = absurd h.0
+alike_back (Some t ∷ a) (Some u ∷ b) h = (record { serial = sym h.0.serial; at = sym h.0.at; word = sym h.0.word; asks = sym h.0.asks; tail = sym h.0.tail }, alike_back a b h.1)
+
+-- the guess of the first, in slots that are alike
+guess_over : (k : Setting) (earlier : List Row) (a b : Slots) → Alike a b → guesses b ≡ guesses a → FirstGuess k earlier a → FirstGuess k earlier b
+guess_over k earlier [] [] h g e = tt
+guess_over k earlier [] (u ∷ b) h g e = absurd h
+guess_over k earlier (s ∷ a) [] h g e = absurd h
+guess_over k earlier (None ∷ a) (None ∷ b) h g e = tt
+guess_over k earlier (None ∷ a) (Some u ∷ b) h g e = absurd h.0
+guess_over k earlier (Some t ∷ a) (None ∷ b) h g e = absurd h.0
+guess_over k earlier (Some t ∷ a) (Some u ∷ b) h g e =
+    same_first u.guess t.guess (guesses b) (guesses a) g
+    ∙ e
+    ∙ sym (ap (λ at. guess_after (judged k) earlier (u.cell.serial, at, u.cell.word)) h.0.at ∙ ap (λ word. guess_after (judged k) earlier (u.cell.serial, t.cell.at, word)) h.0.word)
+
+-- and where some are flushed
+cleared_guess : (k : Setting) (earlier : List Row) (n : ℕ) (l : Slots) → FirstGuess k earlier l → FirstGuess k earlier (cleared n l)
+cleared_guess k earlier zero l h = h
+cleared_guess k earlier (suc n) l h = tt
+
 drop_filled : (n : ℕ) (new : Option Token) (l : Slots) → drop (suc n) (fill_first new l) ≡ drop (suc n) l
 drop_filled n new [] = refl
 drop_filled n new (s ∷ l) = refl
 
 -- ---- addresses are words
 
-pub expected_word : (k : Setting) (ready : IsReady k) (r stage : ℕ) (slots : Slots) → expected k r stage slots < 2 ^ 32
-expected_word k ready r stage [] = ready.pcs r
-expected_word k ready r stage (s ∷ older) = by_slot s (expected_word k ready r (suc stage) older) where
+pub expected_word : (k : Setting) (ready : IsReady k) (r stage : ℕ) (slots : Slots) → Placed k r stage slots → expected k r stage slots < 2 ^ 32
+expected_word k ready r stage [] h = ready.pcs r
+expected_word k ready r stage (s ∷ older) h = by_slot s h.0 (expected_word k ready r (suc stage) older h.1) where
   by_test : (b : Bool) (m n : ℕ) → m < 2 ^ 32 → n < 2 ^ 32 → (if b then m else n) < 2 ^ 32
   by_test true m n g h = g
   by_test false m n g h = h
 
-  by_slot : (s : Option Token) → expected k r (suc stage) older < 2 ^ 32 → expected_after k (r + count older) stage s (expected k r (suc stage) older) < 2 ^ 32
-  by_slot None h = h
-  by_slot (Some t) h = by_test (nat_lt (settling_stage k t) stage) (run k (suc (r + count older))).pc ((t.cell.at + 4) % 2 ^ 32) (ready.pcs (suc (r + count older))) (omega arith)
+  by_slot : (s : Option Token) → IsPlacedSlot k (r + count older) (expected k r (suc stage) older) stage older s → expected k r (suc stage) older < 2 ^ 32 → expected_after k (r + count older) stage s (expected k r (suc stage) older) < 2 ^ 32
+  by_slot None g h = h
+  by_slot (Some t) g h = by_test (nat_lt (settling_stage k t) stage) (run k (suc (r + count older))).pc t.guess (ready.pcs (suc (r + count older))) g.guess
 
 -- ---- the token that settles its successor
 
@@ -192,44 +228,56 @@ module _ (k : Setting) (ready : IsReady k) (earlier : List Row) (m : Machine) (i
   abbrev r : ℕ
   r = retirements earlier
 
+  -- the slots after the fetch
   abbrev filled : Slots
   filled = fill_first (new_by k m) m.slots
 
   abbrev tried_slots : Slots
   tried_slots = trying (tree_of k) (shape_of k) m.future m.arch.mem 0 (read_by k m)
 
-  fetch_word : m.fetch < 2 ^ 32
-  fetch_word = subst (λ n. n < 2 ^ 32) (sym inv.fetch) (expected_word k ready r 1 (tail m.slots))
+  placed_tail : (l : Slots) → Placed k r 0 l → Placed k r 1 (tail l)
+  placed_tail [] h = tt
+  placed_tail (s ∷ l) h = h.1
 
-  pub filled_placed : Placed k r 0 filled
-  filled_placed = fill_placed k ready r m.next m.fetch m.future m.slots (word_at k.image m.fetch) inv.placed inv.fetch fetch_word refl inv.future_wide
+  fetch_word : m.fetch < 2 ^ 32
+  fetch_word = subst (λ n. n < 2 ^ 32) (sym inv.fetch) (expected_word k ready r 1 (tail m.slots) (placed_tail m.slots inv.placed))
+
+  pub filled_placed : Placed k r 0 (filled_by k m)
+  filled_placed =
+      guess_placed k ready r m.future m.arch.mem filled
+      (fill_placed k ready r m.next m.fetch m.future m.slots (word_at k.image m.fetch) inv.placed inv.fetch fetch_word refl inv.future_wide)
+
+  -- the guess behind the first is another one
+  filled_alike : Alike filled (filled_by k m)
+  filled_alike = guess_alike k.design m.future m.arch.mem filled
 
   mem_is : m.arch.mem ≡ (run k r).mem
   mem_is = sym (repaid_memory m.owed m.arch) ∙ ap (λ (s : Arch). s.mem) inv.arch
 
   read_placed : Placed k r 0 (read_by k m)
-  read_placed = reading_placed k ready m.arch.x (owed_by k m) (outstanding_in k m) r 0 filled inv.ranged filled_placed
+  read_placed = reading_placed k ready m.arch.x (owed_by k m) (outstanding_in k m) r 0 (filled_by k m) inv.ranged filled_placed
 
   -- what nothing that is outstanding owes is the run's
   are_unowed : AreUnowed m.arch.x (run k r).x (outstanding_in k m)
   are_unowed a reg lt none is =
       operand_unowed k earlier (outstanding (judged k) earlier) m.entries m.owed m.arch a reg inv.owing lt none is ∙ ap (λ (s : Arch). slice_index s.x reg) inv.arch
 
-  read_read : Read k (run k r).x 0 (read_by k m)
-  read_read = reading_read k m.arch.x (run k r).x (owed_by k m) (outstanding_in k m) 0 filled are_unowed
+  read_read : Read k r 0 (read_by k m)
+  read_read = reading_read k ready m.arch.x (owed_by k m) (outstanding_in k m) r 0 (filled_by k m) filled_placed are_unowed
+
+  read_alike : Alike filled (read_by k m)
+  read_alike = alike_trans filled (filled_by k m) (read_by k m) filled_alike (reading_alike (shape_of k) m.arch.x (owed_by k m) (outstanding_in k m) 0 (filled_by k m))
 
   -- past stage 0 the slots are those from before the row
   read_from : (n : ℕ) → Alike (drop (suc n) m.slots) (drop (suc n) (read_by k m))
-  read_from n =
-      subst (λ l. Alike l (drop (suc n) (read_by k m))) (drop_filled n (new_by k m) m.slots)
-      (alike_drop (suc n) filled (read_by k m) (reading_alike (shape_of k) m.arch.x (owed_by k m) (outstanding_in k m) 0 filled))
+  read_from n = subst (λ l. Alike l (drop (suc n) (read_by k m))) (drop_filled n (new_by k m) m.slots) (alike_drop (suc n) filled (read_by k m) read_alike)
 
   future_there : IsFuture k r (paid_file m.owed m.future) (drop (suc (shape_of k).ex) (read_by k m))
   future_there = alike_future k r (paid_file m.owed m.future) (drop (suc (shape_of k).ex) m.slots) (drop (suc (shape_of k).ex) (read_by k m)) (read_from (shape_of k).ex) inv.future
 
   read_apart : Apart k m.owed 0 (read_by k m)
   read_apart =
-      alike_apart k m.owed 0 filled (read_by k m) (reading_alike (shape_of k) m.arch.x (owed_by k m) (outstanding_in k m) 0 filled)
+      alike_apart k m.owed 0 filled (read_by k m) read_alike
       (filled_apart k m.owed (new_by k m) m.slots ready.rd_pos inv.apart)
 
   tried_placed : Placed k r 0 tried_slots
@@ -237,7 +285,7 @@ module _ (k : Setting) (ready : IsReady k) (earlier : List Row) (m : Machine) (i
       trying_placed k ready r 0 (read_by k m) m.arch.mem m.future (paid_file m.owed m.future) m.owed
       (unowed_file k earlier (outstanding (judged k) earlier) m.entries m.owed m.future inv.owing) inv.future_wide read_placed read_read
       (at_ex k r (paid_file m.owed m.future) 0 (shape_of k).ex (read_by k m) (omega arith) future_there)
-      read_apart (boards_of k (outstanding_in k m) 0 (read_by k m) (reading_meets (shape_of k) m.arch.x (owed_by k m) (outstanding_in k m) 0 filled))
+      read_apart (boards_of k (outstanding_in k m) 0 (read_by k m) (reading_meets (shape_of k) m.arch.x (owed_by k m) (outstanding_in k m) 0 (filled_by k m)))
 
   pub held_placed : Placed k r 0 (held_by k m)
   held_placed = all_decided k r 0 tried_slots tried_placed
@@ -257,10 +305,10 @@ module _ (k : Setting) (ready : IsReady k) (earlier : List Row) (m : Machine) (i
   pub loaded_decided : Decided k 0 (loaded_by k m)
   loaded_decided = loading_decided k ready (tree_of k) m.arch.mem 0 (held_by k m) held_decided
 
-  pub loaded_read : Read k (run k r).x 0 (loaded_by k m)
+  pub loaded_read : Read k r 0 (loaded_by k m)
   loaded_read =
-      loading_read k (tree_of k) (run k r).x m.arch.mem 0 (held_by k m)
-      (decided_read k (run k r).x 0 tried_slots (trying_read k (tree_of k) (run k r).x m.arch.mem m.future 0 (read_by k m) read_read))
+      loading_read k (tree_of k) m.arch.mem r 0 (held_by k m)
+      (decided_read k r 0 tried_slots (trying_read k (tree_of k) m.arch.mem m.future r 0 (read_by k m) read_read))
 
   pub loaded_ripe : Ripe k 0 (loaded_by k m)
   loaded_ripe = loading_ripe k (tree_of k) m.arch.mem 0 (held_by k m) (decided_ripe k 0 tried_slots (trying_ripe k (tree_of k) m.future m.arch.mem 0 (read_by k m)))
@@ -268,9 +316,34 @@ module _ (k : Setting) (ready : IsReady k) (earlier : List Row) (m : Machine) (i
   -- the slots are alike from the fetch to the loads
   pub loaded_alike : Alike filled (loaded_by k m)
   loaded_alike =
-      alike_trans filled (read_by k m) (loaded_by k m) (reading_alike (shape_of k) m.arch.x (owed_by k m) (outstanding_in k m) 0 filled)
+      alike_trans filled (read_by k m) (loaded_by k m) read_alike
       (alike_trans (read_by k m) tried_slots (loaded_by k m) (trying_alike (tree_of k) (shape_of k) m.future m.arch.mem 0 (read_by k m))
       (alike_trans tried_slots (held_by k m) (loaded_by k m) (decided_alike (shape_of k) 0 tried_slots) (loading_alike (tree_of k) (shape_of k) m.arch.mem 0 (held_by k m))))
+
+  -- with the guesses from there
+  loaded_guesses : guesses (loaded_by k m) ≡ guesses (filled_by k m)
+  loaded_guesses =
+      loading_guesses (tree_of k) (shape_of k) m.arch.mem 0 (held_by k m)
+      ∙ decided_guesses (shape_of k) 0 tried_slots
+      ∙ trying_guesses (tree_of k) (shape_of k) m.future m.arch.mem 0 (read_by k m)
+      ∙ reading_guesses (shape_of k) m.arch.x (owed_by k m) (outstanding_in k m) 0 (filled_by k m)
+
+  -- past stage 0 they are those from before the row
+  pub guesses_from : (n : ℕ) → guesses (drop (suc n) (loaded_by k m)) ≡ guesses (drop (suc n) m.slots)
+  guesses_from n =
+      guesses_drop (suc n) (loaded_by k m) (filled_by k m) loaded_guesses
+      ∙ ap guesses (drop_guessed k.design m.future m.arch.mem n filled ∙ drop_filled n (new_by k m) m.slots)
+
+  -- the first has the guess that the rows tell
+  pub loaded_first : FirstGuess k earlier (loaded_by k m)
+  loaded_first = guess_over k earlier (filled_by k m) (loaded_by k m) (alike_trans (filled_by k m) filled (loaded_by k m) (alike_back filled (filled_by k m) filled_alike) loaded_alike) loaded_guesses (filled_first filled filled_placed) where
+    filled_first : (l : Slots) → Placed k r 0 (guess_first k.design m.future m.arch.mem l) → FirstGuess k earlier (guess_first k.design m.future m.arch.mem l)
+    filled_first [] h = tt
+    filled_first (None ∷ older) h = tt
+    filled_first (Some t ∷ older) h =
+        ap (λ o. guess_of (shape_of k).predict o t.cell.at)
+        (ready.jumps m.future t.cell.at t.cell.word m.arch.mem
+        ∙ ap (λ f. jump_of (tree_of k) f t.cell.at t.cell.word) (sym inv.file))
 
   pub loaded_from : (n : ℕ) → Alike (drop (suc n) m.slots) (drop (suc n) (loaded_by k m))
   loaded_from n =
@@ -288,8 +361,8 @@ module _ (k : Setting) (ready : IsReady k) (earlier : List Row) (m : Machine) (i
   pub seen_decided : Decided k 0 (seen_by k m)
   seen_decided = cleared_decided k 0 (struck (turn_by k m)) (loaded_by k m) struck_inside loaded_decided
 
-  pub seen_read : Read k (run k r).x 0 (seen_by k m)
-  seen_read = cleared_read k (run k r).x 0 (struck (turn_by k m)) (loaded_by k m) struck_inside loaded_read
+  pub seen_read : Read k r 0 (seen_by k m)
+  seen_read = cleared_read k r 0 (struck (turn_by k m)) (loaded_by k m) struck_inside loaded_read
 
   pub seen_loaded : Loaded k r 0 (seen_by k m)
   seen_loaded = cleared_loaded k r 0 (struck (turn_by k m)) (loaded_by k m) struck_inside loaded_loaded
@@ -300,12 +373,15 @@ module _ (k : Setting) (ready : IsReady k) (earlier : List Row) (m : Machine) (i
   pub seen_length : length (seen_by k m) ≡ (shape_of k).stages
   seen_length = cleared_length (struck (turn_by k m)) (loaded_by k m) struck_inside ∙ loaded_length
 
+  pub seen_first : FirstGuess k earlier (seen_by k m)
+  seen_first = cleared_guess k earlier (struck (turn_by k m)) (loaded_by k m) loaded_first
+
   -- what is known of the slots, where none stops the run
   pub seen_all : NoStops k 0 (seen_by k m) → AreSeen k r 0 (seen_by k m)
   seen_all n =
       record {
         placed = seen_placed;
-        read = cleared_read k (run k r).x 0 (struck (turn_by k m)) (loaded_by k m) struck_inside loaded_read;
+        read = cleared_read k r 0 (struck (turn_by k m)) (loaded_by k m) struck_inside loaded_read;
         decided = seen_decided;
         stops = n;
         loaded = cleared_loaded k r 0 (struck (turn_by k m)) (loaded_by k m) struck_inside loaded_loaded;

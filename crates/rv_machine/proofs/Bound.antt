@@ -7,7 +7,7 @@ use Rattle.rv_trace.specs.declared.row.Hold.TheVariants.{Wait, Tail, Behind}
 use Rattle.rv_asks.specs.declared.asks.Asks.{Asks}
 use Rattle.rv_holds.specs.declared.token.Token.{Token}
 use Rattle.rv_holds.specs.Tokens.{Slots, or_else, stop_of}
-use Rattle.rv_holds.specs.Holds.{oldest, does_write, writes_late, does_store, is_late, waits_for, operand_hold, waits_for_custom, first_from, custom_hold, late_hold, waiting_hold, staying, drain_hold, store_hold, memory_hold, tail_hold, own_hold, stops_now, is_blocked, shown, decided, entering, drain, least_from, board_hold, reading_hold, ending_hold, numbered, board, lower_of, spawner, register_count, register_at, spawns_at}
+use Rattle.rv_holds.specs.Holds.{oldest, withholder, writes_late, does_store, is_late, waits_for, operand_hold, waits_for_custom, first_from, custom_hold, late_hold, waiting_hold, staying, drain_hold, store_hold, memory_hold, tail_hold, own_hold, stops_now, is_blocked, shown, decided, entering, drain, least_from, board_hold, reading_hold, ending_hold, numbered, board, lower_of, spawner, register_count, register_at, spawns_at}
 use Rattle.rv_holds.specs.Flushing.{remains, fetch_after}
 use Rattle.rv_engine.specs.Settings.{Setting, shape_of}
 use Rattle.rv_engine.specs.Rows.{fill_first, tail_after, waited, going, kept, advanced, leaving}
@@ -58,11 +58,16 @@ if_same : (b : Bool) → ◌≡◌ {A = Option Hold} (if b then None else None) 
 if_same true = refl
 if_same false = refl
 
-no_waits : (r : ℕ) (older : Slots) → count older ≡ 0 → waits_for r older ≡ None
-no_waits r older e = rw (empty_oldest (does_write r) older e) (if_same (r == 0))
+empty_withholder : (k : Shape) (r stage : ℕ) (older : Slots) → count older ≡ 0 → withholder k r stage older ≡ None
+empty_withholder k r stage [] e = refl
+empty_withholder k r stage (None ∷ older) e = empty_withholder k r (suc stage) older e
+empty_withholder k r stage (Some t ∷ older) e = absurd (omega (arith, e))
 
-empty_operand : (older : Slots) (a : Asks) → count older ≡ 0 → operand_hold older a ≡ None
-empty_operand older a e = rw (no_waits (min a.first a.second) older e, no_waits (max a.first a.second) older e)
+no_waits : (k : Shape) (r stage : ℕ) (older : Slots) → count older ≡ 0 → waits_for k r stage older ≡ None
+no_waits k r stage older e = rw (empty_withholder k r stage older e) (if_same (r == 0))
+
+empty_operand : (k : Shape) (stage : ℕ) (older : Slots) (a : Asks) → count older ≡ 0 → operand_hold k stage older a ≡ None
+empty_operand k stage older a e = rw (no_waits k (min a.first a.second) stage older e, no_waits k (max a.first a.second) stage older e)
 
 no_custom : (older : Slots) (a : Asks) (r : ℕ) → count older ≡ 0 → waits_for_custom older a r ≡ None
 no_custom older a r e = rw (empty_oldest (writes_late r) older e) (if_same (get_or a.customs r false))
@@ -106,8 +111,8 @@ empty_board t older al e =
     ap (λ b. board (lower_of b.board (least_from (spawner older t.asks) 0 register_count))) al
     ∙ ap board (no_least (spawner older t.asks) 0 register_count (λ n. ap (λ (o : Option ℕ). if touches t.asks (register_at n) then o else None) (empty_oldest (spawns_at n) older e) ∙ no_number (touches t.asks (register_at n))))
 
-empty_reading : (t : Token) (older : Slots) → t.beside ≡ alone → count older ≡ 0 → reading_hold t older ≡ None
-empty_reading t older al e = ap (λ o. or_else o (board_hold t older)) (empty_operand older t.asks e) ∙ empty_board t older al e
+empty_reading : (k : Shape) (stage : ℕ) (t : Token) (older : Slots) → t.beside ≡ alone → count older ≡ 0 → reading_hold k stage t older ≡ None
+empty_reading k stage t older al e = ap (λ o. or_else o (board_hold t older)) (empty_operand k (suc stage) older t.asks e) ∙ empty_board t older al e
 
 pub lone_ending : (t : Token) → t.beside ≡ alone → ending_hold t ≡ tail_hold t
 lone_ending t al = ap (λ b. or_else (tail_hold t) b.port) al ∙ right (tail_hold t) where
@@ -117,7 +122,7 @@ lone_ending t al = ap (λ b. or_else (tail_hold t) b.port) al ∙ right (tail_ho
 
 empty_waiting : (k : Shape) (stage : ℕ) (t : Token) (older : Slots) → t.beside ≡ alone → count older ≡ 0 → waiting_hold k stage t older ≡ None
 empty_waiting k stage t older al e =
-    ap (λ o. or_else (if stage == k.rd then o else None) (if stage == k.ex then or_else (custom_hold older t.asks) (late_hold older) else None)) (empty_reading t older al e)
+    ap (λ o. or_else (if stage == k.rd then o else None) (if stage == k.ex then or_else (custom_hold older t.asks) (late_hold older) else None)) (empty_reading k stage t older al e)
     ∙ ap (λ o. or_else (if stage == k.rd then None else None) (if stage == k.ex then or_else o (late_hold older) else None)) (empty_custom older t.asks e)
     ∙ ap (λ o. or_else (if stage == k.rd then None else None) (if stage == k.ex then o else None)) (empty_late older e)
     ∙ both (stage == k.rd) (stage == k.ex) where

@@ -5,7 +5,7 @@ use Rattle.std.proofs.lemmas.Bool.Decides.{nat_tests}
 use Rattle.rv_trace.specs.declared.row.Cell.{Cell}
 use Rattle.rv_trace.specs.declared.row.Row.{Row}
 use Rattle.rv_trace.specs.Trace.{has_cell, retirements}
-use Rattle.rv_trace.specs.RowParts.{front, unless, leaves, address_after, serial_after}
+use Rattle.rv_trace.specs.RowParts.{front, unless, leaves, serial_after}
 use Rattle.rv_holds.specs.declared.token.Token.{Token}
 use Rattle.rv_holds.specs.declared.flushing.Turn.{Turn}
 use Rattle.rv_holds.specs.Tokens.{Slots, makes_access, cell_of, cells_of}
@@ -14,7 +14,7 @@ use Rattle.rv_engine.specs.Settings.{Setting, Machine, shape_of}
 use Rattle.rv_engine.specs.Rows.{unless as unless_of, waited, going, kept, advanced, first_slot, next_after, new_by, loaded_by, turn_by, seen_by, fetch_by, memory_by, accesses_after, stood_after, IsRowOf}
 use Rattle.rv_lawful.specs.Settings as Lawful
 use Rattle.rv_lawful.specs.Settings.{Course}
-use Rattle.rv_lawful.specs.LawfulTrace.{plain_fetch, fetch_address, next_serial}
+use Rattle.rv_lawful.specs.LawfulTrace.{guessed, plain_fetch, fetch_address, next_serial}
 use Rattle.rv_machine.specs.Owing.{judged}
 use Rattle.rv_machine.specs.Placed.{one_more, count, expected, IsReady, Inv}
 use Rattle.rv_machine.specs.Told.{NoStops}
@@ -22,7 +22,7 @@ use Rattle.rv_machine.proofs.Deciding.{decided_tail, no_stops_tail}
 use Rattle.rv_machine.proofs.Places.{token_order}
 use Rattle.rv_machine.proofs.Standing.{here_of, drop_more}
 use Rattle.rv_machine.proofs.Filling.{front_cells, fetch_told}
-use Rattle.rv_machine.proofs.Reading.{alike_count}
+use Rattle.rv_machine.proofs.Alike.{alike_count}
 use Rattle.rv_machine.proofs.Going.{AreSeen, free_ahead}
 use Rattle.rv_machine.proofs.Moves.{count_advanced}
 use Rattle.rv_machine.proofs.Clearing.{unheld_first}
@@ -63,22 +63,22 @@ module _ (k : Setting) (ready : IsReady k) (earlier : List Row) (m : Machine) (r
 
   -- ---- the fetch address
 
-  plain_now : turn_by k m ≡ None → fetch_after m.fetch (seen_by k m) ≡ plain_fetch (judged k) (fetch_address (judged k) earlier) row
+  plain_now : turn_by k m ≡ None → fetch_after m.fetch (seen_by k m) ≡ plain_fetch (judged k) earlier (fetch_address (judged k) earlier) row
   plain_now e =
-      fetch_told row m.fetch (seen_by k m) (N.seen_kept k ready earlier m row inv is)
-      ∙ ap (λ l. address_after m.fetch (leaves row (front l))) (sym (is.cells ∙ ap (λ o. cells_of (unheld (struck o) (loaded_by k m))) e ∙ sym (ap (λ o. cells_of (cleared (struck o) (loaded_by k m))) e)))
-      ∙ ap (λ n. address_after n (leaves row (front (Lawful.stages_of (judged k) row)))) inv.fetch_is
+      fetch_told k earlier row m.fetch (seen_by k m) (N.seen_kept k ready earlier m row inv is) (B.seen_first k ready earlier m inv)
+      ∙ ap (λ l. guessed (judged k) earlier m.fetch (leaves row (front l))) (sym (is.cells ∙ ap (λ o. cells_of (unheld (struck o) (loaded_by k m))) e ∙ sym (ap (λ o. cells_of (cleared (struck o) (loaded_by k m))) e)))
+      ∙ ap (λ n. guessed (judged k) earlier n (leaves row (front (Lawful.stages_of (judged k) row)))) inv.fetch_is
 
   pub fetch_now : fetch_by k m ≡ fetch_address (judged k) (row ∷ earlier)
   unfolding fetch_address
-  fetch_now = by_turn (turn_by k m) refl ∙ ap (λ o. unless o (plain_fetch (judged k) (fetch_address (judged k) earlier) row)) (sym is.redirect) where
-    by_turn : (o : Option Turn) → turn_by k m ≡ o → fetch_by k m ≡ unless (redirect_of (turn_by k m)) (plain_fetch (judged k) (fetch_address (judged k) earlier) row)
+  fetch_now = by_turn (turn_by k m) refl ∙ ap (λ o. unless o (plain_fetch (judged k) earlier (fetch_address (judged k) earlier) row)) (sym is.redirect) where
+    by_turn : (o : Option Turn) → turn_by k m ≡ o → fetch_by k m ≡ unless (redirect_of (turn_by k m)) (plain_fetch (judged k) earlier (fetch_address (judged k) earlier) row)
     by_turn None e =
         ap (λ o. unless_of (redirect_of o) (fetch_after m.fetch (seen_by k m))) e ∙ plain_now e
-        ∙ ap (λ o. unless (redirect_of o) (plain_fetch (judged k) (fetch_address (judged k) earlier) row)) (sym e)
+        ∙ ap (λ o. unless (redirect_of o) (plain_fetch (judged k) earlier (fetch_address (judged k) earlier) row)) (sym e)
     by_turn (Some turn) e =
         ap (λ o. unless_of (redirect_of o) (fetch_after m.fetch (seen_by k m))) e
-        ∙ ap (λ o. unless (redirect_of o) (plain_fetch (judged k) (fetch_address (judged k) earlier) row)) (sym e)
+        ∙ ap (λ o. unless (redirect_of o) (plain_fetch (judged k) earlier (fetch_address (judged k) earlier) row)) (sym e)
 
   -- ---- accesses
 

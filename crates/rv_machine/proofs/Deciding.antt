@@ -95,7 +95,7 @@ decided_expected k r stage (None ∷ older) = decided_expected k r (suc stage) o
 decided_expected k r stage (Some t ∷ older) = rw (decided_count (shape_of k) (suc stage) older)
 
 held_tried : (k : Setting) (p : ℕ) (h : Option Hold) (t : Token) (trial : Trial) → IsTried k p t trial → IsTried k p (held h t) trial
-held_tried k p h t trial i = record { tried = i.tried; early = i.early; accesses = i.accesses; load = i.load; blocks = i.blocks }
+held_tried k p h t trial i = record { tried = i.tried; early = i.early; accesses = i.accesses; load = i.load; blocks = i.blocks; x = i.x }
 
 -- a token with a hold stands where it stood, before older ones of which the same write late
 pub held_placed : (k : Setting) (p address stage : ℕ) (older later : Slots) (h : Option Hold) (t : Token) → oldest is_late later ≡ oldest is_late older → ((r : ℕ) → oldest (writes_late r) later ≡ oldest (writes_late r) older) → IsPlaced k p address stage older t → IsPlaced k p address stage later (held h t)
@@ -109,6 +109,7 @@ held_placed k p address stage older later h t same each i =
       input_pc = i.input_pc;
       words = i.words;
       wide = i.wide;
+      guess = i.guess;
       first = i.first;
       second = i.second;
       untried = i.untried;
@@ -152,7 +153,7 @@ pub expected_run : (k : Setting) (r stage : ℕ) (slots : Slots) → (shape_of k
 expected_run k r stage [] h late = rw add-zero
 expected_run k r stage (None ∷ older) h late = let h' : (shape_of k).ex < suc stage = omega arith in expected_run k r (suc stage) older h' late
 expected_run k r stage (Some t ∷ older) h late =
-    known_past (shape_of k).ex ((shape_of k).stages - 1) stage (is_late t) (run k (suc (r + count older))).pc ((t.cell.at + 4) % 2 ^ 32) h (late_here older is_late t late)
+    known_past (shape_of k).ex ((shape_of k).stages - 1) stage (is_late t) (run k (suc (r + count older))).pc t.guess h (late_here older is_late t late)
     ∙ ap (λ n. (run k n).pc) (sym (add-suc r (count older)))
 
 -- from EX on a token stands at the run's pc, and its word is there
@@ -195,19 +196,19 @@ not_due k stage t older h n e = by_case (stage == k.ex) (is_some (stop_of t)) (i
 pub no_waiting : (k : Shape) (stage : ℕ) (t : Token) (older : Slots) → own_hold k stage t older ≡ None → waiting_hold k stage t older ≡ None
 no_waiting k stage t older h = or_else_none (waiting_hold k stage t older) _ h
 
-waits_reading : (k : Shape) (stage : ℕ) (t : Token) (older : Slots) → waiting_hold k stage t older ≡ None → stage ≡ k.rd → reading_hold t older ≡ None
-waits_reading k stage t older h e = if_then (stage == k.rd) (reading_hold t older) (same_test stage k.rd e) (or_else_none (if stage == k.rd then reading_hold t older else None) _ h)
+waits_reading : (k : Shape) (stage : ℕ) (t : Token) (older : Slots) → waiting_hold k stage t older ≡ None → stage ≡ k.rd → reading_hold k stage t older ≡ None
+waits_reading k stage t older h e = if_then (stage == k.rd) (reading_hold k stage t older) (same_test stage k.rd e) (or_else_none (if stage == k.rd then reading_hold k stage t older else None) _ h)
 
-pub waits_operand : (k : Shape) (stage : ℕ) (t : Token) (older : Slots) → waiting_hold k stage t older ≡ None → stage ≡ k.rd → operand_hold older t.asks ≡ None
-waits_operand k stage t older h e = or_else_none (operand_hold older t.asks) (board_hold t older) (waits_reading k stage t older h e)
+pub waits_operand : (k : Shape) (stage : ℕ) (t : Token) (older : Slots) → waiting_hold k stage t older ≡ None → stage ≡ k.rd → operand_hold k (suc stage) older t.asks ≡ None
+waits_operand k stage t older h e = or_else_none (operand_hold k (suc stage) older t.asks) (board_hold t older) (waits_reading k stage t older h e)
 
 pub waits_board : (k : Shape) (stage : ℕ) (t : Token) (older : Slots) → waiting_hold k stage t older ≡ None → stage ≡ k.rd → board_hold t older ≡ None
-waits_board k stage t older h e = or_else_none_b (operand_hold older t.asks) (board_hold t older) (waits_reading k stage t older h e)
+waits_board k stage t older h e = or_else_none_b (operand_hold k (suc stage) older t.asks) (board_hold t older) (waits_reading k stage t older h e)
 
 pub waits_ex : (k : Shape) (stage : ℕ) (t : Token) (older : Slots) → waiting_hold k stage t older ≡ None → stage ≡ k.ex → or_else (custom_hold older t.asks) (late_hold older) ≡ None
 waits_ex k stage t older h e =
     if_then (stage == k.ex) (or_else (custom_hold older t.asks) (late_hold older)) (same_test stage k.ex e)
-    (or_else_none_b (if stage == k.rd then reading_hold t older else None) (if stage == k.ex then or_else (custom_hold older t.asks) (late_hold older) else None) h)
+    (or_else_none_b (if stage == k.rd then reading_hold k stage t older else None) (if stage == k.ex then or_else (custom_hold older t.asks) (late_hold older) else None) h)
 
 pub waits_custom : (k : Shape) (stage : ℕ) (t : Token) (older : Slots) → waiting_hold k stage t older ≡ None → stage ≡ k.ex → custom_hold older t.asks ≡ None
 waits_custom k stage t older h e = or_else_none (custom_hold older t.asks) (late_hold older) (waits_ex k stage t older h e)

@@ -16,7 +16,7 @@ use Rattle.rv_machine.specs.Owing.{judged}
 use Rattle.rv_machine.specs.Placed.{one_more, tail, expected, whole_rank, greatest_rank, IsReady, Inv}
 use Rattle.rv_machine.specs.Made.{Made}
 use Rattle.rv_machine.proofs.Bound.{tails_of}
-use Rattle.rv_machine.proofs.Reading.{Alike}
+use Rattle.rv_machine.proofs.Alike.{Alike}
 use Rattle.rv_machine.proofs.Before as B
 use Rattle.rv_machine.proofs.NextPlaces as N
 use Rattle.rv_machine.proofs.Telling as T

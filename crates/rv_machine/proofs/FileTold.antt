@@ -163,10 +163,10 @@ module _ (k : Setting) (ready : IsReady k) (earlier : List Row) (m : Machine) (r
           ]
 
   -- so the row takes the file of the machine to the next one
-  pub file_told : future_file (tree_of k) (judged k) earlier ≡ m.future → row.stop ≡ None → future_file (tree_of k) (judged k) (row ∷ earlier) ≡ (machine_after k m).future
+  pub file_told : future_file (judged k) earlier ≡ m.future → row.stop ≡ None → future_file (judged k) (row ∷ earlier) ≡ (machine_after k m).future
   unfolding future_file
   file_told before goes =
-      ap (λ w. after_executed (judged k) (row ∷ earlier) (leaves_execute (judged k) row) (after_late (judged k) r row.retired (after_unit w (future_file (tree_of k) (judged k) earlier)))) is.written
-      ∙ ap (λ f. after_executed (judged k) (row ∷ earlier) (leaves_execute (judged k) row) (after_late (judged k) r row.retired f)) (unit_told (paid_by k m) (future_file (tree_of k) (judged k) earlier) ∙ ap (λ f. file_paid (paid_by k m) f) before)
+      ap (λ w. after_executed (judged k) (row ∷ earlier) (leaves_execute (judged k) row) (after_late (judged k) r row.retired (after_unit w (future_file (judged k) earlier)))) is.written
+      ∙ ap (λ f. after_executed (judged k) (row ∷ earlier) (leaves_execute (judged k) row) (after_late (judged k) r row.retired f)) (unit_told (paid_by k m) (future_file (judged k) earlier) ∙ ap (λ f. file_paid (paid_by k m) f) before)
       ∙ ap (λ f. after_executed (judged k) (row ∷ earlier) (leaves_execute (judged k) row) f) (late_told (file_paid (paid_by k m) m.future))
       ∙ executed_told (N.no_stop k ready earlier m row inv is goes) (file_late (left_by k m) (file_paid (paid_by k m) m.future))

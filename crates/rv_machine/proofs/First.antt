@@ -15,6 +15,7 @@ use Rattle.rv_holds.specs.Tokens.{Slots, cell_of, cells_of}
 use Rattle.rv_engine.specs.Settings.{Setting, shape_of, first_machine}
 use Rattle.rv_engine.specs.Rows.{first_slot, owed_by}
 use Rattle.rv_lawful.specs.Settings.{Course, accesses_before}
+use Rattle.rv_lawful.specs.Future.{future_file}
 use Rattle.rv_lawful.specs.Outstanding.{architecture, is_written, decoupled, units_after}
 use Rattle.rv_lawful.specs.LawfulTrace.{fetch_address, next_serial}
 use Rattle.rv_machine.specs.Owing.{judged, Apart}
@@ -92,7 +93,7 @@ apart_none k owed stage zero = tt
 apart_none k owed stage (suc n) = apart_none k owed (suc stage) n
 
 pub first : (k : Setting) (ready : IsReady k) → Inv k [] (first_machine k)
-unfolding retirements is_flushed is_retired is_written decoupled units_after place fetch_address next_serial seq_run first_state architecture rows_without
+unfolding future_file retirements is_flushed is_retired is_written decoupled units_after place fetch_address next_serial seq_run first_state architecture rows_without
 first k ready =
     let n = (shape_of k).stages in
     let most = ready.most in
@@ -118,6 +119,7 @@ first k ready =
           let e : 0 ≡ 0 + count (past_ex k (nothing n)) = omega (arith, z) in
           paid_none k 0 reg (past_ex k (nothing n)) (get_or (first_machine k).future reg zero_bit) z ∙ ap (λ p. get_or (run k p).custom reg zero_bit) e;
       future_wide = ready.wide 0;
+      file = refl;
       placed = placed_none k 0 n;
       serials = serials_none [] n;
       fetch_is = refl;

@@ -23,7 +23,7 @@ use Rattle.rv_machine.specs.Placed.{count, HasWord, Serials, IsReady, Inv}
 use Rattle.rv_machine.proofs.Places.{stood, one_token, token_order, token_of, serials_drop, serials_more, serials_filled, place_same, flushed_same, flushed_now, flushed_before, unflushed_before, place_over, place_suc, place_lt, place_le, lower_place, next_placed, Unflushed, HasSerial}
 use Rattle.rv_machine.proofs.Standing.{here_of}
 use Rattle.rv_machine.proofs.Moving.{Named, filled_from, KeepsAll, keeps_all, FlushesFirst}
-use Rattle.rv_machine.proofs.Reading.{Alike, IsAlike, alike_count, alike_serials}
+use Rattle.rv_machine.proofs.Alike.{Alike, IsAlike, alike_count, alike_serials}
 use Rattle.rv_machine.proofs.Before.{Turning, turning}
 use Rattle.rv_machine.proofs.Before as B
 use Rattle.rv_machine.proofs.Clearing.{cleared_serials, cleared_count, cleared_at, cleared_get, cleared_drop, unheld_get, ShownAs, shown_as, take_get, get_take, none_listed, listed_of, listed_only, listed_ascend, none_ascend}

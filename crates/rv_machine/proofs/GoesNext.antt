@@ -21,6 +21,7 @@ use Rattle.rv_machine.proofs.NextRow as N
 use Rattle.rv_machine.proofs.Worded as W
 use Rattle.rv_machine.proofs.Counting as C
 use Rattle.rv_machine.proofs.FewEntries.{few_next}
+use Rattle.rv_machine.proofs.FileTold as T
 use Rattle.rv_machine.proofs.OwingNext as O
 use Rattle.rv_machine.proofs.RepaidNext as P
 use Rattle.rv_machine.proofs.ApartNext as A
@@ -56,6 +57,7 @@ module _ (k : Setting) (ready : IsReady k) (earlier : List Row) (m : Machine) (r
         tail_is = tails;
         future = N.future_next k ready earlier m row inv is e;
         future_wide = wide;
+        file = T.file_told k ready earlier m row inv is inv.file e;
         placed = N.placed_next k ready earlier m row inv is e;
         serials = N.serials_next k ready earlier m row inv is e;
         fetch_is = C.fetch_now k ready earlier m row inv is;

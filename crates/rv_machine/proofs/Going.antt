@@ -15,8 +15,8 @@ use Rattle.rv_engine.specs.Rows.{going, first_slot}
 use Rattle.rv_machine.specs.Placed.{run, count, expected, IsPlaced, IsPlacedSlot, Placed, IsReady, IsExact}
 use Rattle.rv_machine.specs.Told.{Decided, NoStops}
 use Rattle.rv_machine.proofs.Deciding.{or_else_none_b, is_none_of, if_none, test_eq, test_past, own_none, not_due, no_waiting, waits_operand, waits_board, waits_late, decided_tail, no_stops_tail}
-use Rattle.rv_machine.proofs.Reading.{Read, first_few, second_few}
-use Rattle.rv_machine.proofs.Operands.{OnPath, on_path, operands_ready}
+use Rattle.rv_machine.proofs.Reading.{HasOperands, Read}
+use Rattle.rv_machine.proofs.Operands.{OnPath, on_path}
 use Rattle.rv_machine.proofs.Unboarded.{board_parts}
 use Rattle.rv_machine.proofs.Trying.{late_clear}
 use Rattle.rv_machine.proofs.Loading.{Loaded}
@@ -25,7 +25,7 @@ use Rattle.rv_machine.proofs.Ripe.{Ripe}
 -- what is known of slots before they move
 pub record AreSeen (k : Setting) (r stage : ℕ) (seen : Slots) : Type 0 where
   pub placed : Placed k r stage seen
-  pub read : Read k (run k r).x stage seen
+  pub read : Read k r stage seen
   pub decided : Decided k stage seen
   pub stops : NoStops k stage seen
   pub loaded : Loaded k r stage seen
@@ -87,35 +87,20 @@ module _ (k : Setting) (ready : IsReady k) (r stage : ℕ) (t : Token) (older : 
   unboarded : stage ≡ (shape_of k).rd → (t.beside.board ≡ None) × (least_from (spawner older t.asks) 0 register_count ≡ None)
   unboarded e = board_parts t older (waits_board (shape_of k) stage t older waiting e)
 
-  free_board : stage ≡ (shape_of k).rd → t.beside.board ≡ None
-  free_board e = (unboarded e).0
-
-  operands : stage ≡ (shape_of k).rd
-      → (t.asks.first < 32 → slice_index (run k r).x t.asks.first ≡ slice_index (run k (r + count older)).x t.asks.first) × (t.asks.second < 32 → slice_index (run k r).x t.asks.second ≡ slice_index (run k (r + count older)).x t.asks.second)
-  operands e =
+  -- so where this is RD it has read the run's operands
+  has_read : stage ≡ (shape_of k).rd → HasOperands (run k (r + count older)).x t.asks t.inputs
+  has_read e =
       let near = ready.ex_rd in
-      operands_ready k ready r (suc stage) older t.asks (omega (arith, near, e)) h.placed.1
-      (path_ahead k r (suc stage) older (omega (arith, near, e)) h.placed.1 h.decided.1 (not_blocked (shape_of k) stage t older h.decided.0 free stops)) (waits_operand (shape_of k) stage t older waiting e) (unboarded e).1
+      let b = unboarded e in
+      h.read.0 e b.0 (path_ahead k r (suc stage) older (omega (arith, near, e)) h.placed.1 h.decided.1 (not_blocked (shape_of k) stage t older h.decided.0 free stops)) (waits_operand (shape_of k) stage t older waiting e) b.1
 
   first_case : (b : Bool) → (stage == (shape_of k).rd) ≡ b → (shape_of k).rd < suc stage → rs1_of t.cell.word ≡ t.asks.first → t.inputs.rs1 ≡ slice_index (run k (r + count older)).x (rs1_of t.cell.word)
   first_case false e lt q = here.first (test_past (shape_of k).rd stage e lt) q
-  first_case true e lt q =
-      let at = test_eq stage (shape_of k).rd e in
-      (h.read.0 at (free_board at)).0 (ap rs1_of here.input_word ∙ q)
-      ∙ ap (λ w. slice_index (run k r).x (rs1_of w)) here.input_word
-      ∙ ap (λ n. slice_index (run k r).x n) q
-      ∙ (operands at).0 (subst (λ n. n < 32) q (first_few t.cell.word))
-      ∙ ap (λ n. slice_index (run k (r + count older)).x n) (sym q)
+  first_case true e lt q = (has_read (test_eq stage (shape_of k).rd e)).0 (ap rs1_of here.input_word ∙ q) ∙ ap (λ w. slice_index (run k (r + count older)).x (rs1_of w)) here.input_word
 
   second_case : (b : Bool) → (stage == (shape_of k).rd) ≡ b → (shape_of k).rd < suc stage → rs2_of t.cell.word ≡ t.asks.second → t.inputs.rs2 ≡ slice_index (run k (r + count older)).x (rs2_of t.cell.word)
   second_case false e lt q = here.second (test_past (shape_of k).rd stage e lt) q
-  second_case true e lt q =
-      let at = test_eq stage (shape_of k).rd e in
-      (h.read.0 at (free_board at)).1 (ap rs2_of here.input_word ∙ q)
-      ∙ ap (λ w. slice_index (run k r).x (rs2_of w)) here.input_word
-      ∙ ap (λ n. slice_index (run k r).x n) q
-      ∙ (operands at).1 (subst (λ n. n < 32) q (second_few t.cell.word))
-      ∙ ap (λ n. slice_index (run k (r + count older)).x n) (sym q)
+  second_case true e lt q = (has_read (test_eq stage (shape_of k).rd e)).1 (ap rs2_of here.input_word ∙ q) ∙ ap (λ w. slice_index (run k (r + count older)).x (rs2_of w)) here.input_word
 
   one_tried : (o : Option Trial) → is_some o ≡ true → tried_stop o ≡ None → (trial : Trial) × (o ≡ Some trial) × (stop_in trial.answer ≡ None)
   one_tried None e s = cc
@@ -142,6 +127,7 @@ module _ (k : Setting) (ready : IsReady k) (r stage : ℕ) (t : Token) (older : 
         input_pc = here.input_pc;
         words = here.words;
         wide = here.wide;
+        guess = here.guess;
         first = first_case (stage == (shape_of k).rd) refl;
         second = second_case (stage == (shape_of k).rd) refl;
         untried = λ lt. here.untried (omega (arith, lt));

@@ -83,3 +83,7 @@ pub mod WrittenWords
 pub mod Ranged
 pub mod Unowed
 pub mod Unboarded
+pub mod Alike
+pub mod Over
+pub mod Forwarding
+pub mod Passing

@@ -23,51 +23,12 @@ use Rattle.rv_machine.specs.Placed.{run, count, expected, IsTried, IsExact, IsPl
 use Rattle.rv_machine.specs.Told.{Decided}
 use Rattle.rv_machine.proofs.Deciding.{test_eq, same_test, own_none, no_store, address_of_run}
 use Rattle.rv_machine.proofs.Runs.{answer}
-use Rattle.rv_machine.proofs.Reading.{Alike, alike_count, alike_oldest, loading_alike, placed_alike}
+use Rattle.rv_machine.proofs.Alike.{Alike, alike_count, alike_oldest, loading_alike, loading_guesses}
+use Rattle.rv_machine.proofs.Over.{waiting_over}
+use Rattle.rv_machine.proofs.Reading.{placed_alike}
 use Rattle.rv_machine.proofs.Operands.{on_path, memory_ready}
 use Rattle.rv_machine.proofs.Trying.{early_trial, exact_trial}
 use Rattle.rv_lawful.specs.Outstanding.{has_target, touches}
-
--- ---- holds before older tokens that are alike
-
-first_over : (f g : ℕ → Option Hold) (r n : ℕ) → ((i : ℕ) → f i ≡ g i) → first_from f r n ≡ first_from g r n
-first_over f g r zero h = refl
-first_over f g r (suc n) h = ap (λ o. or_else o (first_from f (suc r) n)) (h r) ∙ ap (λ o. or_else (g r) o) (first_over f g (suc r) n h)
-
-waits_over : (r : ℕ) (a b : Slots) → Alike a b → waits_for r b ≡ waits_for r a
-waits_over r a b h = ap (λ o. if r == 0 then None else operand r o) (alike_oldest (λ x. x.destination == r) a b h)
-
-operand_over : (x : Asks) (a b : Slots) → Alike a b → operand_hold b x ≡ operand_hold a x
-operand_over x a b h =
-    ap (λ o. or_else o (waits_for (max x.first x.second) b)) (waits_over (min x.first x.second) a b h)
-    ∙ ap (λ o. or_else (waits_for (min x.first x.second) a) o) (waits_over (max x.first x.second) a b h)
-
-custom_over : (x : Asks) (a b : Slots) → Alike a b → custom_hold b x ≡ custom_hold a x
-custom_over x a b h =
-    first_over (waits_for_custom b x) (waits_for_custom a x) 0 16
-    (λ r. ap (λ o. if get_or x.customs r false then custom r o else None) (alike_oldest (λ y. get_or y.late_customs r false) a b h))
-
-late_over : (a b : Slots) → Alike a b → late_hold b ≡ late_hold a
-late_over a b h = ap late (alike_oldest (λ x. x.late) a b h)
-
-least_over : (f g : ℕ → Option ℕ) (n count : ℕ) → ((m : ℕ) → f m ≡ g m) → least_from f n count ≡ least_from g n count
-least_over f g n zero h = refl
-least_over f g n (suc count) h = ap (λ o. or_else (numbered n o) (least_from f (suc n) count)) (h n) ∙ ap (λ o. or_else (numbered n (g n)) o) (least_over f g (suc n) count h)
-
-board_over : (t : Token) (a b : Slots) → Alike a b → board_hold t b ≡ board_hold t a
-board_over t a b h =
-    ap (λ o. board (lower_of t.beside.board o))
-    (least_over (spawner b t.asks) (spawner a t.asks) 0 register_count
-    (λ n. ap (λ (o : Option ℕ). if touches t.asks (register_at n) then o else None) (alike_oldest (λ x. has_target x (register_at n)) a b h)))
-
-reading_over : (t : Token) (a b : Slots) → Alike a b → reading_hold t b ≡ reading_hold t a
-reading_over t a b h = ap (λ o. or_else o (board_hold t b)) (operand_over t.asks a b h) ∙ ap (λ o. or_else (operand_hold a t.asks) o) (board_over t a b h)
-
-pub waiting_over : (k : Shape) (stage : ℕ) (t : Token) (a b : Slots) → Alike a b → waiting_hold k stage t b ≡ waiting_hold k stage t a
-waiting_over k stage t a b h =
-    ap (λ o. or_else (if stage == k.rd then o else None) (if stage == k.ex then or_else (custom_hold b t.asks) (late_hold b) else None)) (reading_over t a b h)
-    ∙ ap (λ o. or_else (if stage == k.rd then reading_hold t a else None) (if stage == k.ex then or_else o (late_hold b) else None)) (custom_over t.asks a b h)
-    ∙ ap (λ o. or_else (if stage == k.rd then reading_hold t a else None) (if stage == k.ex then or_else (custom_hold a t.asks) o else None)) (late_over a b h)
 
 -- a token's own hold, by what it asks of the older ones
 abbrev own_by : Shape → ℕ → Token → Option Hold → Option ℕ → Option ℕ → Option Hold
@@ -243,6 +204,7 @@ module _ (k : Setting) (ready : IsReady k) (r stage : ℕ) (older : Slots) (t : 
         input_pc = here.input_pc;
         words = here.words;
         wide = here.wide;
+        guess = here.guess;
         first = here.first;
         second = here.second;
         untried = λ lt. absurd (omega (arith, lt, past));
@@ -289,7 +251,7 @@ loading_placed k ready r stage (Some t ∷ older) h d = (by_case (is_loading (sh
   later = loading (tree_of k) (shape_of k) (run k r).mem (suc stage) older
 
   over : (u : Token) → IsPlaced k (r + count older) (expected k r (suc stage) older) stage older u → IsPlaced k (r + count later) (expected k r (suc stage) later) stage later u
-  over u i = placed_alike k r stage older later u (loading_alike (tree_of k) (shape_of k) (run k r).mem (suc stage) older) i
+  over u i = placed_alike k r stage older later u (loading_alike (tree_of k) (shape_of k) (run k r).mem (suc stage) older) (loading_guesses (tree_of k) (shape_of k) (run k r).mem (suc stage) older) i
 
   by_case : (b : Bool) → is_loading (shape_of k) stage t ≡ b → IsPlacedSlot k (r + count later) (expected k r (suc stage) later) stage later (if b then Some (tried_with (tree_of k) (run k r).mem t.inputs t) else Some t)
   by_case true e =

@@ -9,7 +9,7 @@ use Rattle.rv_engine.specs.Settings.{Setting, Machine}
 use Rattle.rv_engine.specs.Rows.{fill_first, new_by, loaded_by, left_by, IsRowOf, retired_of}
 use Rattle.rv_machine.specs.Placed.{IsReady, Inv}
 use Rattle.rv_machine.specs.Made.{Made}
-use Rattle.rv_machine.proofs.Reading.{Alike, IsAlike}
+use Rattle.rv_machine.proofs.Alike.{Alike, IsAlike}
 use Rattle.rv_machine.proofs.Before as B
 use Rattle.rv_machine.proofs.Flushing as F
 use Rattle.rv_machine.proofs.Retiring as R

@@ -10,7 +10,7 @@ use Rattle.rv_holds.specs.Holds.{decided}
 use Rattle.rv_holds.specs.Flushing.{cleared, struck}
 use Rattle.rv_engine.specs.Owing.{Outstanding, beside_of}
 use Rattle.rv_engine.specs.Settings.{Setting, Machine, shape_of, tree_of, outstanding_in}
-use Rattle.rv_engine.specs.Rows.{reading, tried_with, seeing, is_ripe, trying, is_loading, loading, fill_first, owed_by, new_by, read_by, held_by, loaded_by, turn_by, seen_by}
+use Rattle.rv_engine.specs.Rows.{reading, tried_with, seeing, is_ripe, trying, is_loading, loading, filled_by, owed_by, read_by, held_by, loaded_by, turn_by, seen_by}
 
 abbrev pub MeetsSlot : Shape → Outstanding → ℕ → Option Token → Type 0
 MeetsSlot k o stage None = Unit {0}
@@ -57,7 +57,7 @@ loaded_meets k m =
     let read = read_by k m in
     loading_meets (tree_of k) (shape_of k) m.arch.mem o 0 (held_by k m)
     (decided_meets (shape_of k) o 0 (trying (tree_of k) (shape_of k) m.future m.arch.mem 0 read)
-    (trying_meets (tree_of k) (shape_of k) m.future m.arch.mem o 0 read (reading_meets (shape_of k) m.arch.x (owed_by k m) o 0 (fill_first (new_by k m) m.slots))))
+    (trying_meets (tree_of k) (shape_of k) m.future m.arch.mem o 0 read (reading_meets (shape_of k) m.arch.x (owed_by k m) o 0 (filled_by k m))))
 
 pub seen_meets : (k : Setting) (m : Machine) → struck (turn_by k m) ≤ length (loaded_by k m) → Meets (shape_of k) (outstanding_in k m) 0 (seen_by k m)
 seen_meets k m le = cleared_meets (shape_of k) (outstanding_in k m) 0 (struck (turn_by k m)) (loaded_by k m) le (loaded_meets k m)

@@ -67,6 +67,7 @@ placed_before k p address stage older later t h i =
       input_pc = i.input_pc;
       words = i.words;
       wide = i.wide;
+      guess = i.guess;
       first = i.first;
       second = i.second;
       untried = i.untried;
@@ -89,6 +90,7 @@ waited_placed k p address stage older t i =
       input_pc = i.input_pc;
       words = i.words;
       wide = i.wide;
+      guess = i.guess;
       first = i.first;
       second = i.second;
       untried = i.untried;
@@ -158,13 +160,13 @@ guess_or_known : (ex stage a g : ℕ) → (stage ≡ ex → a ≡ g) → (if nat
 guess_or_known ex stage a g h = grind (arith, nat_tests)
 
 -- the address after a token stays the same where it goes on
-after_going : (k : Setting) (p stage address : ℕ) (t : Token) → (stage ≡ settling_stage k t → (run k (suc p)).pc ≡ (t.cell.at + 4) % 2 ^ 32) → expected_after k p (suc stage) (Some t) address ≡ expected_after k p stage (Some t) address
-after_going k p stage address t h = guess_or_known (settling_stage k t) stage (run k (suc p)).pc ((t.cell.at + 4) % 2 ^ 32) h
+after_going : (k : Setting) (p stage address : ℕ) (t : Token) → (stage ≡ settling_stage k t → (run k (suc p)).pc ≡ t.guess) → expected_after k p (suc stage) (Some t) address ≡ expected_after k p stage (Some t) address
+after_going k p stage address t h = guess_or_known (settling_stage k t) stage (run k (suc p)).pc t.guess h
 
 -- what goes on from the stage that settles its successor has that 4 further
 abbrev pub Guesses : Setting → ℕ → ℕ → Option Token → Type 0
 Guesses k p stage None = Unit {0}
-Guesses k p stage (Some t) = is_some t.cell.hold ≡ false → stage ≡ settling_stage k t → (run k (suc p)).pc ≡ (t.cell.at + 4) % 2 ^ 32
+Guesses k p stage (Some t) = is_some t.cell.hold ≡ false → stage ≡ settling_stage k t → (run k (suc p)).pc ≡ t.guess
 
 -- what is expected of the slot's younger
 slot_expected : (k : Setting) (p stage address : ℕ) (come s : Option Token) → Free come s → Guesses k p stage s → expected_after k (one_more (going s) p) stage (kept come s) (expected_after k p (suc stage) (going s) address) ≡ expected_after k (one_more s p) stage come (expected_after k p stage s address)
@@ -180,7 +182,7 @@ Guessed k r stage [] = Unit {0}
 Guessed k r stage (s ∷ older) = Guesses k (r + count older) stage s × Guessed k r (suc stage) older
 
 -- each guess is right where those that are settled now are
-pub guessed : (k : Setting) (r stage : ℕ) (seen : Slots) → ((n : ℕ) (t : Token) (older : Slots) → stage + n ≡ settling_stage k t → drop n seen ≡ Some t ∷ older → is_some t.cell.hold ≡ false → (run k (suc (r + count older))).pc ≡ (t.cell.at + 4) % 2 ^ 32) → Guessed k r stage seen
+pub guessed : (k : Setting) (r stage : ℕ) (seen : Slots) → ((n : ℕ) (t : Token) (older : Slots) → stage + n ≡ settling_stage k t → drop n seen ≡ Some t ∷ older → is_some t.cell.hold ≡ false → (run k (suc (r + count older))).pc ≡ t.guess) → Guessed k r stage seen
 guessed k r stage [] f = tt
 guessed k r stage (None ∷ older) f = (tt, guessed k r (suc stage) older (λ n t o e d h. f (suc n) t o (omega (arith, e)) d h))
 guessed k r stage (Some t ∷ older) f = (
@@ -196,7 +198,7 @@ expected_advanced k ready r stage None [] len d n f g = rw add-zero
 expected_advanced k ready r stage (Some t) [] len d n f g =
     let last = settling_last k ready t in
     let e : r + 1 ≡ suc (r + 0) = omega arith in
-    ap (λ m. (run k m).pc) e ∙ known_last (settling_stage k t) stage (run k (suc (r + 0))).pc ((t.cell.at + 4) % 2 ^ 32) (omega (arith, last, len))
+    ap (λ m. (run k m).pc) e ∙ known_last (settling_stage k t) stage (run k (suc (r + 0))).pc t.guess (omega (arith, last, len))
 expected_advanced k ready r stage come (s ∷ older) len d n f g =
     let go = going s in
     let len' : suc stage + length older ≡ (shape_of k).stages = omega (arith, len) in

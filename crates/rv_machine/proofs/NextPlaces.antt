@@ -14,7 +14,7 @@ use Rattle.rv_machine.specs.Placed.{run, one_more, count, tail, settling_stage, 
 use Rattle.rv_machine.specs.Told.{NoStops}
 use Rattle.rv_machine.proofs.Deciding.{test_eq}
 use Rattle.rv_machine.proofs.Filling.{fetch_front}
-use Rattle.rv_machine.proofs.Reading.{alike_expected}
+use Rattle.rv_machine.proofs.Alike.{alike_expected}
 use Rattle.rv_machine.proofs.Going.{AreSeen, seen_tail, going_placed, Free, free_ahead}
 use Rattle.rv_machine.proofs.Moves.{Guessed, guessed, expected_advanced, placed_advanced}
 use Rattle.rv_machine.proofs.Clearing.{cleared_drop, cleared_leaving, nearest_first, placed_past, expected_past, expected_front}
@@ -53,7 +53,7 @@ module _ (k : Setting) (ready : IsReady k) (earlier : List Row) (m : Machine) (i
   loaded_fetch =
       inv.fetch
       ∙ ap (λ l. expected k r 1 l) (tail_drop m.slots)
-      ∙ sym (alike_expected k r 1 (drop 1 m.slots) (drop 1 (loaded_by k m)) (B.loaded_from k ready earlier m inv 0))
+      ∙ sym (alike_expected k r 1 (drop 1 m.slots) (drop 1 (loaded_by k m)) (B.loaded_from k ready earlier m inv 0) (B.guesses_from k ready earlier m inv 0))
       ∙ ap (λ l. expected k r 1 l) (sym (tail_drop (loaded_by k m)))
 
   -- ---- where nothing is turned
@@ -62,7 +62,7 @@ module _ (k : Setting) (ready : IsReady k) (earlier : List Row) (m : Machine) (i
     same : seen_by k m ≡ loaded_by k m
     same = ap (λ o. cleared (struck o) (loaded_by k m)) straight
 
-    guess_right : (n : ℕ) (t : Token) (older : Slots) → 0 + n ≡ settling_stage k t → drop n (seen_by k m) ≡ Some t ∷ older → is_some t.cell.hold ≡ false → (run k (suc (r + count older))).pc ≡ (t.cell.at + 4) % 2 ^ 32
+    guess_right : (n : ℕ) (t : Token) (older : Slots) → 0 + n ≡ settling_stage k t → drop n (seen_by k m) ≡ Some t ∷ older → is_some t.cell.hold ≡ false → (run k (suc (r + count older))).pc ≡ t.guess
     guess_right n t older at e free =
         let s : Settles k (0 + n) t older = record { at = at; free = free; runs = (seen_rest k r 0 n (seen_by k m) (Some t ∷ older) all e).stops.0 } in
         let found = settled_is k ready 0 n (seen_by k m) older t (omega (arith, length_is)) all.decided e s in
@@ -78,7 +78,7 @@ module _ (k : Setting) (ready : IsReady k) (earlier : List Row) (m : Machine) (i
         ∙ ap (λ b. nearest m.fetch (take b (loaded_by k m))) z
         ∙ nearest_first k r n m.fetch (loaded_by k m) (B.loaded_placed k ready earlier m inv) loaded_fetch some (long n t older e')
         ∙ ap (λ l. expected k r n l) e'
-        ∙ not_past (settling_stage k t) n (run k (suc (r + count older))).pc ((t.cell.at + 4) % 2 ^ 32) at' where
+        ∙ not_past (settling_stage k t) n (run k (suc (r + count older))).pc t.guess at' where
           positive : (n : ℕ) (t : Token) → 0 + n ≡ settling_stage k t → 0 < n
           positive n t e = by_case t.asks.late e where
             by_case : (b : Bool) → 0 + n ≡ (if b then (shape_of k).stages - 1 else (shape_of k).ex) → 0 < n
@@ -208,7 +208,7 @@ module _ (k : Setting) (ready : IsReady k) (earlier : List Row) (m : Machine) (i
         ap (λ o. unless (redirect_of o) (fetch_after m.fetch (seen_by k m))) turned
         ∙ from.by.address
         ∙ settled_next k ready r (0 + n) from.by.token from.by.older left now
-        ∙ sym (is_past (settling_stage k from.by.token) (0 + n) (run k (suc (r + count from.by.older))).pc ((from.by.token.cell.at + 4) % 2 ^ 32) now.at)
+        ∙ sym (is_past (settling_stage k from.by.token) (0 + n) (run k (suc (r + count from.by.older))).pc from.by.token.guess now.at)
         ∙ ap (λ s. expected_after k (r + count from.by.older) (suc (0 + n)) s (expected k r (suc (0 + n)) from.by.older)) (sym going_is)
         ∙ sym (expected_advanced k ready r (suc (0 + n)) (going (Some from.by.token)) from.by.older short_rest left.decided.1 left.stops.1 behind_free right_past)
         ∙ ap (λ s. expected_after k (r' + count (advanced (going (Some from.by.token)) from.by.older)) (0 + n) s (expected k r' (suc (0 + n)) (advanced (going (Some from.by.token)) from.by.older))) (sym kept_is)

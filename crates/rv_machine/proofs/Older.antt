@@ -18,7 +18,7 @@ use Rattle.rv_lawful.specs.LawfulTrace.{IsWordOf}
 use Rattle.rv_machine.specs.Owing.{judged}
 use Rattle.rv_machine.specs.Placed.{count, Serials}
 use Rattle.rv_machine.specs.Told.{Told}
-use Rattle.rv_machine.proofs.Places.{Stood, stood, older_lower, token_of, serials_drop, place_lt, lower_place, place_order, flushed_now, unflushed_before}
+use Rattle.rv_machine.proofs.Places.{Stood, stood, one_token, lone_stage, older_lower, token_of, serials_drop, place_lt, lower_place, place_order, flushed_now, unflushed_before}
 use Rattle.rv_machine.proofs.Standing.{slice_get-drop, drop_more, here_of, cell_here, asks_at, token_at, Has}
 use Rattle.rv_machine.proofs.Owes.{Owes, IsOwed, owes_is, retired_owes}
 
@@ -114,6 +114,21 @@ module _ (k : Setting) (earlier : List Row) (row : Row) (seen : Slots) (told : T
   -- no stage from this one on is flushed
   pub past_flushed : (n : ℕ) → told.flushed ≤ suc stage + n
   past_flushed n = let le = told.left stage t (here_of seen older t stage rest) in omega (arith, le)
+
+  -- a cell of the row with the serial of an older token is that token's
+  pub stands_one : (n : ℕ) (u : Token) → slice_get older n ≡ Some (Some u) → (at : ℕ) (d : Cell) → Lawful.Stands (judged k) row at d → d.serial ≡ u.cell.serial → (at ≡ suc stage + n) × (d ≡ u.cell)
+  stands_one n u here at d stands same = elim (cases_lt at told.flushed) [
+    | inl lt ↦
+        let f = told.gone at d lt stands in
+        cc (flushed_now row earlier d.serial f.1, ap (λ s. is_flushed (row ∷ earlier) s) same, (older_stood n u here).alive)
+    | inr le ↦
+        let y = token_at seen at d (sym (told.cells at le) ∙ stands) in
+        let there = here_of seen y.1 y.0 at y.3 in
+        let serial : y.0.cell.serial ≡ u.cell.serial = ap (λ (c : Cell). c.serial) y.2 ∙ same in (
+          lone_stage (row ∷ earlier) (retirements earlier) seen at (suc stage + n) y.0 u told.serials there (here_in n u here) serial,
+          sym y.2 ∙ ap (λ (v : Token). v.cell) (one_token (row ∷ earlier) (retirements earlier) at (suc stage + n) seen y.0 u told.serials there (here_in n u here) serial),
+        )
+  ]
 
   -- the word of an older token, by what is asked of it
   pub word_of : (f : Asks → Bool) (j : ℕ) → Has older (λ u. f u.asks) j → (word : ℕ) × IsWordOf (judged k) (row ∷ earlier) j word × (f (asked k.design word) ≡ true)

@@ -1,4 +1,4 @@
--- What no older token changes is the run's: registers, custom registers and the memory.
+-- What no older token changes is the run's: custom registers and the memory.
 use Rattle.std.proofs.Common.{◌≡◌, ◌≢◌, ℕ, zero, suc, ◌+◌, ◌<◌, ◌≤◌, [], ◌∷◌, get_or, Option, Some, None, Bool, true, false, refl, sym, ap, ◌∙◌, arith, add-zero, add-suc, inl, inr}
 use Rattle.std.specs.Prelude.{if◌then◌else◌, ◌==◌, slice_index, min, max}
 use Rattle.std.proofs.lemmas.Bool.Decides.{nat_tests}
@@ -7,7 +7,7 @@ use Rattle.rv_seq.specs.States.{zero_bit}
 use Rattle.rv_asks.specs.declared.asks.Asks.{Asks}
 use Rattle.rv_holds.specs.declared.token.Token.{Token}
 use Rattle.rv_holds.specs.Tokens.{Slots}
-use Rattle.rv_holds.specs.Holds.{oldest, does_write, does_store, is_late, operand, waits_for, operand_hold, store_ahead, store_hold, register_count, spawns_at, spawner, least_from}
+use Rattle.rv_holds.specs.Holds.{oldest, does_store, is_late, store_ahead, store_hold}
 use Rattle.rv_trace.specs.declared.row.Hold.{Hold}
 use Rattle.rv_lawful.specs.Outstanding.{is_register}
 use Rattle.rv_engine.specs.Settings.{Setting, shape_of}
@@ -34,58 +34,6 @@ on_path k r stage (Some t ∷ older) lt h = (settled_past k (r + count older) (e
 -- the word of the first of these is that of the run's place
 pub path_word : (k : Setting) (r stage : ℕ) (t : Token) (older : Slots) → (shape_of k).ex ≤ stage → Placed k r stage (Some t ∷ older) → OnPath k (Some t ∷ older) → word_at k.image (run k (r + count older)).pc ≡ Some t.cell.word
 path_word k r stage t older le h path = word_of_run k r stage t older le path.0 h.0
-
--- ---- registers
-
-pub no_destination : (older : Slots) (t : Token) (reg : ℕ) → oldest (does_write reg) (Some t ∷ older) ≡ None → t.asks.destination ≢ reg
-no_destination older t reg h =
-    test_ne t.asks.destination reg
-    (if_none (t.asks.destination == reg) t.cell.serial (or_else_none_b (oldest (does_write reg) older) _ h))
-
-no_spawn : (older : Slots) (t : Token) (reg : ℕ) → reg < 32 → oldest (spawns_at reg) (Some t ∷ older) ≡ None → is_register t.asks.spawned reg ≡ false
-no_spawn older t reg lt h = sym (x_target t.asks reg lt) ∙ if_none (spawns_at reg t) t.cell.serial (or_else_none_b (oldest (spawns_at reg) older) _ h)
-
--- a register that no older token writes or spawns
-pub unwritten : (k : Setting) (ready : IsReady k) (r stage reg : ℕ) (older : Slots) → (shape_of k).ex ≤ stage → reg < 32 → Placed k r stage older → OnPath k older → oldest (does_write reg) older ≡ None → oldest (spawns_at reg) older ≡ None
-    → slice_index (run k (r + count older)).x reg ≡ slice_index (run k r).x reg
-unwritten k ready r stage reg [] le lt h path w n = rw add-zero
-unwritten k ready r stage reg (None ∷ older) le lt h path w n = unwritten k ready r (suc stage) reg older (omega (arith, le)) lt h.1 path w n
-unwritten k ready r stage reg (Some t ∷ older) le lt h path w n =
-    let w1 = or_else_none (oldest (does_write reg) older) _ w in
-    let n1 = or_else_none (oldest (spawns_at reg) older) _ n in
-    rw (add-suc r (count older))
-    (run_other k ready (r + count older) t.cell.word reg (path_word k r stage t older le h path) (λ e. no_destination older t reg w (ap (λ (a : Asks). a.destination) h.0.asks ∙ e))
-    (sym (ap (λ (a : Asks). is_register a.spawned reg) h.0.asks) ∙ no_spawn older t reg lt n)
-    ∙ unwritten k ready r (suc stage) reg older (omega (arith, le)) lt h.1 path.1 w1 n1)
-
-operand_none : (reg : ℕ) (o : Option ℕ) → operand reg o ≡ None → o ≡ None
-operand_none reg None h = refl
-operand_none reg (Some j) h = cc
-
--- an operand that is not waited for is the run's
-pub operand_ready : (k : Setting) (ready : IsReady k) (r stage reg : ℕ) (older : Slots) → (shape_of k).ex ≤ stage → reg < 32 → Placed k r stage older → OnPath k older → waits_for reg older ≡ None → ((reg == 0) ≡ false → oldest (spawns_at reg) older ≡ None)
-    → slice_index (run k r).x reg ≡ slice_index (run k (r + count older)).x reg
-operand_ready k ready r stage zero older le lt h path w n = run_zero k ready r ∙ sym (run_zero k ready (r + count older))
-operand_ready k ready r stage (suc m) older le lt h path w n =
-    let nz : (suc m == 0) ≡ false = grind (arith, nat_tests) in
-    sym (unwritten k ready r stage (suc m) older le lt h path (operand_none (suc m) (oldest (does_write (suc m)) older) (rw nz at w)) (n nz))
-
--- what is so at the lesser and at the greater is so at both
-min_max_first : (f : ℕ → Option Hold) (a b : ℕ) → f (min a b) ≡ None → f (max a b) ≡ None → f a ≡ None
-min_max_first f a b h e = grind arith
-
-min_max_second : (f : ℕ → Option Hold) (a b : ℕ) → f (min a b) ≡ None → f (max a b) ≡ None → f b ≡ None
-min_max_second f a b h e = grind arith
-
--- where no operand is waited for, and no older token spawns one, both are the run's
-pub operands_ready : (k : Setting) (ready : IsReady k) (r stage : ℕ) (older : Slots) (a : Asks) → (shape_of k).ex ≤ stage → Placed k r stage older → OnPath k older → operand_hold older a ≡ None → least_from (spawner older a) 0 register_count ≡ None
-    → (a.first < 32 → slice_index (run k r).x a.first ≡ slice_index (run k (r + count older)).x a.first) × (a.second < 32 → slice_index (run k r).x a.second ≡ slice_index (run k (r + count older)).x a.second)
-operands_ready k ready r stage older a le h path none spawns =
-    let low = or_else_none (waits_for (min a.first a.second) older) _ none in
-    let high = or_else_none_b (waits_for (min a.first a.second) older) _ none in (
-      λ lt. operand_ready k ready r stage a.first older le lt h path (min_max_first (λ reg. waits_for reg older) a.first a.second low high) (none_spawns older a a.first spawns lt (inl refl)),
-      λ lt. operand_ready k ready r stage a.second older le lt h path (min_max_second (λ reg. waits_for reg older) a.first a.second low high) (none_spawns older a a.second spawns lt (inr refl)),
-    )
 
 -- ---- custom registers
 

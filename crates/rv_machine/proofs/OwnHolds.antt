@@ -1,6 +1,6 @@
 -- A token's own holds as they are decided are the first true ones.
 use Rattle.std.proofs.Common.{◌≡◌, ◌≢◌, ℕ, zero, suc, ◌+◌, ◌-◌, ◌<◌, ◌≤◌, List, [], ◌∷◌, drop, get_or, Option, Some, None, Bool, true, false, refl, sym, ap, ◌∙◌, subst, arith, ◌⊎◌, inl, inr}
-use Rattle.std.specs.Prelude.{◌&&◌, ◌||◌, not, if◌then◌else◌, ◌==◌, is_some, is_none, slice_get, min, max}
+use Rattle.std.specs.Prelude.{◌&&◌, ◌||◌, not, if◌then◌else◌, ◌==◌, is_some, is_none, nat_lt, slice_get, min, max}
 use Rattle.std.proofs.lemmas.Bool.{cases_lt}
 use Rattle.std.proofs.lemmas.Bool.Decides.{nat_tests}
 use Rattle.rv_trace.specs.declared.row.Cell.{Cell}
@@ -9,6 +9,7 @@ use Rattle.rv_trace.specs.declared.row.Hold.TheVariants.{Operand, Custom, Late, 
 use Rattle.rv_trace.specs.declared.row.Row.{Row}
 use Rattle.rv_trace.specs.Trace.{is_retired, place, retirements}
 use Rattle.rv_trace.specs.RowParts.{IsOlder, ComesFirst}
+use Rattle.rv_core.specs.declared.Shape.{Shape}
 use Rattle.rv_seq.specs.declared.commit.Stop.{Stop}
 use Rattle.rv_seq.specs.declared.answer.StepAnswer.{StepAnswer}
 use Rattle.rv_seq.specs.declared.answer.StepAnswer.TheVariants.{Done, Stopped}
@@ -17,7 +18,7 @@ use Rattle.rv_asks.specs.declared.asks.Asks.{Asks}
 use Rattle.rv_waits.specs.Waits.{wait_at}
 use Rattle.rv_holds.specs.declared.token.Token.{Token}
 use Rattle.rv_holds.specs.Tokens.{Slots, or_else, stop_in, tried_stop, stop_of, tried_access, makes_access, cells_of}
-use Rattle.rv_holds.specs.Holds.{oldest, does_write, writes_late, does_store, is_late, operand, waits_for, operand_hold, custom, waits_for_custom, first_from, custom_hold, late, late_hold, waiting_hold, board_hold, drain, left_behind, drain_hold, store_ahead, store_hold, memory_hold, tail_hold, ending_hold, own_hold, stops_now}
+use Rattle.rv_holds.specs.Holds.{oldest, withholds, withholder, writes_late, does_store, is_late, operand, waits_for, operand_hold, custom, waits_for_custom, first_from, custom_hold, late, late_hold, waiting_hold, board_hold, drain, left_behind, drain_hold, store_ahead, store_hold, memory_hold, tail_hold, ending_hold, own_hold, stops_now}
 use Rattle.rv_engine.specs.Settings.{Setting, shape_of}
 use Rattle.rv_lawful.specs.Settings as Lawful
 use Rattle.rv_lawful.specs.Sight.{asked, IsEarly}
@@ -28,26 +29,104 @@ use Rattle.rv_machine.specs.Told.{Told}
 use Rattle.rv_machine.proofs.Deciding.{same_test, test_eq, test_ne, no_waiting}
 use Rattle.rv_machine.proofs.Standing.{stands_older, cell_here, Has, OldestIs, oldest_is, all_three}
 use Rattle.rv_machine.proofs.Older as O
+use Rattle.rv_machine.proofs.Places.{older_lower}
 use Rattle.rv_machine.proofs.BoardHolds.{board_where}
 use Rattle.rv_machine.proofs.DrainHolds.{OldestLeft, left_behind_is}
 use Rattle.rv_machine.proofs.UnitHolds.{from_ports as unit_from_ports}
 use Rattle.rv_machine.proofs.Ordering.{operand_kind, custom_kind, late_kind, drain_kind, wait_kind, store_kind, module_kind, FirstOf, FirstFrom, joined, no_trap, or_assoc, if_or, or_none}
 use Rattle.rv_machine.proofs.Sixteen.{customs_few}
 
+-- of some tokens, the first of which stands in this stage, one with this serial withholds the register
+abbrev pub Withholds : Shape → ℕ → ℕ → Slots → ℕ → Type 0
+Withholds k reg stage older j = (n : ℕ) × (u : Token) × (slice_get older n ≡ Some (Some u)) × (u.cell.serial ≡ j) × (withholds k reg (stage + n) u ≡ true)
+
+-- the least serial of those for which it does
+abbrev pub OldestWithholds : Shape → ℕ → ℕ → Slots → Option ℕ → Type 0
+OldestWithholds k reg stage older None = (j : ℕ) → Withholds k reg stage older j → ⊥
+OldestWithholds k reg stage older (Some i) = Withholds k reg stage older i × ((j : ℕ) → Withholds k reg stage older j → i ≤ j)
+
+withholds_behind : (k : Shape) (reg stage : ℕ) (s : Option Token) (older : Slots) (j : ℕ) → Withholds k reg (suc stage) older j → Withholds k reg stage (s ∷ older) j
+withholds_behind k reg stage s older j w =
+    let z : suc stage + w.0 ≡ stage + suc w.0 = omega arith in
+    (suc w.0, w.1, w.2, w.3, ap (λ n. withholds k reg n w.1) (sym z) ∙ w.4)
+
+withholds_front : (k : Shape) (reg stage : ℕ) (t : Token) (older : Slots) (j : ℕ) → Withholds k reg stage (Some t ∷ older) j → ((t.cell.serial ≡ j) × (withholds k reg stage t ≡ true)) ⊎ Withholds k reg (suc stage) older j
+withholds_front k reg stage t older j w = by_index w.0 w.2 w.4 where
+  by_index : (n : ℕ) → slice_get (Some t ∷ older) n ≡ Some (Some w.1) → withholds k reg (stage + n) w.1 ≡ true → ((t.cell.serial ≡ j) × (withholds k reg stage t ≡ true)) ⊎ Withholds k reg (suc stage) older j
+  by_index zero e q =
+      let same : t ≡ w.1 = cc in
+      let z : stage + 0 ≡ stage = omega arith in
+      inl (ap (λ (u : Token). u.cell.serial) same ∙ w.3, ap (λ (u : Token). withholds k reg stage u) same ∙ ap (λ n. withholds k reg n w.1) (sym z) ∙ q)
+  by_index (suc n) e q = (let z : suc stage + n ≡ stage + suc n = omega arith in inr (n, w.1, e, w.3, ap (λ i. withholds k reg i w.1) z ∙ q))
+
+withholds_only : (k : Shape) (reg stage : ℕ) (older : Slots) (j : ℕ) → Withholds k reg stage (None ∷ older) j → Withholds k reg (suc stage) older j
+withholds_only k reg stage older j w = by_index w.0 w.2 w.4 where
+  by_index : (n : ℕ) → slice_get (None ∷ older) n ≡ Some (Some w.1) → withholds k reg (stage + n) w.1 ≡ true → Withholds k reg (suc stage) older j
+  by_index zero e q = cc
+  by_index (suc n) e q = (let z : suc stage + n ≡ stage + suc n = omega arith in (n, w.1, e, w.3, ap (λ i. withholds k reg i w.1) z ∙ q))
+
+withholder_is : (rows : List Row) (r : ℕ) (k : Shape) (reg stage : ℕ) (older : Slots) → Serials rows r older → OldestWithholds k reg stage older (withholder k reg stage older)
+withholder_is rows r k reg stage [] h = λ j w. cc (w.2)
+withholder_is rows r k reg stage (None ∷ older) h = by_case (withholder k reg (suc stage) older) (withholder_is rows r k reg (suc stage) older h) where
+  by_case : (o : Option ℕ) → OldestWithholds k reg (suc stage) older o → OldestWithholds k reg stage (None ∷ older) o
+  by_case None g = λ j w. g j (withholds_only k reg stage older j w)
+  by_case (Some i) g = (withholds_behind k reg stage None older i g.0, λ j w. g.1 j (withholds_only k reg stage older j w))
+withholder_is rows r k reg stage (Some t ∷ older) h = by_case (withholder k reg (suc stage) older) (withholder_is rows r k reg (suc stage) older h.1) where
+  last : (b : Bool) → withholds k reg stage t ≡ b → ((j : ℕ) → Withholds k reg (suc stage) older j → ⊥) → OldestWithholds k reg stage (Some t ∷ older) (if b then Some t.cell.serial else None)
+  last true q g =
+      let z : stage + 0 ≡ stage = omega arith in (
+        (0, t, refl, refl, ap (λ n. withholds k reg n t) z ∙ q),
+        λ j w. elim (withholds_front k reg stage t older j w) [ inl x ↦ omega (arith, x.0) | inr x ↦ absurd (g j x) ],
+      )
+  last false q g = λ j w. elim (withholds_front k reg stage t older j w) [ inl x ↦ cc (q, x.1) | inr x ↦ g j x ]
+
+  by_case : (o : Option ℕ) → OldestWithholds k reg (suc stage) older o → OldestWithholds k reg stage (Some t ∷ older) (or_else o (if withholds k reg stage t then Some t.cell.serial else None))
+  by_case None g = last (withholds k reg stage t) refl g
+  by_case (Some i) g = (
+    withholds_behind k reg stage (Some t) older i g.0,
+    λ j w. elim (withholds_front k reg stage t older j w) [
+      | inl x ↦
+          let w0 = g.0 in
+          let lt = older_lower rows r w0.0 t w0.1 older h w0.2 in
+          let e = w0.3 in
+          omega (arith, lt, e, x.0)
+      | inr x ↦ g.1 j x
+    ],
+  )
+
 -- what is waited for, of one register
-abbrev pub WaitIs : Slots → ℕ → Option Hold → Type 0
-WaitIs older reg None = (reg ≡ 0) ⊎ ((j : ℕ) → Has older (does_write reg) j → ⊥)
-WaitIs older reg (Some h) = (i : ℕ) × (h ≡ Operand reg i) × (reg ≢ 0) × Has older (does_write reg) i × ((j : ℕ) → Has older (does_write reg) j → i ≤ j)
+abbrev pub WaitIs : Shape → ℕ → Slots → ℕ → Option Hold → Type 0
+WaitIs k stage older reg None = (reg ≡ 0) ⊎ ((j : ℕ) → Withholds k reg stage older j → ⊥)
+WaitIs k stage older reg (Some h) = (i : ℕ) × (h ≡ Operand reg i) × (reg ≢ 0) × Withholds k reg stage older i × ((j : ℕ) → Withholds k reg stage older j → i ≤ j)
 
-operand_is : (older : Slots) (reg : ℕ) (o : Option ℕ) → reg ≢ 0 → OldestIs older (does_write reg) o → WaitIs older reg (operand reg o)
-operand_is older reg None ne h = inr h
-operand_is older reg (Some i) ne h = (i, refl, ne, h.0, h.1)
+operand_is : (k : Shape) (stage : ℕ) (older : Slots) (reg : ℕ) (o : Option ℕ) → reg ≢ 0 → OldestWithholds k reg stage older o → WaitIs k stage older reg (operand reg o)
+operand_is k stage older reg None ne h = inr h
+operand_is k stage older reg (Some i) ne h = (i, refl, ne, h.0, h.1)
 
-wait_is : (rows : List Row) (r reg : ℕ) (older : Slots) → Serials rows r older → WaitIs older reg (waits_for reg older)
-wait_is rows r reg older h = by_case (reg == 0) refl where
-  by_case : (b : Bool) → (reg == 0) ≡ b → WaitIs older reg (if b then None else operand reg (oldest (does_write reg) older))
+wait_is : (rows : List Row) (r : ℕ) (k : Shape) (reg stage : ℕ) (older : Slots) → Serials rows r older → WaitIs k stage older reg (waits_for k reg stage older)
+wait_is rows r k reg stage older h = by_case (reg == 0) refl where
+  by_case : (b : Bool) → (reg == 0) ≡ b → WaitIs k stage older reg (if b then None else operand reg (withholder k reg stage older))
   by_case true e = inl (test_eq reg 0 e)
-  by_case false e = operand_is older reg (oldest (does_write reg) older) (test_ne reg 0 e) (oldest_is rows r (does_write reg) older h)
+  by_case false e = operand_is k stage older reg (withholder k reg stage older) (test_ne reg 0 e) (withholder_is rows r k reg stage older h)
+
+-- what a token that writes the register withholds: on a core that forwards, up to the time of the write
+withholds_parts : (a f l : Bool) → (a && not (f && l)) ≡ true → (a ≡ true) × (f ≡ true → l ≡ false)
+withholds_parts true true true h = cc
+withholds_parts true true false h = (refl, λ e. refl)
+withholds_parts true false l h = (refl, λ e. cc)
+withholds_parts false f l h = cc
+
+withholds_join : (a f l : Bool) → a ≡ true → (f ≡ true → l ≡ false) → (a && not (f && l)) ≡ true
+withholds_join true true true e g = cc (g refl)
+withholds_join true true false e g = refl
+withholds_join true false l e g = refl
+withholds_join false f l e g = cc
+
+not_below : (a b : ℕ) → nat_lt a b ≡ false → b ≤ a
+not_below a b h = grind (arith, nat_tests)
+
+no_less : (a b : ℕ) → b ≤ a → nat_lt a b ≡ false
+no_less a b h = grind (arith, nat_tests)
 
 -- an early answer stops where the step does, and so
 early_stop : (a : Asks) (x y : StepAnswer) (stop : Stop) → IsEarly a x y → y ≡ Stopped stop → stop_in x ≡ Some stop
@@ -101,11 +180,22 @@ module _ (k : Setting) (ready : IsReady k) (earlier : List Row) (row : Row) (see
   -- Operands
 
   -- what waits for an operand, among the older tokens
-  from_wait : (reg j : ℕ) → WaitsForOperand (judged k) earlier row stage t.cell reg j → Has older (does_write reg) j
-  from_wait reg j w = from_word (λ a. a.destination == reg) j w.older w.unretired w.writes.0 w.writes.1 (same_test (asked k.design w.writes.0).destination reg w.writes.2)
+  from_wait : (reg j : ℕ) → WaitsForOperand (judged k) earlier row stage t.cell reg j → Withholds (shape_of k) reg (suc stage) older j
+  from_wait reg j w =
+      let has = from_word (λ a. a.destination == reg) j w.older w.unretired w.writes.0 w.writes.1 (same_test (asked k.design w.writes.0).destination reg w.writes.2) in
+      (has.0, has.1, has.2, has.3, withholds_join (has.1.asks.destination == reg) (shape_of k).forward (nat_lt has.1.asks.x_time (suc stage + has.0)) has.4 (λ on. late has.0 has.1 has.2 has.3 (w.withheld on))) where
+        late : (n : ℕ) (u : Token) → slice_get older n ≡ Some (Some u) → u.cell.serial ≡ j → (at : ℕ) × (d : Cell) × Lawful.Stands (judged k) row at d × (d.serial ≡ j) × (at ≤ (asked k.design d.word).x_time) → nat_lt u.asks.x_time (suc stage + n) ≡ false
+        late n u here same x =
+            let stands = O.stands_one k earlier row seen told stage t older rest n u here x.0 x.1 x.2 (x.3 ∙ sym same) in
+            let le = x.4 in
+            let word = ap (λ (c : Cell). (asked k.design c.word).x_time) stands.1 ∙ ap (λ (a : Asks). a.x_time) (sym (asked_in n u here)) in
+            let e = stands.0 in
+            no_less u.asks.x_time (suc stage + n) (omega (arith, le, word, e))
 
-  to_wait : (reg j : ℕ) → stage ≡ (shape_of k).rd → reads_of (asked k.design t.cell.word) reg ≡ true → Has older (does_write reg) j → WaitsForOperand (judged k) earlier row stage t.cell reg j
-  to_wait reg j at reads writes =
+  to_wait : (reg j : ℕ) → stage ≡ (shape_of k).rd → reads_of (asked k.design t.cell.word) reg ≡ true → Withholds (shape_of k) reg (suc stage) older j → WaitsForOperand (judged k) earlier row stage t.cell reg j
+  to_wait reg j at reads w =
+      let parts = withholds_parts (w.1.asks.destination == reg) (shape_of k).forward (nat_lt w.1.asks.x_time (suc stage + w.0)) w.4 in
+      let writes : Has older (λ u. u.asks.destination == reg) j = (w.0, w.1, w.2, w.3, parts.0) in
       let word = word_of (λ a. a.destination == reg) j writes in
       record {
         reading = at;
@@ -113,6 +203,13 @@ module _ (k : Setting) (ready : IsReady k) (earlier : List Row) (row : Row) (see
         older = older_of (λ a. a.destination == reg) j writes;
         unretired = unretired_of (λ a. a.destination == reg) j writes;
         writes = (word.0, word.1, test_eq (asked k.design word.0).destination reg word.2);
+        withheld = λ on. (
+          suc stage + w.0,
+          w.1.cell,
+          told.cells (suc stage + w.0) (past_flushed w.0) ∙ cell_here seen (suc stage + w.0) w.1 (here_in w.0 w.1 w.2),
+          w.3,
+          subst (λ (a : Asks). suc stage + w.0 ≤ a.x_time) (asked_in w.0 w.1 w.2) (not_below w.1.asks.x_time (suc stage + w.0) (parts.1 on)),
+        );
       }
 
   -- the operand that is waited for, by the reading of the instruction
@@ -143,16 +240,16 @@ module _ (k : Setting) (ready : IsReady k) (earlier : List Row) (row : Row) (see
   most_reads reg a b ne e = grind (arith, nat_tests)
 
   -- no older token writes the register
-  none_waits : (reg rs : ℕ) → reg ≢ 0 → reg ≡ rs → WaitIs older rs None → (j : ℕ) → Has older (does_write reg) j → ⊥
+  none_waits : (reg rs : ℕ) → reg ≢ 0 → reg ≡ rs → WaitIs (shape_of k) (suc stage) older rs None → (j : ℕ) → Withholds (shape_of k) reg (suc stage) older j → ⊥
   none_waits reg rs ne e (inl z) j b = ne (e ∙ z)
-  none_waits reg rs ne e (inr f) j b = f j (subst (λ m. Has older (does_write m) j) e b)
+  none_waits reg rs ne e (inr f) j b = f j (subst (λ m. Withholds (shape_of k) m (suc stage) older j) e b)
 
   least_below : (reg a b : ℕ) → (reg ≡ min a b) ⊎ (reg ≡ max a b) → min a b ≤ reg
   least_below reg a b (inl e) = omega (arith, e)
   least_below reg a b (inr e) = omega (arith, e)
 
   -- two source registers
-  two_sources : stage ≡ (shape_of k).rd → (a b : ℕ) → ((reg : ℕ) → reads_of (asked k.design t.cell.word) reg ≡ (not (reg == 0) && ((reg == a) || (reg == b)))) → (o p : Option Hold) → WaitIs older (min a b) o → WaitIs older (max a b) p → OperandIs (or_else o p)
+  two_sources : stage ≡ (shape_of k).rd → (a b : ℕ) → ((reg : ℕ) → reads_of (asked k.design t.cell.word) reg ≡ (not (reg == 0) && ((reg == a) || (reg == b)))) → (o p : Option Hold) → WaitIs (shape_of k) (suc stage) older (min a b) o → WaitIs (shape_of k) (suc stage) older (max a b) p → OperandIs (or_else o p)
   two_sources at a b reads None None u v = λ reg j w.
       let q = reads_two reg a b (sym (reads reg) ∙ w.reads) in
       elim q.1 [ inl e ↦ none_waits reg (min a b) q.0 e u j (from_wait reg j w) | inr e ↦ none_waits reg (max a b) q.0 e v j (from_wait reg j w) ]
@@ -166,7 +263,7 @@ module _ (k : Setting) (ready : IsReady k) (earlier : List Row) (row : Row) (see
         let f = from_wait other j w in
         elim q.1 [
           | inl e ↦ absurd (none_waits other (min a b) q.0 e u j f)
-          | inr e ↦ inr (sym e, v.4 j (subst (λ m. Has older (does_write m) j) e f))
+          | inr e ↦ inr (sym e, v.4 j (subst (λ m. Withholds (shape_of k) m (suc stage) older j) e f))
         ],
   )
   two_sources at a b reads (Some h) p u v = (
@@ -182,16 +279,16 @@ module _ (k : Setting) (ready : IsReady k) (earlier : List Row) (row : Row) (see
           | inl less ↦ inl less
           | inr more ↦
               let e : other ≡ min a b = omega (arith, le, more) in
-              inr (sym e, u.4 j (subst (λ m. Has older (does_write m) j) e f))
+              inr (sym e, u.4 j (subst (λ m. Withholds (shape_of k) m (suc stage) older j) e f))
         ],
   )
 
-  operand_first : stage ≡ (shape_of k).rd → OperandIs (operand_hold older t.asks)
+  operand_first : stage ≡ (shape_of k).rd → OperandIs (operand_hold (shape_of k) (suc stage) older t.asks)
   operand_first at =
       let a = t.asks.first in
       let b = t.asks.second in
-      two_sources at a b (λ reg. ap (λ o. reads_of o reg) (sym placed.0.asks)) (waits_for (min a b) older) (waits_for (max a b) older)
-      (wait_is (row ∷ earlier) (retirements earlier) (min a b) older ordered.1) (wait_is (row ∷ earlier) (retirements earlier) (max a b) older ordered.1)
+      two_sources at a b (λ reg. ap (λ o. reads_of o reg) (sym placed.0.asks)) (waits_for (shape_of k) (min a b) (suc stage) older) (waits_for (shape_of k) (max a b) (suc stage) older)
+      (wait_is (row ∷ earlier) (retirements earlier) (shape_of k) (min a b) (suc stage) older ordered.1) (wait_is (row ∷ earlier) (retirements earlier) (shape_of k) (max a b) (suc stage) older ordered.1)
 
   -- the first true hold of a kind
 
@@ -207,10 +304,10 @@ module _ (k : Setting) (ready : IsReady k) (earlier : List Row) (row : Row) (see
       subst (λ y. Of 0 (Some y)) (sym u.2)
       (refl, u.3, λ g e own. let x = operand_kind g e in subst (λ y. ComesFirst (Operand u.0 u.1) y) (sym x.2) (inr (refl, u.4 x.0 x.1 (subst (λ y. Own y) x.2 own))))
 
-  operand_where : Of 0 (if stage == (shape_of k).rd then operand_hold older t.asks else None)
+  operand_where : Of 0 (if stage == (shape_of k).rd then operand_hold (shape_of k) (suc stage) older t.asks else None)
   operand_where = by_case (stage == (shape_of k).rd) refl where
-    by_case : (b : Bool) → (stage == (shape_of k).rd) ≡ b → Of 0 (if b then operand_hold older t.asks else None)
-    by_case true e = operand_of (operand_hold older t.asks) (operand_first (test_eq stage (shape_of k).rd e))
+    by_case : (b : Bool) → (stage == (shape_of k).rd) ≡ b → Of 0 (if b then operand_hold (shape_of k) (suc stage) older t.asks else None)
+    by_case true e = operand_of (operand_hold (shape_of k) (suc stage) older t.asks) (operand_first (test_eq stage (shape_of k).rd e))
     by_case false e = λ h q own. let x = operand_kind h q in let w = subst (λ y. Own y) x.2 own in test_ne stage (shape_of k).rd e w.reading
 
   -- Custom registers
@@ -508,7 +605,7 @@ module _ (k : Setting) (ready : IsReady k) (earlier : List Row) (row : Row) (see
   -- The first of a cell's own holds
 
   abbrev operands : Option Hold
-  operands = if stage == (shape_of k).rd then operand_hold older t.asks else None
+  operands = if stage == (shape_of k).rd then operand_hold (shape_of k) (suc stage) older t.asks else None
 
   abbrev boards : Option Hold
   boards = if stage == (shape_of k).rd then board_hold t older else None
@@ -542,7 +639,7 @@ module _ (k : Setting) (ready : IsReady k) (earlier : List Row) (row : Row) (see
 
   waiting_is : waiting_hold (shape_of k) stage t older ≡ or_else operands (or_else boards (or_else customs jumps))
   waiting_is =
-      ap (λ o. or_else o (if stage == (shape_of k).ex then or_else (custom_hold older t.asks) (late_hold older) else None)) (if_or (stage == (shape_of k).rd) (operand_hold older t.asks) (board_hold t older))
+      ap (λ o. or_else o (if stage == (shape_of k).ex then or_else (custom_hold older t.asks) (late_hold older) else None)) (if_or (stage == (shape_of k).rd) (operand_hold (shape_of k) (suc stage) older t.asks) (board_hold t older))
       ∙ ap (λ o. or_else (or_else operands boards) o) (if_or (stage == (shape_of k).ex) (custom_hold older t.asks) (late_hold older))
       ∙ or_assoc operands boards (or_else customs jumps)
 

@@ -13,7 +13,7 @@ use Rattle.rv_engine.specs.Rows.{going, advanced, leaving, first_slot, loaded_by
 use Rattle.rv_machine.specs.Placed.{run, one_more, count, expected, past_ex, IsFuture, IsPlacedSlot, Placed, IsReady, Inv, paid_file}
 use Rattle.rv_machine.specs.Told.{NoStops, Decided}
 use Rattle.rv_machine.proofs.Deciding.{settled_past}
-use Rattle.rv_machine.proofs.Reading.{Alike, alike_self}
+use Rattle.rv_machine.proofs.Alike.{Alike, alike_self}
 use Rattle.rv_machine.proofs.Going.{AreSeen, seen_tail, going_placed, free_ahead}
 use Rattle.rv_machine.proofs.Before.{Turning, turning, alike_trans, alike_drop, alike_future}
 use Rattle.rv_machine.proofs.Clearing.{cleared_drop}

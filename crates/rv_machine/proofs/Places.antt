@@ -150,6 +150,25 @@ one_token rows r (suc n) zero (Some t ∷ older) u v h a b e =
 one_token rows r (suc n) (suc m) (None ∷ older) u v h a b e = one_token rows r n m older u v h a b e
 one_token rows r (suc n) (suc m) (Some t ∷ older) u v h a b e = one_token rows r n m older u v h.1 a b e
 
+-- so a serial stands once
+pub lone_stage : (rows : List Row) (r : ℕ) (seen : Slots) (n m : ℕ) (u v : Token) → Serials rows r seen → slice_get seen n ≡ Some (Some u) → slice_get seen m ≡ Some (Some v) → u.cell.serial ≡ v.cell.serial → n ≡ m
+lone_stage rows r [] n m u v h a b e = cc
+lone_stage rows r (s ∷ older) zero zero u v h a b e = refl
+lone_stage rows r (None ∷ older) zero (suc m) u v h a b e = cc
+lone_stage rows r (Some t ∷ older) zero (suc m) u v h a b e =
+    let same : t ≡ u = cc in
+    let lt = older_lower rows r m t v older h b in
+    let serial = ap (λ (w : Token). w.cell.serial) same in
+    absurd (omega (arith, lt, serial, e))
+lone_stage rows r (None ∷ older) (suc n) zero u v h a b e = cc
+lone_stage rows r (Some t ∷ older) (suc n) zero u v h a b e =
+    let same : t ≡ v = cc in
+    let lt = older_lower rows r n t u older h a in
+    let serial = ap (λ (w : Token). w.cell.serial) same in
+    absurd (omega (arith, lt, serial, e))
+lone_stage rows r (None ∷ older) (suc n) (suc m) u v h a b e = ap suc (lone_stage rows r older n m u v h a b e)
+lone_stage rows r (Some t ∷ older) (suc n) (suc m) u v h a b e = ap suc (lone_stage rows r older n m u v h.1 a b e)
+
 pub serials_drop : (rows : List Row) (r n : ℕ) (seen : Slots) → Serials rows r seen → Serials rows r (drop n seen)
 serials_drop rows r zero seen h = h
 serials_drop rows r (suc n) [] h = tt

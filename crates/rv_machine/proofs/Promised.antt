@@ -19,7 +19,7 @@ use Rattle.rv_lawful.specs.Outstanding.{decoupled, outstanding, outstanding_targ
 use Rattle.rv_lawful.specs.Future.{future_file}
 use Rattle.rv_lawful.specs.Headline.{Agreeing, Headline}
 use Rattle.rv_sight.specs.InUnits.{AreInUnits}
-use Rattle.rv_lawful.specs.Sight.{EarlyLaw, ExactLaw, KeepsLaw, TailLaw}
+use Rattle.rv_lawful.specs.Sight.{EarlyLaw, ExactLaw, KeepsLaw, TailLaw, TimeLaw, JumpLaw}
 use Rattle.rv_machine.specs.Running.{AreRows, machine_at}
 use Rattle.rv_machine.specs.DesignText.{most_targets}
 use Rattle.rv_machine.specs.Promises.{IsRunnable, RowsLaw, StateLaw, ShownLaw, TextLaw}
@@ -35,7 +35,8 @@ use Rattle.rv_machine.proofs.FileTold.{file_told}
 use Rattle.rv_machine.proofs.ShownTold.{shown_told}
 use Rattle.rv_machine.proofs.GoesOn.{goes_on}
 use Rattle.rv_machine.proofs.OneMore.{one_more_row}
-use Rattle.rv_machine.proofs.RunWords.{run_words}
+use Rattle.rv_machine.proofs.RunWords.{run_words, blocks_below, guess_below}
+use Rattle.rv_tried.specs.Tried.{blocks_seen}
 use Rattle.rv_machine.proofs.RunWidths.{run_wide}
 use Rattle.rv_sight.specs.Written.{WrittenLaw}
 
@@ -45,6 +46,8 @@ pub record Sights : Type 0 where
   pub exact : (d : Design) → Stands d → ExactLaw d
   pub keeps : (d : Design) → Stands d → KeepsLaw d
   pub tails : (d : Design) → Stands d → TailLaw d
+  pub times : (d : Design) → Stands d → TimeLaw d
+  pub jumps : (d : Design) → Stands d → JumpLaw d
   pub units : (d : Design) → Stands d → AreInUnits d
   pub written : (d : Design) → Stands d → WrittenLaw d
   pub whole : WholeLaw
@@ -70,6 +73,8 @@ ready_of sights d image waits h =
       exact = sights.exact d h.stands;
       keeps = sights.keeps d h.stands;
       tails = sights.tails d h.stands;
+      times = sights.times d h.stands;
+      jumps = sights.jumps d h.stands;
       in_units = sights.units d h.stands;
       written = sights.written d h.stands;
       whole = sights.whole;
@@ -79,6 +84,7 @@ ready_of sights d image waits h =
       words = λ p. (run_words (view_extension d.extension) image p).registers;
       pcs = λ p. (run_words (view_extension d.extension) image p).pc;
       image = h.words;
+      guesses = λ file memory at word. guess_below d.sheet.shape.predict (blocks_seen (view_extension d.extension) (record { word = word; rs1 = 0; rs2 = 0; pc = at; custom = file }) memory).pc at (blocks_below (view_extension d.extension) _ _).pc;
     }
 
 -- what is known of the rows of a machine, the newest first
@@ -146,12 +152,8 @@ state_law sights d image waits rows h are =
     }
 
 -- the future file of the machine is that which its rows tell
-pub file_is : (k : Setting) → IsReady k → (rows : List Row) → AreRows k rows → (newest rows).stop ≡ None → future_file (tree_of k) (judged k) rows ≡ (machine_at k rows).future
-unfolding machine_at future_file first_state
-file_is k ready [] are going = refl
-file_is k ready (row ∷ earlier) are going =
-    let inv = (known k ready earlier are.2).going are.1 in
-    file_told k ready earlier (machine_at k earlier) row inv are.0 (file_is k ready earlier are.2 are.1) going
+pub file_is : (k : Setting) → IsReady k → (rows : List Row) → AreRows k rows → (newest rows).stop ≡ None → future_file (judged k) rows ≡ (machine_at k rows).future
+file_is k ready rows are going = ((known k ready rows are).going going).file
 
 pub shown_law : Sights → ShownLaw
 shown_law sights d image waits row earlier h are =

@@ -80,7 +80,7 @@ module _ (k : Setting) (ready : IsReady k) (earlier : List Row) (m : Machine) (r
       seen_rest k r 0 n (cleared n l) (drop n l)
       (record {
         placed = cleared_placed k r 0 n l le (B.seen_placed k ready earlier m inv);
-        read = cleared_read k (run k r).x 0 n l le (B.seen_read k ready earlier m inv);
+        read = cleared_read k r 0 n l le (B.seen_read k ready earlier m inv);
         decided = cleared_decided k 0 n l le (B.seen_decided k ready earlier m inv);
         stops = cleared_stops k 0 n l le stops;
         loaded = cleared_loaded k r 0 n l le (B.seen_loaded k ready earlier m inv);

@@ -13,8 +13,8 @@ use Rattle.rv_holds.specs.Flushing.{cleared}
 use Rattle.rv_engine.specs.Settings.{Setting, shape_of}
 use Rattle.rv_engine.specs.Rows.{tried_with, seeing, is_ripe, trying, is_loading, loading}
 use Rattle.rv_machine.proofs.Deciding.{same_test}
-use Rattle.rv_machine.proofs.Reading.{trying_alike, loading_alike, decided_alike}
-use Rattle.rv_machine.proofs.Loading.{waiting_over}
+use Rattle.rv_machine.proofs.Alike.{trying_alike, loading_alike, decided_alike}
+use Rattle.rv_machine.proofs.Over.{waiting_over}
 
 abbrev pub RipeSlot : Setting → ℕ → Option Token → Slots → Type 0
 RipeSlot k stage None older = Unit {0}

@@ -24,6 +24,7 @@ use Rattle.rv_base.specs.declared.operation.Size.TheVariants as S
 use Rattle.rv_base.specs.Operations.{bytes_in, operation_at}
 use Rattle.rv_base.specs.Computing.{computed, sum, bit_of, is_taken}
 use Rattle.rv_base.specs.Effects.{immediate, result_as, target_as, load_as, loaded_as}
+use Rattle.rv_core.specs.Guesses.{guess_of}
 use Rattle.rv_effect.specs.BaseEffects.{base_rd}
 use Rattle.rv_effect.specs.declared.decoded.Decoded.{Decoded}
 use Rattle.rv_effect.specs.declared.decoded.Decoded.TheVariants as D
@@ -227,3 +228,9 @@ pub run_words : (x : ExtensionTree) (image : List ℕ) (p : ℕ) → HoldsWords 
 unfolding run
 run_words x image zero = first_words x
 run_words x image (suc p) = step_words x image (run x image p) (run_words x image p)
+
+-- so is what is guessed: where blocks jump to, or the next word's address
+pub guess_below : (predict : Bool) (jump : Option ℕ) (at : ℕ) → IsBelow jump → guess_of predict jump at < 2 ^ 32
+guess_below true (Some target) at h = h
+guess_below true None at h = below_mod (at + 4)
+guess_below false jump at h = below_mod (at + 4)

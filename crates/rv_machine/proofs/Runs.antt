@@ -73,14 +73,14 @@ blocks_word k ready p word w =
 pub kept_word : (k : Setting) (ready : IsReady k) (p word : ℕ) (c : Commit) → word_at k.image (run k p).pc ≡ Some word → answer k p ≡ Done c → IsKept (asked k.design word) (run k p) word c
 kept_word k ready p word c w h = ready.keeps word (run k p) c (ready.wide p) (ready.words p) (ready.image (run k p).pc word w) (ready.pcs p) (sym (step_word k p word w) ∙ h)
 
-run_done : (k : Setting) (p : ℕ) (c : Commit) → answer k p ≡ Done c → run k (suc p) ≡ applied c (run k p)
+pub run_done : (k : Setting) (p : ℕ) (c : Commit) → answer k p ≡ Done c → run k (suc p) ≡ applied c (run k p)
 run_done k p c h = run_suc k p ∙ ap (λ a. after (run k p) a) h
 
-run_stopped : (k : Setting) (p : ℕ) (stop : Stop) → answer k p ≡ Stopped stop → run k (suc p) ≡ run k p
+pub run_stopped : (k : Setting) (p : ℕ) (stop : Stop) → answer k p ≡ Stopped stop → run k (suc p) ≡ run k p
 run_stopped k p stop h = run_suc k p ∙ ap (λ a. after (run k p) a) h
 
 -- a fact on the state behind a step: where it stops, and where it writes a record
-after_step : (k : Setting) (p : ℕ) (P : Arch → Type 0) → P (run k p) → ((c : Commit) → answer k p ≡ Done c → P (applied c (run k p))) → P (run k (suc p))
+pub after_step : (k : Setting) (p : ℕ) (P : Arch → Type 0) → P (run k p) → ((c : Commit) → answer k p ≡ Done c → P (applied c (run k p))) → P (run k (suc p))
 after_step k p P same done = by_answer (answer k p) refl where
   by_answer : (a : StepAnswer) → answer k p ≡ a → P (run k (suc p))
   by_answer (Done c) h = subst P (sym (run_done k p c h)) (done c h)

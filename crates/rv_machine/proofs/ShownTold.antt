@@ -1,6 +1,6 @@
 -- What a machine shows the modules in a row is what the row shows.
-use Rattle.std.proofs.Common.{◌≡◌, ℕ, zero, suc, ◌+◌, ◌-◌, ◌<◌, ◌≤◌, List, [], ◌∷◌, ◌++◌, drop, length, get_or, map, Option, Some, None, Bool, true, false, refl, sym, ap, ◌∙◌, subst, arith, inl, inr}
-use Rattle.std.specs.Prelude.{◌&&◌, ◌||◌, not, if◌then◌else◌, ◌==◌, is_some, is_none, nat_lt, option_map, slice_get, slice_index}
+use Rattle.std.proofs.Common.{◌≡◌, ◌≢◌, ℕ, zero, suc, ◌+◌, ◌-◌, ◌<◌, ◌≤◌, List, [], ◌∷◌, ◌++◌, drop, length, get_or, map, Option, Some, None, Bool, true, false, refl, sym, ap, ◌∙◌, subst, arith, inl, inr}
+use Rattle.std.specs.Prelude.{◌&&◌, ◌||◌, not, if◌then◌else◌, ◌==◌, is_some, is_none, nat_lt, option_map, slice_get, slice_index, max, unwrap_or}
 use Rattle.std.proofs.lemmas.Bool.{cases_lt}
 use Rattle.std.proofs.lemmas.Bool.Decides.{nat_tests}
 use Rattle.ix_bits.specs.declared.number.Bits.{Bits}
@@ -29,29 +29,35 @@ use Rattle.rv_unit.proofs.Showing.{frozen_law, none_frozen}
 use Rattle.rv_ports.specs.declared.shown.Seat.{Seat}
 use Rattle.rv_ports.specs.declared.shown.Shown.{Shown}
 use Rattle.rv_ports.specs.Drives.{Drives, drives_of, own_number}
-use Rattle.rv_ports.specs.Seats.{is_silent, goes, time_of, seat_in, cell_at, loaded, datum_of, is_frozen as is_unit_frozen, freezes, shown_by}
+use Rattle.rv_ports.specs.Seats.{passed as rows_passed, forwarded as rows_forwarded, filed, operand_of, is_silent, goes, time_of, seat_in, cell_at, loaded, datum_of, is_frozen as is_unit_frozen, freezes, shown_by}
 use Rattle.rv_holds.specs.declared.token.Token.{Token}
 use Rattle.rv_holds.specs.Tokens.{Slots, cell_of, cells_of, stop_of, or_else}
+use Rattle.rv_holds.specs.Forwarding.{x_tried, forwarded}
 use Rattle.rv_holds.specs.Holds.{stops_now, own_hold}
 use Rattle.rv_holds.specs.Flushing.{struck, freed, unheld, cleared, slot_stop, remains}
 use Rattle.rv_engine.specs.Settings.{Setting, Machine, shape_of, tree_of, outstanding_in}
 use Rattle.rv_engine.specs.Rows.{loaded_by, turn_by, seen_by, fetch_by, outstanding_by, is_owing, stop_after, IsRowOf}
-use Rattle.rv_engine.specs.Showing.{time_by, seat_by, slot_seat, load_tried, slot_load, shown_of}
+use Rattle.rv_engine.specs.Showing.{time_by, operand_by, seat_by, slot_seat, load_tried, slot_load, shown_of}
 use Rattle.rv_lawful.specs.Settings as Lawful
 use Rattle.rv_lawful.specs.Settings.{run_trial, is_tail}
 use Rattle.rv_lawful.specs.Outstanding.{architecture, units_after}
+use Rattle.rv_lawful.specs.Forwarding.{x_written, writes_x, reach_of, is_there}
 use Rattle.rv_lawful.specs.Future.{cell_in, future_file}
+use Rattle.rv_core.specs.declared.Shape.{Shape}
 use Rattle.rv_machine.specs.Owing.{judged}
 use Rattle.rv_machine.specs.Placed.{run, count, expected, Placed, Serials, IsPlaced, IsReady, Inv}
 use Rattle.rv_machine.specs.Told.{NoStops}
 use Rattle.rv_machine.proofs.Before as B
 use Rattle.rv_machine.proofs.Clearing.{cleared_drop}
 use Rattle.rv_machine.proofs.Flushing as F
+use Rattle.rv_machine.proofs.Forwarding.{Passes}
+use Rattle.rv_machine.proofs.Holds.{not_flushed}
 use Rattle.rv_machine.proofs.NextRow as N
+use Rattle.rv_machine.proofs.Passing.{seen_passes}
 use Rattle.rv_machine.proofs.Past as P
 use Rattle.rv_machine.proofs.Places.{serials_drop}
-use Rattle.rv_machine.proofs.Reading.{Alike, AlikeSlot, IsAlike}
-use Rattle.rv_machine.proofs.Standing.{placed_drop}
+use Rattle.rv_machine.proofs.Alike.{Alike, AlikeSlot, IsAlike}
+use Rattle.rv_machine.proofs.Standing.{placed_drop, slice_get-drop, cells_drop}
 use Rattle.rv_machine.proofs.Telling as T
 use Rattle.rv_machine.proofs.UnitHolds.{slots_from-one}
 
@@ -84,6 +90,68 @@ unheld_above n zero (s ∷ l) le long = plain_at n (s ∷ l)
 unheld_above n (suc f) [] le long = absurd (omega (arith, long))
 unheld_above zero (suc f) (s ∷ l) le long = absurd (omega (arith, le))
 unheld_above (suc n) (suc f) (s ∷ l) le long = unheld_above n f l (omega (arith, le)) (omega (arith, long))
+
+unheld_drop : (n f : ℕ) (l : Slots) → f ≤ n → f ≤ length l → drop n (unheld f l) ≡ drop n l
+unheld_drop n zero l le long = refl
+unheld_drop n (suc f) [] le long = absurd (omega (arith, long))
+unheld_drop zero (suc f) (s ∷ l) le long = absurd (omega (arith, le))
+unheld_drop (suc n) (suc f) (s ∷ l) le long = unheld_drop n f l (omega (arith, le)) (omega (arith, long))
+
+drop_twice : (a b : ℕ) (l : List (Option Cell)) → drop b (drop a l) ≡ drop (a + b) l
+drop_twice zero b l = (let z : b ≡ 0 + b = omega arith in ap (λ i. drop i l) z)
+drop_twice (suc a) b [] = dropped b (suc a + b) where
+  dropped : (i j : ℕ) → ◌≡◌ {A = List (Option Cell)} (drop i []) (drop j [])
+  dropped zero zero = refl
+  dropped zero (suc j) = refl
+  dropped (suc i) zero = refl
+  dropped (suc i) (suc j) = refl
+drop_twice (suc a) b (s ∷ l) = (let z : suc (a + b) ≡ suc a + b = omega arith in drop_twice a b l ∙ ap (λ i. drop i (s ∷ l)) z)
+
+-- ---- what is passed on
+
+-- flushed cells pass on nothing
+skipped : (d : Drives) (earlier : List Row) (row : Row) (i j stage : ℕ) (l : List (Option Cell)) (value : ℕ) → ((n : ℕ) (c : Cell) → n < j → slice_get l n ≡ Some (Some c) → has_serial row.flushed c.serial ≡ true)
+    → rows_forwarded d earlier row i stage l value ≡ rows_forwarded d earlier row i (stage + j) (drop j l) value
+skipped d earlier row i zero stage l value h = (let z : stage ≡ stage + 0 = omega arith in ap (λ b. rows_forwarded d earlier row i b l value) z)
+skipped d earlier row i (suc j) stage [] value h = refl
+skipped d earlier row i (suc j) stage (None ∷ l) value h =
+    let z : suc stage + j ≡ stage + suc j = omega arith in
+    skipped d earlier row i j (suc stage) l value (λ n c lt e. h (suc n) c (omega (arith, lt)) e) ∙ ap (λ b. rows_forwarded d earlier row i b (drop j l) value) z
+skipped d earlier row i (suc j) stage (Some c ∷ l) value h =
+    let z : suc stage + j ≡ stage + suc j = omega arith in
+    ap (λ (b : Bool). if b then rows_forwarded d earlier row i (suc stage) l value else unwrap_or (rows_passed d earlier row i stage c) (rows_forwarded d earlier row i (suc stage) l value)) (h 0 c (omega arith) refl)
+    ∙ skipped d earlier row i j (suc stage) l value (λ n e lt q. h (suc n) e (omega (arith, lt)) q)
+    ∙ ap (λ b. rows_forwarded d earlier row i b (drop j l) value) z
+
+-- what a cell passes on is what its token does
+same_passed : (w : Asks) (a : Asks) (k : Shape) (i stage reach : ℕ) (o p : Option ℕ) → a ≡ w → (is_there k stage reach a ≡ true → a.destination ≢ 0 → p ≡ o) → (if writes_x w i && is_there k stage reach w then o else None) ≡ (if writes_x a i && is_there k stage reach a then p else None)
+same_passed w a k i stage reach o p e h = ap (λ (x : Asks). if writes_x x i && is_there k stage reach x then o else None) (sym e) ∙ by_case (i == 0) refl (a.destination == i) refl (is_there k stage reach a) refl where
+  some : (x y : ℕ) → (y == 0) ≡ false → (x == y) ≡ true → x ≢ 0
+  some x y f g = λ z. grind (arith, nat_tests)
+
+  by_case : (b : Bool) → (i == 0) ≡ b → (c : Bool) → (a.destination == i) ≡ c → (t : Bool) → is_there k stage reach a ≡ t → (if (not b && c) && t then o else None) ≡ (if (not b && c) && t then p else None)
+  by_case true f c g t q = refl
+  by_case false f false g t q = refl
+  by_case false f true g false q = refl
+  by_case false f true g true q = sym (h q (some a.destination i f g))
+
+same_forwarded : (k : Setting) (earlier : List Row) (row : Row) (i stage : ℕ) (l : Slots) (value : ℕ) → Placed k (retirements earlier) stage l → Passes k true (retirements earlier) stage l → Serials (row ∷ earlier) (retirements earlier) l
+    → rows_forwarded (drives_of k.design k.image k.waits) earlier row i stage (cells_of l) value ≡ forwarded (shape_of k) true i stage l value
+same_forwarded k earlier row i stage [] value placed passes serials = refl
+same_forwarded k earlier row i stage (None ∷ l) value placed passes serials = same_forwarded k earlier row i (suc stage) l value placed.1 passes.1 serials
+same_forwarded k earlier row i stage (Some t ∷ l) value placed passes serials =
+    let d = drives_of k.design k.image k.waits in
+    let rest = same_forwarded k earlier row i (suc stage) l value placed.1 passes.1 serials.1 in
+    ap (λ (b : Bool). if b then rows_forwarded d earlier row i (suc stage) (cells_of l) value else unwrap_or (rows_passed d earlier row i stage t.cell) (rows_forwarded d earlier row i (suc stage) (cells_of l) value)) (not_flushed row earlier t.cell.serial serials.0.1)
+    ∙ ap (λ v. unwrap_or (rows_passed d earlier row i stage t.cell) v) rest
+    ∙ ap (λ p. unwrap_or (if writes_x ((judged k).asks t.cell.word) i && is_there (shape_of k) stage (reach_of stage t.cell.hold) ((judged k).asks t.cell.word) then x_written ((judged k).course.answer p) else None) (forwarded (shape_of k) true i (suc stage) l value)) serials.0.0
+    ∙ ap (λ o. unwrap_or o (forwarded (shape_of k) true i (suc stage) l value))
+    (same_passed ((judged k).asks t.cell.word) t.asks (shape_of k) i stage (reach_of stage t.cell.hold) (x_written ((judged k).course.answer (retirements earlier + count l))) (x_tried t.trial) placed.0.asks passes.0)
+
+pub passes_drop : (k : Setting) (decided : Bool) (r stage n : ℕ) (l : Slots) → Passes k decided r stage l → Passes k decided r (stage + n) (drop n l)
+passes_drop k decided r stage zero l h = (let z : stage ≡ stage + 0 = omega arith in subst (λ b. Passes k decided r b l) z h)
+passes_drop k decided r stage (suc n) [] h = tt
+passes_drop k decided r stage (suc n) (s ∷ l) h = (let z : suc stage + n ≡ stage + suc n = omega arith in subst (λ b. Passes k decided r b (drop n l)) z (passes_drop k decided r (suc stage) n l h.1))
 
 -- where one of two alike lists begins with a token, so does the other
 alike_first : (a b rest : Slots) (t : Token) → Alike a b → b ≡ Some t ∷ rest → (u : Token) × (more : Slots) × (a ≡ Some u ∷ more)
@@ -197,8 +265,67 @@ module _ (k : Setting) (ready : IsReady k) (earlier : List Row) (m : Machine) (r
       let rest : t.asks.tail - t.tail ≡ Lawful.tailed (judged k) earlier t.cell.serial = omega (arith, tail) in
       ap (λ i. if suc n == (shape_of k).stages then n + i else n) rest
 
-  operand_told : (i : ℕ) → slice_index m.arch.x i ≡ slice_index (architecture (tree_of k) (judged k) earlier).x i
-  operand_told i = ap (λ (s : Arch). slice_index s.x i) (sym inv.state)
+  filed_told : (i : ℕ) → slice_index m.arch.x i ≡ filed d earlier i
+  filed_told i = ap (λ (s : Arch). slice_index s.x i) (sym inv.state)
+
+  -- what is older than a token and not flushed stands from this stage on
+  pub operand_told : (n i : ℕ) → operand_by (shape_of k) m.arch.x (struck (turn_by k m)) (loaded_by k m) n i ≡ operand_of d earlier row n i
+  operand_told n i = by_case (shape_of k).forward where
+    from : ℕ
+    from = max (suc n) flushed
+
+    more : ℕ
+    more = max (suc n) flushed - suc n
+
+    from_is : suc n + more ≡ from
+    from_is = grind arith
+
+    above : flushed ≤ from
+    above = grind arith
+
+    -- the tokens from there on
+    kept : drop from (seen_by k m) ≡ drop from (loaded_by k m)
+    kept = cleared_drop flushed from (loaded_by k m) above inside
+
+    tokens : (value : ℕ) → rows_forwarded d earlier row i from (cells_of (drop from (loaded_by k m))) value ≡ forwarded (shape_of k) true i from (drop from (loaded_by k m)) value
+    tokens value =
+        let z : 0 + from ≡ from = omega arith in
+        let placed : Placed k r from (drop from (seen_by k m)) = subst (λ b. Placed k r b (drop from (seen_by k m))) z (placed_drop k r 0 from (seen_by k m) (B.seen_placed k ready earlier m inv)) in
+        let passes : Passes k true r from (drop from (seen_by k m)) =
+        subst (λ b. Passes k true r b (drop from (seen_by k m))) z
+        (passes_drop k true r 0 from (seen_by k m)
+        (seen_passes k ready r 0 (seen_by k m) (B.seen_placed k ready earlier m inv) (B.seen_decided k ready earlier m inv) (B.seen_loaded k ready earlier m inv) (B.seen_ripe k ready earlier m inv))) in
+        let serials = serials_drop (row ∷ earlier) r from (seen_by k m) (F.seen_serials k ready earlier m row inv is) in
+        same_forwarded k earlier row i from (drop from (loaded_by k m)) value
+        (subst (λ l. Placed k r from l) kept placed) (subst (λ l. Passes k true r from l) kept passes) (subst (λ l. Serials (row ∷ earlier) r l) kept serials)
+
+    -- the row has their cells, behind flushed ones
+    gone : (j : ℕ) (c : Cell) → j < more → slice_get (drop (suc n) (Lawful.stages_of (judged k) row)) j ≡ Some (Some c) → has_serial row.flushed c.serial ≡ true
+    gone j c lt e =
+        let below : suc n + j < flushed = grind arith in
+        (F.stands_flushed k ready earlier m row inv is (suc n + j) c below (sym (slice_get-drop (Lawful.stages_of (judged k) row) (suc n) j) ∙ e)).1
+
+    cells : drop more (drop (suc n) (Lawful.stages_of (judged k) row)) ≡ cells_of (drop from (loaded_by k m))
+    cells =
+        drop_twice (suc n) more (Lawful.stages_of (judged k) row)
+        ∙ ap (λ b. drop b (Lawful.stages_of (judged k) row)) from_is
+        ∙ ap (λ l. drop from l) is.cells
+        ∙ cells_drop from (unheld flushed (loaded_by k m))
+        ∙ ap cells_of (unheld_drop from flushed (loaded_by k m) above inside)
+
+    by_rows : (value : ℕ) → rows_forwarded d earlier row i (suc n) (drop (suc n) (Lawful.stages_of (judged k) row)) value ≡ forwarded (shape_of k) true i from (drop from (loaded_by k m)) value
+    by_rows value =
+        skipped d earlier row i more (suc n) (drop (suc n) (Lawful.stages_of (judged k) row)) value gone
+        ∙ ap (λ b. rows_forwarded d earlier row i b (drop more (drop (suc n) (Lawful.stages_of (judged k) row))) value) from_is
+        ∙ ap (λ l. rows_forwarded d earlier row i from l value) cells
+        ∙ tokens value
+
+    by_case : (b : Bool)
+        → (if b then forwarded (shape_of k) true i from (drop from (loaded_by k m)) (slice_index m.arch.x i) else slice_index m.arch.x i)
+        ≡ (if b then rows_forwarded d earlier row i (suc n) (drop (suc n) (Lawful.stages_of (judged k) row)) (filed d earlier i) else filed d earlier i)
+    by_case true =
+        sym (by_rows (slice_index m.arch.x i)) ∙ ap (λ v. rows_forwarded d earlier row i (suc n) (drop (suc n) (Lawful.stages_of (judged k) row)) v) (filed_told i)
+    by_case false = filed_told i
 
   number_told : (n : ℕ) (t : Token) → get_or (loaded_by k m) n None ≡ Some t → own_number t.decoded ≡ own_number (decoded_in (tree_of k) t.cell.word)
   number_told n t e = ap own_number (token_placed n t e).decoded
@@ -280,12 +407,12 @@ module _ (k : Setting) (ready : IsReady k) (earlier : List Row) (m : Machine) (r
 
   -- what a token shows that is flushed
   flushed_seat : (n : ℕ) (t : Token) → get_or (loaded_by k m) n None ≡ Some t → n < struck (turn_by k m)
-      → option_map (seat_by (shape_of k) m.arch.x (struck (turn_by k m)) n (drop (suc n) (loaded_by k m))) (Some t) ≡ seat_in d earlier row n (cell_of (freed (Some t)))
+      → option_map (seat_by (shape_of k) m.arch.x (struck (turn_by k m)) (loaded_by k m) n) (Some t) ≡ seat_in d earlier row n (cell_of (freed (Some t)))
   flushed_seat n t e lt =
       let below = below_true n (struck (turn_by k m)) lt in
       let gone = F.flushes_first k ready earlier m row inv is n t lt (slice_of (loaded_by k m) n t e) in
       ap (λ s. Some s)
-      (same_seat _ _ (number_told n t e) (time_told n t e) refl refl (operand_told (rs1_of t.cell.word)) (operand_told (rs2_of t.cell.word))
+      (same_seat _ _ (number_told n t e) (time_told n t e) refl refl (operand_told n (rs1_of t.cell.word)) (operand_told n (rs2_of t.cell.word))
       (ap (λ (b : Bool). is_silent t.cell.hold && not b) below ∙ and_false (is_silent t.cell.hold))
       (ap (λ (b : Bool). is_tail t.cell.hold && not b) below ∙ and_false (is_tail t.cell.hold))
       (ap (λ (b : Bool). (is_none t.cell.hold && not b) && not (stops_now (shape_of k) n t (drop (suc n) (loaded_by k m)))) below
@@ -294,12 +421,12 @@ module _ (k : Setting) (ready : IsReady k) (earlier : List Row) (m : Machine) (r
 
   -- and one that is left
   left_seat : (n : ℕ) (t : Token) → get_or (loaded_by k m) n None ≡ Some t → struck (turn_by k m) ≤ n
-      → option_map (seat_by (shape_of k) m.arch.x (struck (turn_by k m)) n (drop (suc n) (loaded_by k m))) (Some t) ≡ seat_in d earlier row n (cell_of (Some t))
+      → option_map (seat_by (shape_of k) m.arch.x (struck (turn_by k m)) (loaded_by k m) n) (Some t) ≡ seat_in d earlier row n (cell_of (Some t))
   left_seat n t e le =
       let above = below_false n (struck (turn_by k m)) le in
       let kept = F.none_below k ready earlier m row inv is n t le (slice_of (loaded_by k m) n t e) t.cell.serial (omega arith) in
       ap (λ s. Some s)
-      (same_seat _ _ (number_told n t e) (time_told n t e) refl refl (operand_told (rs1_of t.cell.word)) (operand_told (rs2_of t.cell.word))
+      (same_seat _ _ (number_told n t e) (time_told n t e) refl refl (operand_told n (rs1_of t.cell.word)) (operand_told n (rs2_of t.cell.word))
       (ap (λ (b : Bool). is_silent t.cell.hold && not b) above ∙ and_true (is_silent t.cell.hold))
       (ap (λ (b : Bool). is_tail t.cell.hold && not b) above ∙ and_true (is_tail t.cell.hold))
       (ap (λ (b : Bool). (is_none t.cell.hold && not b) && not (stops_now (shape_of k) n t (drop (suc n) (loaded_by k m)))) above
@@ -323,7 +450,7 @@ module _ (k : Setting) (ready : IsReady k) (earlier : List Row) (m : Machine) (r
     | inr le ↦ above le (get_or (loaded_by k m) n None) refl ∙ sym (ap (seat_in d earlier row n) (cell_is n ∙ unheld_above n (struck (turn_by k m)) (loaded_by k m) le inside))
   ] where
     by : Option Token → Option Seat
-    by s = option_map (seat_by (shape_of k) m.arch.x (struck (turn_by k m)) n (drop (suc n) (loaded_by k m))) s
+    by s = option_map (seat_by (shape_of k) m.arch.x (struck (turn_by k m)) (loaded_by k m) n) s
 
     below : n < struck (turn_by k m) → (s : Option Token) → get_or (loaded_by k m) n None ≡ s → by (get_or (loaded_by k m) n None) ≡ seat_in d earlier row n (cell_of (freed (get_or (loaded_by k m) n None)))
     below lt None e = ap by e ∙ sym (ap (λ s. seat_in d earlier row n (cell_of (freed s))) e)
@@ -411,7 +538,7 @@ module _ (k : Setting) (ready : IsReady k) (earlier : List Row) (m : Machine) (r
       ∙ ap (λ v. shows b.seats b.custom v a.frozen) g
       ∙ ap (λ v. shows b.seats b.custom b.datum v) h
 
-  pub shown_told : future_file (tree_of k) (judged k) earlier ≡ m.future → shown_of k m ≡ shown_by d earlier row
+  pub shown_told : future_file (judged k) earlier ≡ m.future → shown_of k m ≡ shown_by d earlier row
   unfolding shown_by
   shown_told file =
       same_shown _ _

@@ -5,7 +5,7 @@ use Rattle.std.proofs.lemmas.Bool.{cases_lt}
 use Rattle.rv_trace.specs.declared.row.Cell.{Cell}
 use Rattle.rv_trace.specs.declared.row.Row.{Row}
 use Rattle.rv_trace.specs.Trace.{place, has_serial, retirements}
-use Rattle.rv_trace.specs.RowParts.{name_of, leaves, front, address_after, unless}
+use Rattle.rv_trace.specs.RowParts.{name_of, leaves, front, unless}
 use Rattle.rv_asks.specs.declared.asks.Asks.{Asks}
 use Rattle.rv_holds.specs.declared.token.Token.{Token}
 use Rattle.rv_holds.specs.declared.flushing.Turn.{Turn}
@@ -17,9 +17,10 @@ use Rattle.rv_engine.specs.Rows as Rows
 use Rattle.rv_engine.specs.Rows.{loaded_by, turn_by, seen_by, fetch_by, IsRowOf}
 use Rattle.rv_lawful.specs.Settings as Lawful
 use Rattle.rv_lawful.specs.Sight.{asked}
-use Rattle.rv_lawful.specs.LawfulTrace.{plain_fetch, fetch_address, StopsRun, IsSettlingStage, Settles, successor, IsNextYounger, HasNoYounger, IsMismatch, Successors}
+use Rattle.rv_lawful.specs.LawfulTrace.{guessed, plain_fetch, fetch_address, StopsRun, IsSettlingStage, Settles, successor, IsNextYounger, HasNoYounger, IsMismatch, Successors}
 use Rattle.rv_machine.specs.Owing.{judged}
 use Rattle.rv_machine.specs.Placed.{run, Placed, IsReady}
+use Rattle.rv_machine.proofs.Before as B
 use Rattle.rv_machine.proofs.Deciding.{same_test, test_eq, test_ne}
 use Rattle.rv_machine.specs.Made.{Made}
 use Rattle.rv_machine.proofs.Standing.{here_of, At, at_stage, cell_here}
@@ -198,9 +199,9 @@ module _ (k : Setting) (ready : IsReady k) (earlier : List Row) (m : Machine) (r
   none_leaves (Some c ∷ l) f = absurd (f c refl)
 
   -- with no younger cell the fetch address stands next
-  alone_next : (stage : ℕ) → 0 < stage → HasNoYounger (judged k) row stage → nearest m.fetch (take stage (loaded_by k m)) ≡ plain_fetch (judged k) (fetch_address (judged k) earlier) row
+  alone_next : (stage : ℕ) → 0 < stage → HasNoYounger (judged k) row stage → nearest m.fetch (take stage (loaded_by k m)) ≡ plain_fetch (judged k) earlier (fetch_address (judged k) earlier) row
   alone_next stage some alone = elim (oldest_of (take stage (loaded_by k m)) m.fetch) [
-    | inl x ↦ x.0 ∙ made.inv.fetch_is ∙ sym (ap (λ o. address_after (fetch_address (judged k) earlier) o) (none_leaves (Lawful.stages_of (judged k) row) (λ d q. alone 0 d some q)))
+    | inl x ↦ x.0 ∙ made.inv.fetch_is ∙ sym (ap (λ o. guessed (judged k) earlier (fetch_address (judged k) earlier) o) (none_leaves (Lawful.stages_of (judged k) row) (λ d q. alone 0 d some q)))
     | inr y ↦ let b = token_below stage y.index y.token y.here_is in absurd (alone y.index b.1.0 b.0 b.1.1)
   ]
 
@@ -305,16 +306,16 @@ module _ (k : Setting) (ready : IsReady k) (earlier : List Row) (m : Machine) (r
   pub fetch_now : fetch_by k m ≡ fetch_address (judged k) (row ∷ earlier)
   unfolding fetch_address
   fetch_now = by_case (turn_by k m) refl where
-    by_case : (o : Option Turn) → turn_by k m ≡ o → fetch_by k m ≡ unless row.redirect (plain_fetch (judged k) (fetch_address (judged k) earlier) row)
+    by_case : (o : Option Turn) → turn_by k m ≡ o → fetch_by k m ≡ unless row.redirect (plain_fetch (judged k) earlier (fetch_address (judged k) earlier) row)
     by_case (Some turn) e =
         ap (λ o. Rows.unless (redirect_of o) (fetch_after m.fetch (seen_by k m))) e
-        ∙ sym (ap (λ o. unless o (plain_fetch (judged k) (fetch_address (judged k) earlier) row)) (made.is.redirect ∙ ap redirect_of e))
+        ∙ sym (ap (λ o. unless o (plain_fetch (judged k) earlier (fetch_address (judged k) earlier) row)) (made.is.redirect ∙ ap redirect_of e))
     by_case None e =
         ap (λ o. Rows.unless (redirect_of o) (fetch_after m.fetch (seen_by k m))) e
-        ∙ fetch_told row m.fetch (seen_by k m) (keeps_all row (seen_by k m) made.kept)
-        ∙ ap (λ c. address_after m.fetch (leaves row c)) (sym front_same)
-        ∙ ap (λ n. address_after n (leaves row (front (Lawful.stages_of (judged k) row)))) made.inv.fetch_is
-        ∙ sym (ap (λ o. unless o (plain_fetch (judged k) (fetch_address (judged k) earlier) row)) (made.is.redirect ∙ ap redirect_of e)) where
+        ∙ fetch_told k earlier row m.fetch (seen_by k m) (keeps_all row (seen_by k m) made.kept) (B.seen_first k ready earlier m made.inv)
+        ∙ ap (λ c. guessed (judged k) earlier m.fetch (leaves row c)) (sym front_same)
+        ∙ ap (λ n. guessed (judged k) earlier n (leaves row (front (Lawful.stages_of (judged k) row)))) made.inv.fetch_is
+        ∙ sym (ap (λ o. unless o (plain_fetch (judged k) earlier (fetch_address (judged k) earlier) row)) (made.is.redirect ∙ ap redirect_of e)) where
           front_same : front (Lawful.stages_of (judged k) row) ≡ front (cells_of (seen_by k m))
           front_same =
               let n : flushed ≡ 0 = ap struck e in

@@ -69,7 +69,7 @@ last_hold k stage t e f g =
     ∙ ap (λ o. or_else (if stage == k.mem then o else None) (ending_hold t)) (or_right (memory_hold t)) where
       own_by : Bool → Bool → Bool → Option Hold
       own_by a b c =
-          or_else (or_else (if a then reading_hold t [] else None) (if b then or_else (custom_hold [] t.asks) (late_hold []) else None))
+          or_else (or_else (if a then reading_hold k stage t [] else None) (if b then or_else (custom_hold [] t.asks) (late_hold []) else None))
           (or_else (if b then drain_hold t [] else None)
           (or_else (if stage == k.mem then or_else (memory_hold t) (store_hold [] t.asks) else None)
           (if c then ending_hold t else None)))

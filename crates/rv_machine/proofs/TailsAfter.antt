@@ -8,7 +8,7 @@ use Rattle.rv_trace.specs.declared.row.Hold.{Hold}
 use Rattle.rv_trace.specs.declared.row.Hold.TheVariants as H
 use Rattle.rv_holds.specs.declared.token.Token.{Token}
 use Rattle.rv_holds.specs.Tokens.{Slots, or_else, stop_of, cells_of}
-use Rattle.rv_holds.specs.Holds.{oldest, operand, does_write, waits_for, operand_hold, custom, writes_late, waits_for_custom, first_from, custom_hold, late, is_late, late_hold, waiting_hold, drain, drain_hold, store_ahead, does_store, store_hold, memory_hold, own_hold, stops_now, is_blocked, shown, board, reading_hold, left_behind, board_hold, ending_hold, lower_of, least_from, spawner, register_count}
+use Rattle.rv_holds.specs.Holds.{oldest, operand, withholder, waits_for, operand_hold, custom, writes_late, waits_for_custom, first_from, custom_hold, late, is_late, late_hold, waiting_hold, drain, drain_hold, store_ahead, does_store, store_hold, memory_hold, own_hold, stops_now, is_blocked, shown, board, reading_hold, left_behind, board_hold, ending_hold, lower_of, least_from, spawner, register_count}
 use Rattle.rv_engine.specs.Settings.{Setting, Machine, shape_of, outstanding_in}
 use Rattle.rv_engine.specs.Rows.{tail_after, advanced, seen_by, IsRowOf}
 use Rattle.rv_lawful.specs.Settings as Lawful
@@ -77,15 +77,15 @@ plain_first : (f : ℕ → Option Hold) (r n : ℕ) → ((i : ℕ) → IsPlain (
 plain_first f r zero p = refl
 plain_first f r (suc n) p = plain_or (f r) (first_from f (suc r) n) (p r) (plain_first f (suc r) n p)
 
-plain_waits : (r : ℕ) (older : Slots) → IsPlain (waits_for r older)
-plain_waits r older = plain_unless (r == 0) (operand r (oldest (does_write r) older)) (plain_operand r (oldest (does_write r) older))
+plain_waits : (k : Shape) (r stage : ℕ) (older : Slots) → IsPlain (waits_for k r stage older)
+plain_waits k r stage older = plain_unless (r == 0) (operand r (withholder k r stage older)) (plain_operand r (withholder k r stage older))
 
 plain_waiting : (k : Shape) (stage : ℕ) (t : Token) (older : Slots) → IsPlain (waiting_hold k stage t older)
 plain_waiting k stage t older =
-    plain_or (if stage == k.rd then reading_hold t older else None) (if stage == k.ex then or_else (custom_hold older t.asks) (late_hold older) else None)
-    (plain_if (stage == k.rd) (reading_hold t older)
-    (plain_or (operand_hold older t.asks) (board_hold t older)
-    (plain_or (waits_for (min t.asks.first t.asks.second) older) (waits_for (max t.asks.first t.asks.second) older) (plain_waits (min t.asks.first t.asks.second) older) (plain_waits (max t.asks.first t.asks.second) older))
+    plain_or (if stage == k.rd then reading_hold k stage t older else None) (if stage == k.ex then or_else (custom_hold older t.asks) (late_hold older) else None)
+    (plain_if (stage == k.rd) (reading_hold k stage t older)
+    (plain_or (operand_hold k (suc stage) older t.asks) (board_hold t older)
+    (plain_or (waits_for k (min t.asks.first t.asks.second) (suc stage) older) (waits_for k (max t.asks.first t.asks.second) (suc stage) older) (plain_waits k (min t.asks.first t.asks.second) (suc stage) older) (plain_waits k (max t.asks.first t.asks.second) (suc stage) older))
     (plain_board (lower_of t.beside.board (least_from (spawner older t.asks) 0 register_count)))))
     (plain_if (stage == k.ex) (or_else (custom_hold older t.asks) (late_hold older))
     (plain_or (custom_hold older t.asks) (late_hold older)

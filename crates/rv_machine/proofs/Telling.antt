@@ -16,7 +16,7 @@ use Rattle.rv_holds.specs.Holds.{decided, waiting_hold}
 use Rattle.rv_holds.specs.Flushing.{struck}
 use Rattle.rv_engine.specs.Owing.{Outstanding}
 use Rattle.rv_engine.specs.Settings.{Setting, Machine, shape_of, tree_of, outstanding_in}
-use Rattle.rv_engine.specs.Rows.{tried_with, seeing, is_ripe, with_operands, reading, trying, is_loading, loading, fetched, fill_first, owed_by, new_by, read_by, held_by, loaded_by, turn_by, seen_by, IsRowOf}
+use Rattle.rv_engine.specs.Rows.{tried_with, seeing, is_ripe, slot_operands, read_with, reading, trying, is_loading, loading, fetched, fill_first, filled_by, owed_by, new_by, read_by, held_by, loaded_by, turn_by, seen_by, IsRowOf}
 use Rattle.rv_lawful.specs.Settings as Lawful
 use Rattle.rv_lawful.specs.LawfulTrace.{IsWordOf}
 use Rattle.rv_machine.specs.Owing.{judged}
@@ -24,7 +24,7 @@ use Rattle.rv_machine.specs.Placed.{count, expected, IsTried, IsPlaced, Placed, 
 use Rattle.rv_machine.proofs.Deciding.{test_eq, same_test}
 use Rattle.rv_machine.proofs.Standing.{here_of, drop_more}
 use Rattle.rv_machine.proofs.Moving.{filled_from}
-use Rattle.rv_machine.proofs.Reading.{Alike, alike_count, reading_alike, trying_alike, decided_alike, loading_alike}
+use Rattle.rv_machine.proofs.Alike.{Alike, alike_count, reading_alike, trying_alike, decided_alike, loading_alike}
 use Rattle.rv_machine.proofs.Ripe.{Ripe}
 use Rattle.rv_machine.proofs.Clearing.{cleared_drop}
 use Rattle.rv_machine.proofs.Before as B
@@ -55,7 +55,7 @@ reading_waits : (k : Setting) (ready : IsReady k) (x : List ℕ) (owed : ℕ) (o
 reading_waits k ready x owed o r stage [] h = tt
 reading_waits k ready x owed o r stage (None ∷ older) h = (tt, reading_waits k ready x owed o r (suc stage) older h.1)
 reading_waits k ready x owed o r stage (Some t ∷ older) h = (
-  over_count k r owed stage older (reading (shape_of k) x owed o (suc stage) older) (with_operands (shape_of k) x owed o stage (Some t)) (reading_alike (shape_of k) x owed o (suc stage) older) here,
+  over_count k r owed stage older (reading (shape_of k) x owed o (suc stage) older) (Some (read_with (shape_of k) (slot_operands (shape_of k) stage (Some t) older x) owed o stage t)) (reading_alike (shape_of k) x owed o (suc stage) older) here,
   reading_waits k ready x owed o r (suc stage) older h.1,
 ) where
   here : stage ≡ (shape_of k).mem → (if (stage == (shape_of k).mem) && makes_access t then owed else 0) ≡ (if accesses k (r + count older) then owed else 0)
@@ -167,7 +167,7 @@ module _ (k : Setting) (ready : IsReady k) (earlier : List Row) (m : Machine) (r
       loading_waits k (tree_of k) m.arch.mem owed r 0 (held_by k m)
       (decided_waits k owed r 0 tried_slots
       (trying_waits k (tree_of k) m.future m.arch.mem owed r 0 (read_by k m)
-      (reading_waits k ready m.arch.x owed (outstanding_in k m) r 0 (fill_first (new_by k m) m.slots) (B.filled_placed k ready earlier m inv))))
+      (reading_waits k ready m.arch.x owed (outstanding_in k m) r 0 (filled_by k m) (B.filled_placed k ready earlier m inv))))
 
   mem_loaded : (t : Token) (older : Slots) → drop (shape_of k).mem (seen_by k m) ≡ Some t ∷ older → (struck (turn_by k m) ≤ (shape_of k).mem) × (drop (shape_of k).mem (loaded_by k m) ≡ Some t ∷ older)
   mem_loaded t older e =

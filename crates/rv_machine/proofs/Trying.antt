@@ -30,8 +30,10 @@ use Rattle.rv_machine.specs.Placed.{run, count, expected, pending_in_answer, pai
 use Rattle.rv_machine.proofs.Deciding.{or_else_none, or_else_none_b, test_eq, waits_operand, waits_board, waits_custom, waits_late, address_of_run}
 use Rattle.rv_machine.proofs.Asking.{used_few}
 use Rattle.rv_machine.proofs.Runs.{answer, step_word, access_word, trial_word}
-use Rattle.rv_machine.proofs.Reading.{ReadSlot, Read, first_few, second_few, placed_alike, trying_alike}
-use Rattle.rv_machine.proofs.Operands.{on_path, operands_ready}
+use Rattle.rv_lawful.specs.Forwarding.{x_written}
+use Rattle.rv_machine.proofs.Alike.{trying_alike, trying_guesses}
+use Rattle.rv_machine.proofs.Reading.{HasOperands, ReadSlot, Read, placed_alike}
+use Rattle.rv_machine.proofs.Operands.{on_path}
 use Rattle.rv_machine.proofs.Unboarded.{board_parts}
 use Rattle.rv_engine.specs.declared.owing.Owed.{Owed}
 use Rattle.rv_engine.specs.Owing.{holder, board_of}
@@ -56,6 +58,10 @@ early_trial k ready p t i memory same asks w wide words seen =
       accesses = ap (λ o. (tried x i memory o).accesses) same ∙ c.accesses ∙ sym (access_word k p word w);
       load = ap (λ o. (tried x i memory o).load) same ∙ c.load ∙ sym (ap (λ (o : Trial). o.load) (trial_word k p word w));
       blocks = ap (λ o. (tried x i memory o).blocks) same ∙ c.blocks ∙ sym (ap (λ (o : Trial). o.blocks) (trial_word k p word w));
+      x = λ ne lt.
+          ap (λ o. x_written (tried x i memory o).answer) same
+          ∙ c.x (λ z. ne (ap (λ (a : Asks). a.destination) asks ∙ z)) (subst (λ (a : Asks). a.x_time < (shape_of k).mem) asks lt)
+          ∙ ap x_written (sym (step_word k p word w));
     }
 
 pub exact_trial : (k : Setting) (ready : IsReady k) (p : ℕ) (t : Token) (i : State) (memory : List ℕ) → t.decoded ≡ decoded_in (tree_of k) t.cell.word → t.asks ≡ asked k.design t.cell.word → word_at k.image (run k p).pc ≡ Some t.cell.word
@@ -157,7 +163,7 @@ Boards k owed stage (s ∷ older) = BoardSlot k owed stage s × Boards k owed (s
 -- ---- the token of EX, tried
 
 module _ (k : Setting) (ready : IsReady k) (r stage : ℕ) (older : Slots) (t : Token) (memory : List ℕ) (future : List Bits)
-    (here : IsPlaced k (r + count older) (expected k r (suc stage) older) stage older t) (behind : Placed k r (suc stage) older) (read : ReadSlot k (run k r).x stage (Some t)) (at_ex : stage ≡ (shape_of k).ex)
+    (here : IsPlaced k (r + count older) (expected k r (suc stage) older) stage older t) (behind : Placed k r (suc stage) older) (read : ReadSlot k r stage (Some t) older) (at_ex : stage ≡ (shape_of k).ex)
     (free : waiting_hold (shape_of k) stage t older ≡ None) (paid : List Bits) (file : IsFuture k r paid older) (wide : AreWide (tree_of k) future) (owed : List Owed) (same : UnowedFile owed paid future) (apart : (shape_of k).rd < stage → IsApart owed older t) (board : BoardAt k owed stage t) where
   no_late : oldest is_late older ≡ None
   no_late = late_clear older (waits_late (shape_of k) stage t older free at_ex)
@@ -175,37 +181,25 @@ module _ (k : Setting) (ready : IsReady k) (r stage : ℕ) (older : Slots) (t : 
   unboarded : stage ≡ (shape_of k).rd → (t.beside.board ≡ None) × (least_from (spawner older t.asks) 0 register_count ≡ None)
   unboarded e = board_parts t older (waits_board (shape_of k) stage t older free e)
 
-  free_board : stage ≡ (shape_of k).rd → t.beside.board ≡ None
-  free_board e = (unboarded e).0
-
-  ready_operands : stage ≡ (shape_of k).rd
-      → (t.asks.first < 32 → slice_index (run k r).x t.asks.first ≡ slice_index (run k (r + count older)).x t.asks.first) × (t.asks.second < 32 → slice_index (run k r).x t.asks.second ≡ slice_index (run k (r + count older)).x t.asks.second)
-  ready_operands e =
-      operands_ready k ready r (suc stage) older t.asks (omega (arith, at_ex)) behind (on_path k r (suc stage) older (omega (arith, at_ex)) behind) (waits_operand (shape_of k) stage t older free e) (unboarded e).1
+  -- so where this is RD it has read the run's operands
+  has_read : stage ≡ (shape_of k).rd → HasOperands (run k (r + count older)).x t.asks t.inputs
+  has_read e =
+      let b = unboarded e in
+      read e b.0 (on_path k r (suc stage) older (omega (arith, at_ex)) behind) (waits_operand (shape_of k) stage t older free e) b.1
 
   first_is : rs1_of t.cell.word ≡ t.asks.first → t.inputs.rs1 ≡ slice_index (run k (r + count older)).x (rs1_of t.cell.word)
   first_is e = by_case (stage == (shape_of k).rd) refl where
     by_case : (b : Bool) → (stage == (shape_of k).rd) ≡ b → t.inputs.rs1 ≡ slice_index (run k (r + count older)).x (rs1_of t.cell.word)
     by_case false q = here.first (past_rd stage (shape_of k).rd (shape_of k).ex q ready.rd_ex at_ex) e
     by_case true q =
-        let same = test_eq stage (shape_of k).rd q in
-        (read same (free_board same)).0 (ap rs1_of here.input_word ∙ e)
-        ∙ ap (λ w. slice_index (run k r).x (rs1_of w)) here.input_word
-        ∙ ap (λ n. slice_index (run k r).x n) e
-        ∙ (ready_operands same).0 (subst (λ n. n < 32) e (first_few t.cell.word))
-        ∙ ap (λ n. slice_index (run k (r + count older)).x n) (sym e)
+        (has_read (test_eq stage (shape_of k).rd q)).0 (ap rs1_of here.input_word ∙ e) ∙ ap (λ w. slice_index (run k (r + count older)).x (rs1_of w)) here.input_word
 
   second_is : rs2_of t.cell.word ≡ t.asks.second → t.inputs.rs2 ≡ slice_index (run k (r + count older)).x (rs2_of t.cell.word)
   second_is e = by_case (stage == (shape_of k).rd) refl where
     by_case : (b : Bool) → (stage == (shape_of k).rd) ≡ b → t.inputs.rs2 ≡ slice_index (run k (r + count older)).x (rs2_of t.cell.word)
     by_case false q = here.second (past_rd stage (shape_of k).rd (shape_of k).ex q ready.rd_ex at_ex) e
     by_case true q =
-        let same = test_eq stage (shape_of k).rd q in
-        (read same (free_board same)).1 (ap rs2_of here.input_word ∙ e)
-        ∙ ap (λ w. slice_index (run k r).x (rs2_of w)) here.input_word
-        ∙ ap (λ n. slice_index (run k r).x n) e
-        ∙ (ready_operands same).1 (subst (λ n. n < 32) e (second_few t.cell.word))
-        ∙ ap (λ n. slice_index (run k (r + count older)).x n) (sym e)
+        (has_read (test_eq stage (shape_of k).rd q)).1 (ap rs2_of here.input_word ∙ e) ∙ ap (λ w. slice_index (run k (r + count older)).x (rs2_of w)) here.input_word
 
   -- it touches nothing that is owed
   is_apart : IsApart owed older t
@@ -252,6 +246,7 @@ module _ (k : Setting) (ready : IsReady k) (r stage : ℕ) (older : Slots) (t : 
         input_pc = here.input_pc;
         words = words_are;
         wide = wide;
+        guess = here.guess;
         first = here.first;
         second = here.second;
         untried = λ lt. absurd (omega (arith, lt, at_ex));
@@ -290,7 +285,7 @@ ripe_parts k stage t older h = by_case (stage == k.ex) (is_none t.trial) (waitin
   by_case true false o e w q = cc
   by_case false b o e w q = cc
 
-pub trying_placed : (k : Setting) (ready : IsReady k) (r stage : ℕ) (slots : Slots) (memory : List ℕ) (future paid : List Bits) (owed : List Owed) → UnowedFile owed paid future → AreWide (tree_of k) future → Placed k r stage slots → Read k (run k r).x stage slots → AtEx k r paid stage slots
+pub trying_placed : (k : Setting) (ready : IsReady k) (r stage : ℕ) (slots : Slots) (memory : List ℕ) (future paid : List Bits) (owed : List Owed) → UnowedFile owed paid future → AreWide (tree_of k) future → Placed k r stage slots → Read k r stage slots → AtEx k r paid stage slots
     → Apart k owed stage slots → Boards k owed stage slots
     → Placed k r stage (trying (tree_of k) (shape_of k) future memory stage slots)
 trying_placed k ready r stage [] memory future paid owed same wide h read f away boards = tt
@@ -300,7 +295,7 @@ trying_placed k ready r stage (Some t ∷ older) memory future paid owed same wi
   later = trying (tree_of k) (shape_of k) future memory (suc stage) older
 
   over : (u : Token) → IsPlaced k (r + count older) (expected k r (suc stage) older) stage older u → IsPlaced k (r + count later) (expected k r (suc stage) later) stage later u
-  over u i = placed_alike k r stage older later u (trying_alike (tree_of k) (shape_of k) future memory (suc stage) older) i
+  over u i = placed_alike k r stage older later u (trying_alike (tree_of k) (shape_of k) future memory (suc stage) older) (trying_guesses (tree_of k) (shape_of k) future memory (suc stage) older) i
 
   by_case : (b : Bool) → is_ripe (shape_of k) stage t older ≡ b → IsPlacedSlot k (r + count later) (expected k r (suc stage) later) stage later (if b then Some (tried_with (tree_of k) memory (seeing future t.inputs) t) else Some t)
   by_case true e =

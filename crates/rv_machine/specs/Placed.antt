@@ -1,8 +1,9 @@
 -- Where the tokens of a pipeline with an extension stand in the sequential run, and what ties its machine to the rows before (this project's choice).
-use Rattle.std.specs.Prelude.{◌≡◌, ℕ, zero, suc, ◌+◌, ◌-◌, ◌%◌, ◌^◌, ◌<◌, ◌≤◌, List, [], ◌∷◌, drop, length, get_or, Option, Some, None, Bool, true, false, ◌&&◌, if◌then◌else◌, ◌==◌, nat_lt, slice_get, slice_index}
+use Rattle.std.specs.Prelude.{◌≡◌, ◌≢◌, ℕ, zero, suc, ◌+◌, ◌-◌, ◌%◌, ◌^◌, ◌<◌, ◌≤◌, List, [], ◌∷◌, drop, length, get_or, Option, Some, None, Bool, true, false, ◌&&◌, if◌then◌else◌, ◌==◌, nat_lt, slice_get, slice_index}
 use Rattle.ix_bits.specs.declared.number.Bits.{Bits}
 use Rattle.ix_extension.specs.Extensions.{ExtensionTree}
 use Rattle.rv_core.specs.declared.Shape.{Shape}
+use Rattle.rv_core.specs.Guesses.{guess_of}
 use Rattle.rv_isa.specs.Fields.{rs1_of, rs2_of}
 use Rattle.rv_effect.specs.Decoding.{decoded_in}
 use Rattle.rv_seq.specs.declared.arch.Arch.{Arch}
@@ -29,9 +30,10 @@ use Rattle.rv_engine.specs.Settings.{Setting, Machine, shape_of, tree_of}
 use Rattle.ix_eval.specs.Tables.{table}
 use Rattle.rv_engine.specs.declared.owing.Owed.{Owed}
 use Rattle.rv_engine.specs.Rows.{first_slot, owed_by}
-use Rattle.rv_lawful.specs.Future.{is_pending}
+use Rattle.rv_lawful.specs.Forwarding.{x_written}
+use Rattle.rv_lawful.specs.Future.{is_pending, future_file}
 use Rattle.rv_lawful.specs.Settings as Lawful
-use Rattle.rv_lawful.specs.Settings.{run_trial}
+use Rattle.rv_lawful.specs.Settings.{run_trial, jump_with}
 use Rattle.rv_machine.specs.Owing.{judged, repaid, paid_owed, Owing, RetiredAs, Distinct, Apart}
 use Rattle.rv_lawful.specs.Outstanding.{architecture, outstanding, units_after, is_written}
 use Rattle.rv_unit.specs.Numbering.{lasts_of}
@@ -40,7 +42,7 @@ use Rattle.rv_unit.specs.Timed.{IsTimed}
 use Rattle.rv_machine.specs.UnitRank.{unit_rank}
 use Rattle.rv_sight.specs.InUnits.{AreInUnits}
 use Rattle.rv_lawful.specs.LawfulTrace.{fetch_address, next_serial, IsWordOf}
-use Rattle.rv_lawful.specs.Sight.{asked, HasWords, AreWords, IsEarly, EarlyLaw, ExactLaw, KeepsLaw, TailLaw}
+use Rattle.rv_lawful.specs.Sight.{asked, HasWords, AreWords, IsEarly, EarlyLaw, ExactLaw, KeepsLaw, TailLaw, TimeLaw, JumpLaw}
 use Rattle.rv_effect.specs.WordEffects.{AreWide}
 use Rattle.rv_sight.specs.Written.{WrittenLaw}
 
@@ -65,6 +67,8 @@ pub record IsReady (k : Setting) : Type 0 where
   pub exact : ExactLaw k.design
   pub keeps : KeepsLaw k.design
   pub tails : TailLaw k.design
+  pub times : TimeLaw k.design
+  pub jumps : JumpLaw k.design
   pub in_units : AreInUnits k.design
   pub written : WrittenLaw k.design
   pub whole : WholeLaw
@@ -74,6 +78,7 @@ pub record IsReady (k : Setting) : Type 0 where
   pub words : (p : ℕ) → HasWords (run k p)
   pub pcs : (p : ℕ) → (run k p).pc < 2 ^ 32
   pub image : (at word : ℕ) → word_at k.image at ≡ Some word → word < 2 ^ 32
+  pub guesses : (file : List Bits) (memory : List ℕ) (at word : ℕ) → guess_of (shape_of k).predict (jump_with (tree_of k) file memory at word) at < 2 ^ 32
 
 abbrev pub one_more : Option Token → ℕ → ℕ
 one_more None n = n
@@ -92,23 +97,25 @@ settling_stage k t = if is_late t then (shape_of k).stages - 1 else (shape_of k)
 abbrev pub is_known : Setting → ℕ → Token → Bool
 is_known k stage t = nat_lt (settling_stage k t) stage
 
--- the address that comes after a token of the place p in the stage: the run's where it is known, and a guess before
+-- the address that comes after a token of the place p in the stage: the run's where it is known, and its guess before
 abbrev pub expected_after : Setting → ℕ → ℕ → Option Token → ℕ → ℕ
 expected_after k p stage None address = address
-expected_after k p stage (Some t) address = if is_known k stage t then (run k (suc p)).pc else (t.cell.at + 4) % 2 ^ 32
+expected_after k p stage (Some t) address = if is_known k stage t then (run k (suc p)).pc else t.guess
 
 -- the address that the next younger token has, or that is fetched next, where these stand from the stage on
 abbrev pub expected : Setting → ℕ → ℕ → Slots → ℕ
 expected k r stage [] = (run k r).pc
 expected k r stage (s ∷ older) = expected_after k (r + count older) stage s (expected k r (suc stage) older)
 
--- the token was tried, comes to what the step of place p comes to but for rd and late writes, and accesses the memory where that step does, with its load; the always-blocks write the same
+-- the token was tried, comes to what the step of place p comes to but for rd and late writes, and accesses the memory where that step does, with its load; the always-blocks write the same,
+-- and so does it to its x register, where the time of that write is below MEM
 pub record IsTried (k : Setting) (p : ℕ) (t : Token) (trial : Trial) : Type 0 where
   pub tried : t.trial ≡ Some trial
   pub early : IsEarly t.asks trial.answer ((judged k).course.answer p)
   pub accesses : trial.accesses ≡ (judged k).course.accesses p
   pub load : trial.load ≡ (run_trial (tree_of k) k.image p).load
   pub blocks : trial.blocks ≡ (judged k).course.blocks p
+  pub x : t.asks.destination ≢ 0 → t.asks.x_time < (shape_of k).mem → x_written trial.answer ≡ x_written ((judged k).course.answer p)
 
 -- a trial is what the step of place p comes to
 pub record IsExact (k : Setting) (p : ℕ) (trial : Trial) : Type 0 where
@@ -125,6 +132,7 @@ pub record IsPlaced (k : Setting) (p address stage : ℕ) (older : Slots) (t : T
   pub input_pc : t.inputs.pc ≡ t.cell.at
   pub words : AreWords t.inputs
   pub wide : AreWide (tree_of k) t.inputs.custom
+  pub guess : t.guess < 2 ^ 32
   -- past RD it has the operands of the run
   pub first : (shape_of k).rd < stage → rs1_of t.cell.word ≡ t.asks.first → t.inputs.rs1 ≡ slice_index (run k p).x (rs1_of t.cell.word)
   pub second : (shape_of k).rd < stage → rs2_of t.cell.word ≡ t.asks.second → t.inputs.rs2 ≡ slice_index (run k p).x (rs2_of t.cell.word)
@@ -241,6 +249,8 @@ pub record Inv (k : Setting) (earlier : List Row) (m : Machine) : Type 0 where
   pub tail_is : (n : ℕ) (t : Token) (older : Slots) → drop n m.slots ≡ Some t ∷ older → t.tail + Lawful.tailed (judged k) earlier t.cell.serial ≡ t.asks.tail
   pub future : IsFuture k (retirements earlier) (paid_file m.owed m.future) (past_ex k m.slots)
   pub future_wide : AreWide (tree_of k) m.future
+  -- it is that of the rows
+  pub file : future_file (judged k) earlier ≡ m.future
   pub placed : Placed k (retirements earlier) 0 m.slots
   pub serials : Serials earlier (retirements earlier) m.slots
   pub fetch_is : m.fetch ≡ fetch_address (judged k) earlier

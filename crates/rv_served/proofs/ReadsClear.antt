@@ -1,13 +1,15 @@
--- A token past RD reads no x register that an older one still writes.
+-- A token past RD reads no x register that an older one withholds.
 use Rattle.std.proofs.Common.{◌≡◌, ◌∙◌, refl, ap, subst, ℕ, zero, suc, ◌+◌, ◌<◌, ◌≤◌, List, [], ◌∷◌, drop, length, replicate, Option, Some, None, Bool, true, false, inl, inr, arith}
-use Rattle.std.specs.Prelude.{if◌then◌else◌, ◌==◌, is_some, IfSome, min, max}
+use Rattle.std.specs.Prelude.{if◌then◌else◌, ◌==◌, ◌&&◌, not, is_some, nat_lt, IfSome, min, max}
+use Rattle.std.proofs.lemmas.Bool.Decides.{nat_tests}
 use Rattle.std.proofs.lemmas.Bool.{cases_lt}
 use Rattle.rv_asks.specs.declared.asks.Asks.{Asks}
 use Rattle.rv_trace.specs.declared.row.Row.{Row}
 use Rattle.rv_trace.specs.Trace.{newest}
 use Rattle.rv_holds.specs.declared.token.Token.{Token}
 use Rattle.rv_holds.specs.Tokens.{Slots, or_else}
-use Rattle.rv_holds.specs.Holds.{oldest, does_write, operand, waits_for, operand_hold}
+use Rattle.rv_core.specs.declared.Shape.{Shape}
+use Rattle.rv_holds.specs.Holds.{withholds, withholder, operand, waits_for, operand_hold}
 use Rattle.rv_holds.specs.Flushing.{struck, cleared}
 use Rattle.rv_engine.specs.Settings.{Setting, Machine, shape_of}
 use Rattle.rv_engine.specs.Rows.{waited, going, kept, advanced, fill_first, new_by, loaded_by, turn_by, seen_by, machine_after, IsRowOf}
@@ -15,41 +17,84 @@ use Rattle.rv_machine.specs.Placed.{IsReady, Inv}
 use Rattle.rv_machine.specs.Running.{AreRows, machine_at}
 use Rattle.rv_machine.specs.Told.{Decided, NoStops}
 use Rattle.rv_machine.proofs.Before as B
-use Rattle.rv_machine.proofs.Deciding.{or_else_none, or_else_none_b, own_none, no_waiting, waits_operand}
-use Rattle.rv_machine.proofs.Moves.{silent_advanced, silent_behind}
+use Rattle.rv_machine.proofs.Deciding.{or_else_none, or_else_none_b, if_none, own_none, no_waiting, waits_operand}
 use Rattle.rv_machine.proofs.NextRow as N
 use Rattle.rv_machine.proofs.Promised.{known}
-use Rattle.rv_machine.proofs.Reading.{Alike, alike_oldest}
+use Rattle.rv_machine.proofs.Alike.{Alike, alike_withholder}
 
 -- each token past RD waits for no operand
 abbrev pub Clear : Setting → ℕ → Slots → Type 0
 Clear k stage [] = Unit {0}
 Clear k stage (None ∷ older) = Clear k (suc stage) older
-Clear k stage (Some t ∷ older) = ((shape_of k).rd < stage → operand_hold older t.asks ≡ None) × Clear k (suc stage) older
+Clear k stage (Some t ∷ older) = ((shape_of k).rd < stage → operand_hold (shape_of k) (suc stage) older t.asks ≡ None) × Clear k (suc stage) older
 
--- ---- older tokens that write no more
+-- ---- older tokens that withhold no more
 
 operand_none : (reg : ℕ) (o : Option ℕ) → operand reg o ≡ None → o ≡ None
 operand_none reg None h = refl
 operand_none reg (Some j) h = cc
 
-abbrev Stays : Slots → Slots → Type 0
-Stays older later = (reg : ℕ) → oldest (does_write reg) older ≡ None → oldest (does_write reg) later ≡ None
+-- what none of these withholds, the first of them in one stage, none of those does
+abbrev Stays : Shape → ℕ → ℕ → Slots → Slots → Type 0
+Stays k from to older later = (reg : ℕ) → withholder k reg from older ≡ None → withholder k reg to later ≡ None
 
-waits_stays : (older later : Slots) (reg : ℕ) → Stays older later → waits_for reg older ≡ None → waits_for reg later ≡ None
-waits_stays older later reg stays h = by_case (reg == 0) h where
-  by_case : (b : Bool) → (if b then None else operand reg (oldest (does_write reg) older)) ≡ None → (if b then None else operand reg (oldest (does_write reg) later)) ≡ None
+waits_stays : (k : Shape) (from to : ℕ) (older later : Slots) (reg : ℕ) → Stays k from to older later → waits_for k reg from older ≡ None → waits_for k reg to later ≡ None
+waits_stays k from to older later reg stays h = by_case (reg == 0) h where
+  by_case : (b : Bool) → (if b then None else operand reg (withholder k reg from older)) ≡ None → (if b then None else operand reg (withholder k reg to later)) ≡ None
   by_case true q = refl
-  by_case false q = ap (operand reg) (stays reg (operand_none reg (oldest (does_write reg) older) q))
+  by_case false q = ap (operand reg) (stays reg (operand_none reg (withholder k reg from older) q))
 
-hold_stays : (older later : Slots) (a : Asks) → Stays older later → operand_hold older a ≡ None → operand_hold later a ≡ None
-hold_stays older later a stays h =
-    let low = waits_stays older later (min a.first a.second) stays (or_else_none (waits_for (min a.first a.second) older) _ h) in
-    let high = waits_stays older later (max a.first a.second) stays (or_else_none_b (waits_for (min a.first a.second) older) _ h) in
-    ap (λ o. or_else o (waits_for (max a.first a.second) later)) low ∙ high
+hold_stays : (k : Shape) (from to : ℕ) (older later : Slots) (a : Asks) → Stays k from to older later → operand_hold k from older a ≡ None → operand_hold k to later a ≡ None
+hold_stays k from to older later a stays h =
+    let low = waits_stays k from to older later (min a.first a.second) stays (or_else_none (waits_for k (min a.first a.second) from older) _ h) in
+    let high = waits_stays k from to older later (max a.first a.second) stays (or_else_none_b (waits_for k (min a.first a.second) from older) _ h) in
+    ap (λ o. or_else o (waits_for k (max a.first a.second) to later)) low ∙ high
 
-alike_stays : (a b : Slots) → Alike a b → Stays a b
-alike_stays a b h reg none = alike_oldest (λ x. x.destination == reg) a b h ∙ none
+alike_stays : (k : Shape) (stage : ℕ) (a b : Slots) → Alike a b → Stays k stage stage a b
+alike_stays k stage a b h reg none = alike_withholder k reg stage a b h ∙ none
+
+-- what is there for a younger token in one stage is there in the next one
+later_there : (d f : Bool) (time stage : ℕ) → (d && not (f && nat_lt time stage)) ≡ false → (d && not (f && nat_lt time (suc stage))) ≡ false
+later_there false f time stage h = refl
+later_there true false time stage h = cc
+later_there true true time stage h = by_case (nat_lt time stage) refl h where
+  by_case : (b : Bool) → nat_lt time stage ≡ b → (true && not (true && b)) ≡ false → (true && not (true && nat_lt time (suc stage))) ≡ false
+  by_case true e q = (let less : nat_lt time (suc stage) ≡ true = grind (arith, nat_tests) in ap (λ b. not b) less)
+  by_case false e q = cc
+
+-- no token is there that withholds the register
+abbrev FreeSlot : Shape → ℕ → ℕ → Option Token → Type 0
+FreeSlot k reg stage s = IfSome s (λ t. withholds k reg stage t ≡ false)
+
+free_parts : (k : Shape) (reg stage : ℕ) (s : Option Token) (older : Slots) → withholder k reg stage (s ∷ older) ≡ None → FreeSlot k reg stage s × (withholder k reg (suc stage) older ≡ None)
+free_parts k reg stage None older h = (tt, h)
+free_parts k reg stage (Some t) older h = (if_none (withholds k reg stage t) t.cell.serial (or_else_none_b (withholder k reg (suc stage) older) _ h), or_else_none (withholder k reg (suc stage) older) _ h)
+
+free_join : (k : Shape) (reg stage : ℕ) (s : Option Token) (older : Slots) → FreeSlot k reg stage s → withholder k reg (suc stage) older ≡ None → withholder k reg stage (s ∷ older) ≡ None
+free_join k reg stage None older q h = h
+free_join k reg stage (Some t) older q h =
+    ap (λ o. or_else o (if withholds k reg stage t then Some t.cell.serial else None)) h ∙ ap (λ (b : Bool). if b then Some t.cell.serial else None) q
+
+free_going : (k : Shape) (reg stage : ℕ) (s : Option Token) → FreeSlot k reg stage s → FreeSlot k reg (suc stage) (going s)
+free_going k reg stage None h = tt
+free_going k reg stage (Some t) h = by_case (is_some t.cell.hold) where
+  by_case : (b : Bool) → FreeSlot k reg (suc stage) (if b then None else Some t)
+  by_case true = tt
+  by_case false = later_there (t.asks.destination == reg) k.forward t.asks.x_time stage h
+
+free_kept : (k : Shape) (reg stage : ℕ) (come s : Option Token) → FreeSlot k reg stage come → FreeSlot k reg stage s → FreeSlot k reg stage (kept come s)
+free_kept k reg stage come None c h = c
+free_kept k reg stage come (Some t) c h = by_case (is_some t.cell.hold) where
+  by_case : (b : Bool) → FreeSlot k reg stage (if b then Some (waited t) else come)
+  by_case true = h
+  by_case false = c
+
+-- after the moves
+advanced_stays : (k : Shape) (reg stage : ℕ) (come : Option Token) (seen : Slots) → FreeSlot k reg stage come → withholder k reg stage seen ≡ None → withholder k reg stage (advanced come seen) ≡ None
+advanced_stays k reg stage come [] c h = refl
+advanced_stays k reg stage come (s ∷ older) c h =
+    let x = free_parts k reg stage s older h in
+    free_join k reg stage (kept come s) (advanced (going s) older) (free_kept k reg stage come s c x.0) (advanced_stays k reg (suc stage) (going s) older (free_going k reg stage s x.0) x.1)
 
 -- ---- in a row
 
@@ -61,7 +106,7 @@ alike_clear k stage (None ∷ a) (None ∷ b) l h = alike_clear k (suc stage) a 
 alike_clear k stage (None ∷ a) (Some u ∷ b) l h = absurd l.0
 alike_clear k stage (Some t ∷ a) (None ∷ b) l h = absurd l.0
 alike_clear k stage (Some t ∷ a) (Some u ∷ b) l h = (
-  λ lt. ap (λ (x : Asks). operand_hold b x) l.0.asks ∙ hold_stays a b t.asks (alike_stays a b l.1) (h.0 lt),
+  λ lt. ap (λ (x : Asks). operand_hold (shape_of k) (suc stage) b x) l.0.asks ∙ hold_stays (shape_of k) (suc stage) (suc stage) a b t.asks (alike_stays (shape_of k) (suc stage) a b l.1) (h.0 lt),
   alike_clear k (suc stage) a b l.1 h.1,
 )
 
@@ -81,7 +126,7 @@ cleared_clear k stage (suc n) (Some t ∷ older) le h = cleared_clear k (suc sta
 
 module _ (k : Setting) where
   abbrev Comes : ℕ → Option Token → Slots → Type 0
-  Comes stage come seen = IfSome come (λ c. (shape_of k).rd < stage → operand_hold seen c.asks ≡ None)
+  Comes stage come seen = IfSome come (λ c. (shape_of k).rd < stage → operand_hold (shape_of k) stage seen c.asks ≡ None)
 
   goes_clear : (stage : ℕ) (t : Token) (older : Slots) → Decided k stage (Some t ∷ older) → NoStops k stage (Some t ∷ older) → Clear k stage (Some t ∷ older) → Comes (suc stage) (going (Some t)) older
   goes_clear stage t older d n h = by_hold (is_some t.cell.hold) refl where
@@ -92,29 +137,31 @@ module _ (k : Setting) where
       | inr more ↦ waits_operand (shape_of k) stage t older (no_waiting (shape_of k) stage t older (own_none (shape_of k) stage t older t.cell.hold d.0 e n.0)) (omega (arith, lt, more))
     ]
 
-  behind_stays : (s : Option Token) (older : Slots) → Stays (s ∷ older) (advanced (going s) older)
-  behind_stays s older reg q = silent_behind (λ a. a.destination == reg) s older q
+  behind_stays : (stage : ℕ) (s : Option Token) (older : Slots) → Stays (shape_of k) stage (suc stage) (s ∷ older) (advanced (going s) older)
+  behind_stays stage s older reg q =
+      let x = free_parts (shape_of k) reg stage s older q in
+      advanced_stays (shape_of k) reg (suc stage) (going s) older (free_going (shape_of k) reg stage s x.0) x.1
 
-  held_stays : (older : Slots) → Stays older (advanced None older)
-  held_stays older reg q = silent_advanced (λ a. a.destination == reg) None older tt q
+  held_stays : (stage : ℕ) (older : Slots) → Stays (shape_of k) stage stage older (advanced None older)
+  held_stays stage older reg q = advanced_stays (shape_of k) reg stage None older tt q
 
   next_clear : (stage : ℕ) (come : Option Token) (seen : Slots) → Decided k stage seen → NoStops k stage seen → Clear k stage seen → Comes stage come seen → Clear k stage (advanced come seen)
   next_clear stage come [] d n h c = tt
   next_clear stage come (None ∷ older) d n h c = put come c (next_clear (suc stage) None older d n h tt) where
     put : (come : Option Token) → Comes stage come (None ∷ older) → Clear k (suc stage) (advanced None older) → Clear k stage (come ∷ advanced None older)
     put None c tail = tail
-    put (Some t) c tail = (λ lt. hold_stays (None ∷ older) (advanced None older) t.asks (behind_stays None older) (c lt), tail)
+    put (Some t) c tail = (λ lt. hold_stays (shape_of k) stage (suc stage) (None ∷ older) (advanced None older) t.asks (behind_stays stage None older) (c lt), tail)
   next_clear stage come (Some u ∷ older) d n h c = put (next_clear (suc stage) (going (Some u)) older d.1 n.1 h.1 (goes_clear stage u older d n h)) where
     come_put : (come : Option Token) → Comes stage come (Some u ∷ older) → Clear k (suc stage) (advanced (going (Some u)) older) → Clear k stage (come ∷ advanced (going (Some u)) older)
     come_put None c tail = tail
-    come_put (Some t) c tail = (λ lt. hold_stays (Some u ∷ older) (advanced (going (Some u)) older) t.asks (behind_stays (Some u) older) (c lt), tail)
+    come_put (Some t) c tail = (λ lt. hold_stays (shape_of k) stage (suc stage) (Some u ∷ older) (advanced (going (Some u)) older) t.asks (behind_stays stage (Some u) older) (c lt), tail)
 
     put : Clear k (suc stage) (advanced (going (Some u)) older) → Clear k stage (kept come (Some u) ∷ advanced (going (Some u)) older)
     put tail = by_hold (is_some u.cell.hold) refl tail where
       by_hold : (b : Bool) → is_some u.cell.hold ≡ b → Clear k (suc stage) (advanced (going (Some u)) older) → Clear k stage ((if b then Some (waited u) else come) ∷ advanced (going (Some u)) older)
       by_hold true e tail =
           let none : advanced (going (Some u)) older ≡ advanced None older = ap (λ (b : Bool). advanced (if b then None else Some u) older) e in
-          (λ lt. hold_stays older (advanced (going (Some u)) older) u.asks (λ reg q. ap (λ l. oldest (does_write reg) l) none ∙ held_stays older reg q) (h.0 lt), tail)
+          (λ lt. hold_stays (shape_of k) (suc stage) (suc stage) older (advanced (going (Some u)) older) u.asks (λ reg q. ap (λ l. withholder (shape_of k) reg (suc stage) l) none ∙ held_stays (suc stage) older reg q) (h.0 lt), tail)
       by_hold false e tail = come_put come c tail
 
 -- ---- after rows
@@ -140,11 +187,15 @@ clear_at k ready (row ∷ earlier) are going =
     let inv = (known k ready earlier are.2).going are.1 in
     clear_next k ready earlier m row inv are.0 (N.no_stop k ready earlier m row inv are.0 going) (clear_at k ready earlier are.2 are.1)
 
+further : (k : Setting) (stage n : ℕ) (older : Slots) (t : Token) → operand_hold (shape_of k) (suc (suc stage + n)) older t.asks ≡ None → operand_hold (shape_of k) (suc (stage + suc n)) older t.asks ≡ None
+further k stage n older t h = (let z : suc stage + n ≡ stage + suc n = omega arith in subst (λ b. operand_hold (shape_of k) (suc b) older t.asks ≡ None) z h)
+
 -- the token of a stage
-pub clear_rest : (k : Setting) (stage n : ℕ) (slots older : Slots) (t : Token) → Clear k stage slots → drop n slots ≡ Some t ∷ older → (shape_of k).rd < stage + n → operand_hold older t.asks ≡ None
+pub clear_rest : (k : Setting) (stage n : ℕ) (slots older : Slots) (t : Token) → Clear k stage slots → drop n slots ≡ Some t ∷ older → (shape_of k).rd < stage + n → operand_hold (shape_of k) (suc (stage + n)) older t.asks ≡ None
 clear_rest k stage zero slots older t h e lt =
     let here : Clear k stage (Some t ∷ older) = subst (λ l. Clear k stage l) e h in
-    here.0 (omega (arith, lt))
+    let z : stage ≡ stage + 0 = omega arith in
+    subst (λ b. operand_hold (shape_of k) (suc b) older t.asks ≡ None) z (here.0 (omega (arith, lt)))
 clear_rest k stage (suc n) [] older t h e lt = cc
-clear_rest k stage (suc n) (None ∷ slots) older t h e lt = clear_rest k (suc stage) n slots older t h e (omega (arith, lt))
-clear_rest k stage (suc n) (Some u ∷ slots) older t h e lt = clear_rest k (suc stage) n slots older t h.1 e (omega (arith, lt))
+clear_rest k stage (suc n) (None ∷ slots) older t h e lt = further k stage n older t (clear_rest k (suc stage) n slots older t h e (omega (arith, lt)))
+clear_rest k stage (suc n) (Some u ∷ slots) older t h e lt = further k stage n older t (clear_rest k (suc stage) n slots older t h.1 e (omega (arith, lt)))

@@ -55,7 +55,7 @@ abbrev pub ResultAt : Shape → Kind → ℕ → ℕ → Type 0
 ResultAt shape kind time stage = time + latency_of shape kind ≡ stage
 
 module _ (k : Setting) (ready : IsReady k) (earlier : List Row) (m : Machine) (row : Row) (inv : Inv k earlier m) (is : IsRowOf k m row)
-    (file : future_file (tree_of k) (judged k) earlier ≡ m.future) (clear : Clear k 0 m.slots)
+    (file : future_file (judged k) earlier ≡ m.future) (clear : Clear k 0 m.slots)
     (n : ℕ) (c : Cell) (stands : Lawful.Stands (judged k) row n c) (alive : has_serial row.flushed c.serial ≡ false) (speaks : is_silent c.hold ≡ false) where
   abbrev d : Drives
   d = drives_of k.design k.image k.waits
@@ -67,16 +67,13 @@ module _ (k : Setting) (ready : IsReady k) (earlier : List Row) (m : Machine) (r
   abbrev here : At k (retirements earlier) n c (seen_by k m)
   here = R.here k ready earlier m row inv is n c stands alive
 
-  custom_shown : (shown_by d earlier row).custom ≡ future_file (tree_of k) (judged k) earlier
+  custom_shown : (shown_by d earlier row).custom ≡ future_file (judged k) earlier
   unfolding shown_by
   custom_shown = refl
 
   datum_shown : (shown_by d earlier row).datum ≡ datum_of d earlier row (cell_at (judged k) row (shape_of k).mem)
   unfolding shown_by
   datum_shown = refl
-
-  operand_shown : (i : ℕ) → slice_index (architecture (tree_of k) (judged k) earlier).x i ≡ slice_index m.arch.x i
-  operand_shown i = ap (λ (s : Arch). slice_index s.x i) inv.state
 
   module _ (g : Graph) (valid : IsValidGraph g) (j : ℕ) (op : Op) (there : slice_get g.ops j ≡ Some op) (reads : role_of op.kind ≡ Read) where
     -- with the values of the place
@@ -99,10 +96,11 @@ module _ (k : Setting) (ready : IsReady k) (earlier : List Row) (m : Machine) (r
 
       -- at EX and later
       module _ (past : (shape_of k).ex ≤ n) where
-        free : n ≡ (shape_of k).ex → operand_hold here.older here.token.asks ≡ None
+        free : n ≡ (shape_of k).ex → operand_hold (shape_of k) (suc n) here.older here.token.asks ≡ None
         free at =
             R.operand_free k ready earlier m row inv is n c stands alive speaks past at
-            (λ lt. clear_rest k 0 n (seen_by k m) here.older here.token (seen_clear k ready earlier m row inv is clear) here.rest (omega (arith, lt)))
+            (λ lt. let z : 0 + n ≡ n = omega arith in
+            subst (λ b. operand_hold (shape_of k) (suc b) here.older here.token.asks ≡ None) z (clear_rest k 0 n (seen_by k m) here.older here.token (seen_clear k ready earlier m row inv is clear) here.rest (omega (arith, lt))))
 
         at_execute : (time : ℕ) → time + 0 ≡ n → time ≤ (shape_of k).ex → n ≡ (shape_of k).ex
         at_execute time e le = omega (arith, e, le, past)
@@ -132,10 +130,10 @@ module _ (k : Setting) (ready : IsReady k) (earlier : List Row) (m : Machine) (r
         by_kind values RdPC same role time at result asks own = plain RdPC same (R.address k ready earlier m row inv is n c stands alive speaks past)
         by_kind values RdRS1 same role time at result asks own =
             let ex = at_execute time result at.1 in
-            plain RdRS1 same (operand_shown (rs1_of c.word) ∙ R.first_now k ready earlier m row inv is n c stands alive speaks past ex (free ex) asks)
+            plain RdRS1 same (R.first_now k ready earlier m row inv is n c stands alive speaks past ex (free ex) asks)
         by_kind values RdRS2 same role time at result asks own =
             let ex = at_execute time result at.1 in
-            plain RdRS2 same (operand_shown (rs2_of c.word) ∙ R.second_now k ready earlier m row inv is n c stands alive speaks past ex (free ex) asks)
+            plain RdRS2 same (R.second_now k ready earlier m row inv is n c stands alive speaks past ex (free ex) asks)
         by_kind values (RdCustReg r) same role time at result asks own =
             let ex = at_execute time result (omega (arith, at)) in
             plain (RdCustReg r) same
@@ -158,8 +156,8 @@ module _ (k : Setting) (ready : IsReady k) (earlier : List Row) (m : Machine) (r
             → IsDriven p
         early_kind RdInstr same role time at result asks = plain RdInstr same refl
         early_kind RdPC same role time at result asks = plain RdPC same (address ∙ ap (λ q. (run k q).pc) (R.place_is k ready earlier m row inv is n c stands alive))
-        early_kind RdRS1 same role time at result asks = plain RdRS1 same (operand_shown (rs1_of c.word) ∙ R.first_early k ready earlier m row inv is n c stands alive speaks at_rd early goes asks)
-        early_kind RdRS2 same role time at result asks = plain RdRS2 same (operand_shown (rs2_of c.word) ∙ R.second_early k ready earlier m row inv is n c stands alive speaks at_rd early goes asks)
+        early_kind RdRS1 same role time at result asks = plain RdRS1 same (R.first_early k ready earlier m row inv is n c stands alive speaks at_rd early goes asks)
+        early_kind RdRS2 same role time at result asks = plain RdRS2 same (R.second_early k ready earlier m row inv is n c stands alive speaks at_rd early goes asks)
         early_kind (RdCustReg r) same role time at result asks = absurd (omega (arith, at, result, early))
         early_kind RdMem same role time at result asks = absurd (omega (arith, at, result, early))
         early_kind kind same role time at result asks = cc

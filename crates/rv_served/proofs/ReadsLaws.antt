@@ -56,7 +56,7 @@ use Rattle.rv_machine.specs.Running.{AreRows, machine_at}
 use Rattle.rv_machine.specs.Told.{NoStops}
 use Rattle.rv_machine.proofs.Flushing as F
 use Rattle.rv_machine.proofs.NextRow as N
-use Rattle.rv_machine.proofs.Places.{older_lower, one_token, unflushed_before}
+use Rattle.rv_machine.proofs.Places.{one_token, lone_stage, unflushed_before}
 use Rattle.rv_machine.proofs.Promised.{Sights, ready_of, known, file_is}
 use Rattle.rv_ports.specs.declared.shown.Seat.{Seat}
 use Rattle.rv_ports.specs.Drives.{Drives, drives_of, own_number}
@@ -187,25 +187,6 @@ time_low s rows stage c lt =
     let less : (suc stage == s.shape.stages) ≡ false = grind (arith, nat_tests) in
     ap (λ (b : Bool). if b then stage + tailed s rows c.serial else stage) less
 
--- a serial stands once
-lone_stage : (rows : List Row) (r : ℕ) (l : Slots) (i j : ℕ) (t u : Token) → Serials rows r l → slice_get l i ≡ Some (Some t) → slice_get l j ≡ Some (Some u) → t.cell.serial ≡ u.cell.serial → i ≡ j
-lone_stage rows r [] i j t u h a b e = cc
-lone_stage rows r (s ∷ l) zero zero t u h a b e = refl
-lone_stage rows r (None ∷ l) zero (suc j) t u h a b e = cc
-lone_stage rows r (Some v ∷ l) zero (suc j) t u h a b e =
-    let same : v ≡ t = cc in
-    let lt = older_lower rows r j v u l h b in
-    let serial = ap (λ (w : Token). w.cell.serial) same in
-    absurd (omega (arith, lt, serial, e))
-lone_stage rows r (None ∷ l) (suc i) zero t u h a b e = cc
-lone_stage rows r (Some v ∷ l) (suc i) zero t u h a b e =
-    let same : v ≡ u = cc in
-    let lt = older_lower rows r i v t l h a in
-    let serial = ap (λ (w : Token). w.cell.serial) same in
-    absurd (omega (arith, lt, serial, e))
-lone_stage rows r (None ∷ l) (suc i) (suc j) t u h a b e = ap suc (lone_stage rows r l i j t u h a b e)
-lone_stage rows r (Some v ∷ l) (suc i) (suc j) t u h a b e = ap suc (lone_stage rows r l i j t u h.1 a b e)
-
 -- ---- a plan, with its net and the rows that drive it
 
 module _ (sights : Sights) (laws : GraphLaws) (d : Design) (image waits : List ℕ) (n : ℕ) (p : Plan) (net : Net) (row : Row) (earlier : List Row) (cycles : List (List ℕ)) (h : IsDrivenBy d image waits n p net (row ∷ earlier) cycles) where
@@ -306,7 +287,7 @@ module _ (sights : Sights) (laws : GraphLaws) (d : Design) (image waits : List �
     inv : Inv base older (machine_at base older)
     is : IsRowOf base (machine_at base older) past
     goes : (newest older).stop ≡ None
-    file : future_file tree (judged base) older ≡ (machine_at base older).future
+    file : future_file (judged base) older ≡ (machine_at base older).future
     clear : Clear base 0 (machine_at base older).slots
     inputs : inputs_of net (cycle_at cycles (length older)) ≡ inputs_by (module_of driving n p) p (shown_by driving older past)
 

@@ -16,11 +16,12 @@ use Rattle.rv_trace.specs.declared.row.Row.{Row}
 use Rattle.rv_trace.specs.Trace.{has_serial, is_flushed, place, retirements}
 use Rattle.rv_holds.specs.declared.token.Token.{Token}
 use Rattle.rv_holds.specs.Tokens.{Slots, or_else, stop_in, stop_of}
-use Rattle.rv_holds.specs.Holds.{oldest, is_late, does_write, operand, waits_for, operand_hold, register_count, register_at, spawner, least_from, lower_of, board, board_hold, custom, waits_for_custom, first_from, custom_hold, late, late_hold, reading_hold, waiting_hold, drain_hold, store_ahead, store_hold, memory_hold, ending_hold, own_hold, stops_now, is_blocked, shown}
+use Rattle.rv_holds.specs.Holds.{oldest, is_late, withholder, operand, waits_for, operand_hold, register_count, register_at, spawner, least_from, lower_of, board, board_hold, custom, waits_for_custom, first_from, custom_hold, late, late_hold, reading_hold, waiting_hold, drain_hold, store_ahead, store_hold, memory_hold, ending_hold, own_hold, stops_now, is_blocked, shown}
 use Rattle.rv_holds.specs.Flushing.{struck}
 use Rattle.rv_engine.specs.Owing.{board_of}
 use Rattle.rv_engine.specs.Settings.{Setting, Machine, shape_of, outstanding_in}
-use Rattle.rv_engine.specs.Rows.{turn_by, seen_by, IsRowOf}
+use Rattle.rv_engine.specs.Rows.{loaded_by, turn_by, seen_by, IsRowOf}
+use Rattle.rv_holds.specs.Forwarding.{operand_in}
 use Rattle.rv_lawful.specs.Outstanding.{has_target, touches, outstanding}
 use Rattle.rv_lawful.specs.Settings as Lawful
 use Rattle.rv_lawful.specs.Sight.{asked}
@@ -36,18 +37,23 @@ use Rattle.rv_machine.proofs.Going.{not_blocked, path_ahead}
 use Rattle.rv_machine.proofs.Loading.{early_stop}
 use Rattle.rv_machine.proofs.Meeting.{meets_at, seen_meets}
 use Rattle.rv_machine.proofs.Numbers.{custom_at}
-use Rattle.rv_machine.proofs.Operands.{OnPath, on_path, operand_ready, memory_ready}
+use Rattle.rv_machine.proofs.Clearing.{cleared_drop}
+use Rattle.rv_machine.proofs.Forwarding.{Passes, operand_is as forwards}
+use Rattle.rv_machine.proofs.Operands.{OnPath, on_path, memory_ready}
+use Rattle.rv_machine.proofs.Passing.{seen_passes}
 use Rattle.rv_machine.proofs.PaidFile.{unowed_file}
 use Rattle.rv_machine.proofs.Past as P
 use Rattle.rv_machine.proofs.Places.{serials_drop}
-use Rattle.rv_machine.proofs.Reading.{first_few, second_few}
+use Rattle.rv_machine.proofs.Reading.{first_few, second_few, operand_parts}
+use Rattle.rv_machine.proofs.ShownTold.{operand_told, passes_drop}
 use Rattle.rv_machine.proofs.Repaid.{repaid_memory}
-use Rattle.rv_machine.proofs.Runs.{answer, run_zero}
+use Rattle.rv_machine.proofs.Runs.{answer}
 use Rattle.rv_machine.proofs.Standing as S
 use Rattle.rv_machine.proofs.Trying.{custom_clear, late_clear, none_pends, none_owes, spawns_custom}
 use Rattle.rv_machine.proofs.Unboarded.{operand_touched}
 use Rattle.rv_machine.proofs.Unowed.{unowed, unowed_zero}
-use Rattle.rv_ports.specs.Seats.{is_silent}
+use Rattle.rv_ports.specs.Drives.{drives_of}
+use Rattle.rv_ports.specs.Seats.{is_silent, operand_of}
 
 -- ---- holds for which a token waits
 
@@ -73,11 +79,11 @@ operand_quiet : (r : ℕ) (o : Option ℕ) → Quiet (operand r o)
 operand_quiet r None = none_quiet
 operand_quiet r (Some j) = λ h e. silent_is _ h e refl
 
-waits_quiet : (r : ℕ) (older : Slots) → Quiet (waits_for r older)
-waits_quiet r older = by_case (r == 0) where
-  by_case : (b : Bool) → Quiet (if b then None else operand r (oldest (does_write r) older))
+waits_quiet : (k : Shape) (r stage : ℕ) (older : Slots) → Quiet (waits_for k r stage older)
+waits_quiet k r stage older = by_case (r == 0) where
+  by_case : (b : Bool) → Quiet (if b then None else operand r (withholder k r stage older))
   by_case true = none_quiet
-  by_case false = operand_quiet r (oldest (does_write r) older)
+  by_case false = operand_quiet r (withholder k r stage older)
 
 board_quiet : (o : Option (ℕ × ℕ)) → Quiet (board o)
 board_quiet None = none_quiet
@@ -97,10 +103,11 @@ late_quiet (Some j) = λ h e. silent_is _ h e refl
 
 waiting_quiet : (k : Shape) (stage : ℕ) (t : Token) (older : Slots) → Quiet (waiting_hold k stage t older)
 waiting_quiet k stage t older =
-    either_quiet (if stage == k.rd then reading_hold t older else None) (if stage == k.ex then or_else (custom_hold older t.asks) (late_hold older) else None)
-    (where_quiet (stage == k.rd) (reading_hold t older)
-    (either_quiet (operand_hold older t.asks) (board_hold t older)
-    (either_quiet (waits_for (min t.asks.first t.asks.second) older) (waits_for (max t.asks.first t.asks.second) older) (waits_quiet (min t.asks.first t.asks.second) older) (waits_quiet (max t.asks.first t.asks.second) older))
+    either_quiet (if stage == k.rd then reading_hold k stage t older else None) (if stage == k.ex then or_else (custom_hold older t.asks) (late_hold older) else None)
+    (where_quiet (stage == k.rd) (reading_hold k stage t older)
+    (either_quiet (operand_hold k (suc stage) older t.asks) (board_hold t older)
+    (either_quiet (waits_for k (min t.asks.first t.asks.second) (suc stage) older) (waits_for k (max t.asks.first t.asks.second) (suc stage) older) (waits_quiet k (min t.asks.first t.asks.second) (suc stage) older)
+    (waits_quiet k (max t.asks.first t.asks.second) (suc stage) older))
     (board_quiet (lower_of t.beside.board (least_from (spawner older t.asks) 0 register_count)))))
     (where_quiet (stage == k.ex) (or_else (custom_hold older t.asks) (late_hold older))
     (either_quiet (custom_hold older t.asks) (late_hold older)
@@ -133,22 +140,6 @@ shown_quiet k stage t older (Some h) b e q s =
       never true true = refl
       never true false = refl
       never false d = refl
-
--- what is so at the lesser and at the greater is so at both
-lesser_first : (f : ℕ → Option Hold) (a b : ℕ) → f (min a b) ≡ None → f (max a b) ≡ None → f a ≡ None
-lesser_first f a b h e = grind arith
-
-lesser_second : (f : ℕ → Option Hold) (a b : ℕ) → f (min a b) ≡ None → f (max a b) ≡ None → f b ≡ None
-lesser_second f a b h e = grind arith
-
-pub operand_parts : (older : Slots) (a : Asks) (reg : ℕ) → operand_hold older a ≡ None → (reg ≡ a.first) ⊎ (reg ≡ a.second) → waits_for reg older ≡ None
-operand_parts older a reg h which =
-    let low = or_else_none (waits_for (min a.first a.second) older) _ h in
-    let high = or_else_none_b (waits_for (min a.first a.second) older) _ h in
-    elim which [
-      | inl e ↦ ap (λ i. waits_for i older) e ∙ lesser_first (λ i. waits_for i older) a.first a.second low high
-      | inr e ↦ ap (λ i. waits_for i older) e ∙ lesser_second (λ i. waits_for i older) a.first a.second low high
-    ]
 
 -- ---- a cell of a row
 
@@ -197,6 +188,15 @@ module _ (k : Setting) (ready : IsReady k) (earlier : List Row) (m : Machine) (r
   rest_here : drop (suc n) (seen_by k m) ≡ here.older
   rest_here = S.drop_more (seen_by k m) here.older (Some here.token) n here.rest
 
+  -- what its older tokens pass on is the run's
+  passes_here : Passes k true r (suc n) here.older
+  passes_here =
+      let z : 0 + suc n ≡ suc n = omega arith in
+      subst (λ l. Passes k true r (suc n) l) rest_here
+      (subst (λ b. Passes k true r b (drop (suc n) (seen_by k m))) z
+      (passes_drop k true r 0 (suc n) (seen_by k m)
+      (seen_passes k ready r 0 (seen_by k m) (B.seen_placed k ready earlier m inv) (B.seen_decided k ready earlier m inv) (B.seen_loaded k ready earlier m inv) (B.seen_ripe k ready earlier m inv))))
+
   module _ (speaks : is_silent c.hold ≡ false) where
     quiet_now : is_silent (shown (shape_of k) n here.token here.older) ≡ false
     quiet_now = ap is_silent (sym here.decided.0) ∙ ap (λ (x : Cell). is_silent x.hold) here.is ∙ speaks
@@ -218,33 +218,46 @@ module _ (k : Setting) (ready : IsReady k) (earlier : List Row) (m : Machine) (r
     ]
 
     -- an operand that it asks for is the run's, where all older ones are on the path of the run
-    module _ (at : (shape_of k).rd ≤ n) (next : (shape_of k).ex ≤ suc n) (ahead : OnPath k here.older) (free : operand_hold here.older here.token.asks ≡ None) where
-      operand_is : (reg : ℕ) → reg < 32 → (reg ≡ here.token.asks.first) ⊎ (reg ≡ here.token.asks.second) → slice_index m.arch.x reg ≡ slice_index (run k (r + count here.older)).x reg
-      operand_is reg few which = by_case (reg == 0) refl where
-        repaid_is : (i : ℕ) → slice_index (repaid m.owed m.arch).x i ≡ slice_index (run k r).x i
-        repaid_is i = ap (λ (s : Arch). slice_index s.x i) inv.arch
+    module _ (at : (shape_of k).rd ≤ n) (next : (shape_of k).ex ≤ suc n) (ahead : OnPath k here.older) (free : operand_hold (shape_of k) (suc n) here.older here.token.asks ≡ None) where
+      operand_is : (reg : ℕ) → reg < 32 → (reg ≡ here.token.asks.first) ⊎ (reg ≡ here.token.asks.second) → operand_in (shape_of k) true (suc n) here.older m.arch.x reg ≡ slice_index (run k (r + count here.older)).x reg
+      operand_is reg few which =
+          forwards k ready true r (suc n) reg here.older m.arch.x next few here.placed.1 ahead passes_here (operand_parts (shape_of k) (suc n) here.older here.token.asks reg free which)
+          (λ q. (is_apart at).tokens reg (omega (arith, few)) (operand_touched here.token.asks reg few which q)) (by_case (reg == 0) refl) where
+            repaid_is : (i : ℕ) → slice_index (repaid m.owed m.arch).x i ≡ slice_index (run k r).x i
+            repaid_is i = ap (λ (s : Arch). slice_index s.x i) inv.arch
 
-        by_case : (b : Bool) → (reg == 0) ≡ b → slice_index m.arch.x reg ≡ slice_index (run k (r + count here.older)).x reg
-        by_case true e =
-            let zero_is = test_eq reg 0 e in
-            ap (λ i. slice_index m.arch.x i) zero_is
-            ∙ sym (unowed_zero k earlier (outstanding (judged k) earlier) m.entries m.owed m.arch inv.owing)
-            ∙ repaid_is 0
-            ∙ run_zero k ready r
-            ∙ sym (run_zero k ready (r + count here.older))
-            ∙ ap (λ i. slice_index (run k (r + count here.older)).x i) (sym zero_is)
-        by_case false e =
-            let away = is_apart at in
-            let touched = operand_touched here.token.asks reg few which e in
-            sym (unowed k earlier reg (outstanding (judged k) earlier) m.entries m.owed m.arch few inv.owing (away.entries reg (omega (arith, few)) touched))
-            ∙ repaid_is reg
-            ∙ operand_ready k ready r (suc n) reg here.older next few here.placed.1 ahead (operand_parts here.older here.token.asks reg free which) (λ q. away.tokens reg (omega (arith, few)) touched)
+            by_case : (b : Bool) → (reg == 0) ≡ b → slice_index m.arch.x reg ≡ slice_index (run k r).x reg
+            by_case true e =
+                let zero_is = test_eq reg 0 e in
+                ap (λ i. slice_index m.arch.x i) zero_is
+                ∙ sym (unowed_zero k earlier (outstanding (judged k) earlier) m.entries m.owed m.arch inv.owing)
+                ∙ repaid_is 0
+                ∙ ap (λ i. slice_index (run k r).x i) (sym zero_is)
+            by_case false e =
+                let away = is_apart at in
+                let touched = operand_touched here.token.asks reg few which e in
+                sym (unowed k earlier reg (outstanding (judged k) earlier) m.entries m.owed m.arch few inv.owing (away.entries reg (omega (arith, few)) touched)) ∙ repaid_is reg
 
-      pub first_is : rs1_of c.word ≡ (asked k.design c.word).first → slice_index m.arch.x (rs1_of c.word) ≡ slice_index (run k (r + count here.older)).x (rs1_of c.word)
-      first_is e = operand_is (rs1_of c.word) (first_few c.word) (inl (e ∙ ap (λ (a : Asks). a.first) (sym asks_are)))
+      -- so is what the row shows of it
+      shown_is : (reg : ℕ) → reg < 32 → (reg ≡ here.token.asks.first) ⊎ (reg ≡ here.token.asks.second) → operand_of (drives_of k.design k.image k.waits) earlier row n reg ≡ slice_index (run k (r + count here.older)).x reg
+      shown_is reg few which =
+          sym (operand_told k ready earlier m row inv is n reg)
+          ∙ ap (λ b. operand_in (shape_of k) true b (drop b (loaded_by k m)) m.arch.x reg) first_is_next
+          ∙ ap (λ l. operand_in (shape_of k) true (suc n) l m.arch.x reg) (sym kept_rest ∙ rest_here)
+          ∙ operand_is reg few which where
+            first_is_next : max (suc n) (struck (turn_by k m)) ≡ suc n
+            first_is_next = let le = kept_stage in most (suc n) (struck (turn_by k m)) (omega (arith, le)) where
+              most : (a b : ℕ) → b ≤ a → max a b ≡ a
+              most a b le = grind arith
 
-      pub second_is : rs2_of c.word ≡ (asked k.design c.word).second → slice_index m.arch.x (rs2_of c.word) ≡ slice_index (run k (r + count here.older)).x (rs2_of c.word)
-      second_is e = operand_is (rs2_of c.word) (second_few c.word) (inr (e ∙ ap (λ (a : Asks). a.second) (sym asks_are)))
+            kept_rest : drop (suc n) (seen_by k m) ≡ drop (suc n) (loaded_by k m)
+            kept_rest = let le = kept_stage in cleared_drop (struck (turn_by k m)) (suc n) (loaded_by k m) (omega (arith, le)) (B.struck_inside k ready earlier m inv)
+
+      pub first_is : rs1_of c.word ≡ (asked k.design c.word).first → operand_of (drives_of k.design k.image k.waits) earlier row n (rs1_of c.word) ≡ slice_index (run k (r + count here.older)).x (rs1_of c.word)
+      first_is e = shown_is (rs1_of c.word) (first_few c.word) (inl (e ∙ ap (λ (a : Asks). a.first) (sym asks_are)))
+
+      pub second_is : rs2_of c.word ≡ (asked k.design c.word).second → operand_of (drives_of k.design k.image k.waits) earlier row n (rs2_of c.word) ≡ slice_index (run k (r + count here.older)).x (rs2_of c.word)
+      second_is e = shown_is (rs2_of c.word) (second_few c.word) (inr (e ∙ ap (λ (a : Asks). a.second) (sym asks_are)))
 
     -- at RD, below EX, a cell that is not held reads the run's
     module _ (at : n ≡ (shape_of k).rd) (early : n < (shape_of k).ex) (goes : is_some c.hold ≡ false) where
@@ -268,13 +281,13 @@ module _ (k : Setting) (ready : IsReady k) (earlier : List Row) (m : Machine) (r
           path_ahead k r (suc n) here.older near here.placed.1 here.decided.1
           (not_blocked (shape_of k) n here.token here.older here.decided.0 not_held stops_not)
 
-      free_early : operand_hold here.older here.token.asks ≡ None
+      free_early : operand_hold (shape_of k) (suc n) here.older here.token.asks ≡ None
       free_early = waits_operand (shape_of k) n here.token here.older waiting_none at
 
-      pub first_early : rs1_of c.word ≡ (asked k.design c.word).first → slice_index m.arch.x (rs1_of c.word) ≡ slice_index (run k (r + count here.older)).x (rs1_of c.word)
+      pub first_early : rs1_of c.word ≡ (asked k.design c.word).first → operand_of (drives_of k.design k.image k.waits) earlier row n (rs1_of c.word) ≡ slice_index (run k (r + count here.older)).x (rs1_of c.word)
       first_early = first_is (omega (arith, at)) near ahead_early free_early
 
-      pub second_early : rs2_of c.word ≡ (asked k.design c.word).second → slice_index m.arch.x (rs2_of c.word) ≡ slice_index (run k (r + count here.older)).x (rs2_of c.word)
+      pub second_early : rs2_of c.word ≡ (asked k.design c.word).second → operand_of (drives_of k.design k.image k.waits) earlier row n (rs2_of c.word) ≡ slice_index (run k (r + count here.older)).x (rs2_of c.word)
       second_early = second_is (omega (arith, at)) near ahead_early free_early
 
     module _ (past : (shape_of k).ex ≤ n) where
@@ -296,18 +309,18 @@ module _ (k : Setting) (ready : IsReady k) (earlier : List Row) (m : Machine) (r
 
       -- ---- at EX
 
-      module _ (at : n ≡ (shape_of k).ex) (free : operand_hold here.older here.token.asks ≡ None) where
+      module _ (at : n ≡ (shape_of k).ex) (free : operand_hold (shape_of k) (suc n) here.older here.token.asks ≡ None) where
         late_enough : (shape_of k).rd ≤ n
         late_enough = let x = ready.rd_ex in omega (arith, x, at)
 
-        pub first_now : rs1_of c.word ≡ (asked k.design c.word).first → slice_index m.arch.x (rs1_of c.word) ≡ slice_index (run k (r + count here.older)).x (rs1_of c.word)
+        pub first_now : rs1_of c.word ≡ (asked k.design c.word).first → operand_of (drives_of k.design k.image k.waits) earlier row n (rs1_of c.word) ≡ slice_index (run k (r + count here.older)).x (rs1_of c.word)
         first_now = first_is late_enough (omega (arith, past)) path free
 
-        pub second_now : rs2_of c.word ≡ (asked k.design c.word).second → slice_index m.arch.x (rs2_of c.word) ≡ slice_index (run k (r + count here.older)).x (rs2_of c.word)
+        pub second_now : rs2_of c.word ≡ (asked k.design c.word).second → operand_of (drives_of k.design k.image k.waits) earlier row n (rs2_of c.word) ≡ slice_index (run k (r + count here.older)).x (rs2_of c.word)
         second_now = second_is late_enough (omega (arith, past)) path free
 
       -- where RD is EX it waits for no operand
-      pub operand_free : n ≡ (shape_of k).ex → ((shape_of k).rd < n → operand_hold here.older here.token.asks ≡ None) → operand_hold here.older here.token.asks ≡ None
+      pub operand_free : n ≡ (shape_of k).ex → ((shape_of k).rd < n → operand_hold (shape_of k) (suc n) here.older here.token.asks ≡ None) → operand_hold (shape_of k) (suc n) here.older here.token.asks ≡ None
       operand_free at clear = elim (cases_lt (shape_of k).rd n) [
         | inl lt ↦ clear lt
         | inr le ↦ (let first = ready.rd_ex in waits_operand (shape_of k) n here.token here.older waiting_none (omega (arith, le, first, at)))

@@ -22,7 +22,7 @@ use Rattle.rv_machine.proofs.Moving.{free_ahead}
 use Rattle.rv_machine.proofs.NextRow as N
 use Rattle.rv_machine.proofs.Places.{place_le, place_same, flushed_now, unflushed_before, stood}
 use Rattle.rv_machine.proofs.Promised.{known}
-use Rattle.rv_machine.proofs.Reading.{Alike, AlikeSlot, IsAlike}
+use Rattle.rv_machine.proofs.Alike.{Alike, AlikeSlot, IsAlike}
 use Rattle.rv_machine.proofs.Retiring as R
 
 -- ---- a slot after the moves

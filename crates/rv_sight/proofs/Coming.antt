@@ -1,5 +1,5 @@
 -- From effects to records: where effects agree, words come to the same.
-use Rattle.std.proofs.Common.{◌≢◌, inl, inr, ◌≡◌, refl, sym, ap, subst, ◌∙◌, ℕ, ◌+◌, ◌%◌, ◌^◌, ◌<◌, List, get_or, Option, Some, None, Bool, true, false, cond}
+use Rattle.std.proofs.Common.{◌≢◌, inl, inr, ◌≡◌, refl, sym, ap, subst, ◌∙◌, ℕ, ◌+◌, ◌%◌, ◌^◌, ◌<◌, List, get_or, length, Option, Some, None, Bool, true, false, cond}
 use Rattle.std.specs.Prelude.{◌⊎◌, option_map, slice_index, is_some, is_none, ◌&&◌, nat_eq, unwrap_or}
 use Rattle.std.specs.Option.{option_or}
 use Rattle.std.proofs.lemmas.List.{get_or-set_other}
@@ -13,7 +13,7 @@ use Rattle.rv_isa.specs.declared.base.Base.{Base}
 use Rattle.rv_isa.specs.Fields.{rd_of}
 use Rattle.rv_effect.specs.declared.decoded.Decoded.{Decoded}
 use Rattle.rv_effect.specs.declared.decoded.Decoded.TheVariants as D
-use Rattle.rv_effect.specs.WordEffects.{customs_over, over}
+use Rattle.rv_effect.specs.WordEffects.{customs_over, over, blocks_effect}
 use Rattle.rv_asks.specs.declared.asks.Asks.{Asks}
 use Rattle.rv_seq.specs.declared.arch.Arch.{Arch}
 use Rattle.rv_seq.specs.declared.answer.StepAnswer.TheVariants.{Done}
@@ -24,8 +24,9 @@ use Rattle.rv_seq.specs.Commits.{x_index, x_slot, slot_of, commit_of, with_x, wi
 use Rattle.rv_seq.specs.Runs.{stored_at, access_in}
 use Rattle.rv_seq.specs.Steps.{own_effect, whole_effect, unless_stopped, attempted, of_decoded}
 use Rattle.rv_seq.specs.Stops.{call_stop, load_stop, store_stop, target_stop, stop_of}
-use Rattle.rv_seq.specs.States.{state_at}
+use Rattle.rv_seq.specs.States.{state_at, inputs_at}
 use Rattle.rv_tried.specs.Tried.{effect_seen, whole_seen, tried_instruction, tried, blocks_seen, unless_stopping, load_unless, marked}
+use Rattle.rv_lawful.specs.Forwarding.{value_in, x_written}
 use Rattle.rv_lawful.specs.Settings.{does_access}
 use Rattle.rv_lawful.specs.Outstanding.{is_register}
 use Rattle.rv_lawful.specs.Sight.{IsEarlyCommit, IsEarly, IsKept}
@@ -135,6 +136,28 @@ none_blocks x i memory s code = refl
 pub none_writes : (x : ExtensionTree) (i : State) (memory : List ℕ) (s : Arch) (code : ℕ) → (tried x i memory None).own ≡ (tried x (state_at code s) s.mem None).own
 unfolding tried
 none_writes x i memory s code = refl
+
+-- ---- the x register
+-- the value that is written to this x register, where the instruction does not stop
+abbrev x_unless : Option Stop → ℕ → Option ℕ → Option ℕ
+x_unless None rd value = value_in (x_slot rd value)
+x_unless (Some stop) rd value = None
+
+written_is : (o : Option Stop) (at word : ℕ) (e b : Effect) → x_written (unless_stopped o (Done (commit_of at word (over e b)))) ≡ x_unless o (rd_of word) e.rd
+unfolding over commit_of
+written_is None at word e b = refl
+written_is (Some stop) at word e b = refl
+
+-- the same is written to the x register
+pub same_x : (x : ExtensionTree) (i : State) (memory : List ℕ) (s : Arch) (code : ℕ) (d : Decoded) → i.word ≡ code → stop_of d (effect_seen x i memory d) ≡ stop_of d (own_effect x s code d)
+    → (effect_seen x i memory d).rd ≡ (own_effect x s code d).rd → x_written (tried x i memory (Some d)).answer ≡ x_written (of_decoded x s code (Some d))
+unfolding tried tried_instruction attempted
+same_x x i memory s code d w e r =
+    written_is (stop_of d (effect_seen x i memory d)) i.pc i.word (effect_seen x i memory d) (blocks_seen x i memory)
+    ∙ ap (λ (z : Option Stop). x_unless z (rd_of i.word) (effect_seen x i memory d).rd) e
+    ∙ ap (x_unless (stop_of d (own_effect x s code d)) (rd_of i.word)) r
+    ∙ ap (λ (z : ℕ). x_unless (stop_of d (own_effect x s code d)) (rd_of z) (own_effect x s code d).rd) w
+    ∙ sym (written_is (stop_of d (own_effect x s code d)) s.pc code (own_effect x s code d) (blocks_effect x (inputs_at code s) (length x.blocks)))
 
 -- an instruction of an extension stops by its load or its store
 pub own_stop : (n : ℕ) (e f : Effect) → e.load ≡ f.load → e.store ≡ f.store → stop_of (D.Own n) e ≡ stop_of (D.Own n) f

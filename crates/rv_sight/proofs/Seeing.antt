@@ -1,5 +1,5 @@
 -- What a standing design promises of what a word may see.
-use Rattle.std.proofs.Common.{inl, inr, ◌≡◌, refl, sym, ap, ◌∙◌, ℕ, zero, suc, ◌+◌, ◌<◌, ◌≤◌, ◌^◌, arith, List, [], ◌∷◌, map, get_or, length, replicate, Option, Some, None, Bool, true, false}
+use Rattle.std.proofs.Common.{inl, inr, ◌≡◌, ◌≢◌, refl, sym, ap, subst, ◌∙◌, ℕ, zero, suc, ◌+◌, ◌<◌, ◌≤◌, ◌^◌, arith, List, [], ◌∷◌, map, get_or, length, replicate, Option, Some, None, Bool, true, false}
 use Rattle.std.specs.Prelude.{◌⊎◌, option_map, slice_get, slice_index, is_some, nat_lt, ◌||◌}
 use Rattle.std.specs.List.{list_any}
 use Rattle.std.specs.Option.{option_or}
@@ -16,11 +16,12 @@ use Rattle.ix_mean.specs.Typing.{AreInputs}
 use Rattle.ix_behaviour.specs.declared.which.Which.{Which}
 use Rattle.ix_behaviour.specs.declared.which.Which.TheVariants as W
 use Rattle.ix_behaviour.specs.Behaviours.{targets_at, effect_by_name}
+use Rattle.ix_flow.specs.Flows.{target_of}
 use Rattle.ix_plan.specs.declared.design.Plan.{Plan}
 use Rattle.ix_plan.specs.declared.design.Design.{Design}
 use Rattle.ix_standing.specs.Standing.{Stands}
-use Rattle.ix_depends.specs.Depends.{Agrees, AreLowWrites, value_written}
-use Rattle.ix_depends.specs.Laws.{DependsLaw, ByExecuteLaw, IsByExecute, TimesLaw, BlindLaw, UnwrittenLaw}
+use Rattle.ix_depends.specs.Depends.{Agrees, AreLowWrites, value_written, IsSameWhereLow}
+use Rattle.ix_depends.specs.Laws.{DependsLaw, BeforeMemoryLaw, IsBeforeMemory, TimesLaw, SingleLaw, BlindLaw, UnwrittenLaw}
 use Rattle.ix_eval.specs.Evaluated.{effect_at}
 use Rattle.rv_base.specs.declared.operation.Size.{Size}
 use Rattle.rv_base.specs.Effects.{load_at, store_at}
@@ -46,13 +47,15 @@ use Rattle.rv_sight.proofs.Asking.{asks_of, flags_at, not_any, asks_first, asks_
 use Rattle.rv_sight.proofs.Base.{SameUsed, base_same, base_rd_same, base_rd_writes, names}
 use Rattle.rv_sight.proofs.Coming.{IsSameBlocks, over_blocks, IsEarlyEffect, IsHeld, held_from}
 use Rattle.rv_sight.proofs.Plans.{plan_of, plan_of_block}
+use Rattle.rv_sight.proofs.Timing.{has_write, load_late}
 use Rattle.rv_seq.specs.Commits.{commit_of}
 
 -- the laws on behaviours that all rests on
 pub record Laws : Type 0 where
   pub depends : DependsLaw
-  pub by_execute : ByExecuteLaw
+  pub before_memory : BeforeMemoryLaw
   pub times : TimesLaw
+  pub single : SingleLaw
   pub blind : BlindLaw
   pub unwritten : UnwrittenLaw
 
@@ -260,22 +263,48 @@ module _ (laws : Laws) (d : Design) (stands : Stands d) where
           effect_from (effect_at x w here) (effect_at x w there) (rd_same x w ops here there (λ q. Unit {0}) same.values (λ m o e t. tt)) (pc_same x w ops here there (λ q. Unit {0}) same.values (λ m o e t. tt))
           (customs_same x w ops here there (λ q. Unit {0}) same.values (λ r m o e t. tt)) (load_same x w here there (same.reads (λ m o e t. tt))) (store_same x w here there (same.store (λ m o e t. tt)))
 
+      -- what it does before MEM
+      before_memory : (n : ℕ) (l : n < length x.instructions) → IsSeen (asks_of d code (unit_of d.plans n) (plan_of d stands n l).plan) code s i
+          → IsSameWhereLow x (W.Instruction n) (plan_of d stands n l).plan.graph.ops here there (IsBeforeMemory d.sheet (plan_of d stands n l).plan)
+      before_memory n l seen =
+          let p = plan_of d stands n l in
+          let w = W.Instruction n in
+          laws.before_memory stands.well_formed.0 x d.sheet w p.plan here there stands.well_formed.1 l stands.sheet p.planned (here_inputs w) (there_inputs w)
+          (λ m o e other. own_agrees (unit_of d.plans n) p.plan seen m o e (λ is. absurd (other is)))
+
+      -- what is at EX at the latest is before MEM
+      low_by_execute : (t : ℕ) → t ≤ d.sheet.shape.ex → t < d.sheet.shape.mem
+      low_by_execute t h = (let late = d.sheet.shape.lawful.memory_late in omega (arith, h, late))
+
       pub early_own : (n : ℕ) (l : n < length x.instructions) → IsSeen (asks_of d code (unit_of d.plans n) (plan_of d stands n l).plan) code s i
           → IsEarlyEffect (asks_of d code (unit_of d.plans n) (plan_of d stands n l).plan) (effect_at x (W.Instruction n) here) (effect_at x (W.Instruction n) there)
       early_own n l seen =
           let p = plan_of d stands n l in
           let w = W.Instruction n in
           let ops = p.plan.graph.ops in
-          let same = laws.by_execute stands.well_formed.0 x d.sheet w p.plan here there stands.well_formed.1 l stands.sheet p.planned (here_inputs w) (there_inputs w)
-          (λ m o e other. own_agrees (unit_of d.plans n) p.plan seen m o e (λ is. absurd (other is))) in
+          let same = before_memory n l seen in
           let times = laws.times stands.well_formed.0 x d.sheet w p.plan stands.well_formed.1 l stands.sheet p.planned in
           record {
-            load = load_same x w here there (same.reads times.loads);
-            store = store_same x w here there (same.store (λ m o e t. times.stores m o e (target_is_memory o.kind t)));
-            pc = λ late. pc_same x w ops here there (IsByExecute d.sheet p.plan) same.values (λ m o e t. asks_late d code (unit_of d.plans n) p.plan late m o e (target_is_pc o.kind t) (times.jumps m o e (target_is_pc o.kind t)));
+            load = load_same x w here there (same.reads (λ m o e is. low_by_execute (slice_index p.plan.times m) (times.loads m o e is)));
+            store = store_same x w here there (same.store (λ m o e t. low_by_execute (slice_index p.plan.times m) (times.stores m o e (target_is_memory o.kind t))));
+            pc = λ late. pc_same x w ops here there (IsBeforeMemory d.sheet p.plan) same.values
+                (λ m o e t. low_by_execute (slice_index p.plan.times m) (asks_late d code (unit_of d.plans n) p.plan late m o e (target_is_pc o.kind t) (times.jumps m o e (target_is_pc o.kind t))));
             customs = λ r late spawn.
-                custom_same x w ops here there (IsByExecute d.sheet p.plan) same.values r (λ few m o e t. asks_late_customs d code (unit_of d.plans n) p.plan r few late spawn m o e (target_is_custom o.kind r t));
+                custom_same x w ops here there (IsBeforeMemory d.sheet p.plan) same.values r
+                (λ few m o e t. low_by_execute (slice_index p.plan.times m) (asks_late_customs d code (unit_of d.plans n) p.plan r few late spawn m o e (target_is_custom o.kind r t)));
           }
+
+      -- it writes the same to its x register, where the time of that write is below MEM
+      pub own_x : (n : ℕ) (l : n < length x.instructions) → IsSeen (asks_of d code (unit_of d.plans n) (plan_of d stands n l).plan) code s i → (asks_of d code (unit_of d.plans n) (plan_of d stands n l).plan).destination ≢ 0
+          → (asks_of d code (unit_of d.plans n) (plan_of d stands n l).plan).x_time < d.sheet.shape.mem → (effect_at x (W.Instruction n) here).rd ≡ (effect_at x (W.Instruction n) there).rd
+      own_x n l seen some low =
+          let p = plan_of d stands n l in
+          let w = W.Instruction n in
+          let write = has_write d code (unit_of d.plans n) p.plan some in
+          let single = laws.single stands.well_formed.0 x d.sheet w p.plan stands.well_formed.1 l p.planned in
+          let there_low : IsBeforeMemory d.sheet p.plan write.number = subst (λ (t : ℕ). t < d.sheet.shape.mem) write.time low in
+          rd_same x w p.plan.graph.ops here there (IsBeforeMemory d.sheet p.plan) (before_memory n l seen).values
+          (λ m o e t. subst (IsBeforeMemory d.sheet p.plan) (single 1 write.number m write.op o write.is e (ap target_of write.kind) t) there_low)
 
       -- ---- a base instruction
       base_used : (b : Base) → decoded code ≡ Some b → IsSeen (base_asks d.sheet.shape (blank_in d).customs b) code s i → SameUsed b here.rs1 here.rs2 there.rs1 there.rs2
@@ -291,3 +320,9 @@ module _ (laws : Laws) (d : Design) (stands : Stands d) where
       early_base b is seen =
           let most = base_same b here there seen.pc (base_used b is seen) in
           record { load = most.load; store = most.store; pc = λ late. most.pc; customs = λ r late spawn. refl }
+
+      -- it writes the same to its x register, where the time of that write is below MEM: then it is no load
+      pub base_x : (b : Base) → decoded code ≡ Some b → IsSeen (base_asks d.sheet.shape (blank_in d).customs b) code s i → (base_asks d.sheet.shape (blank_in d).customs b).destination ≢ 0
+          → (base_asks d.sheet.shape (blank_in d).customs b).x_time < d.sheet.shape.mem → (base_effect b here).rd ≡ (base_effect b there).rd
+      base_x b is seen some low =
+          base_rd_same b here there seen.pc (base_used b is seen) (λ loads. (let late = load_late d b some loads in absurd (omega (arith, late, low))))

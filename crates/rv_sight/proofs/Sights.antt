@@ -1,5 +1,5 @@
 -- The four laws of what a word may see, for a standing design.
-use Rattle.std.proofs.Common.{◌≡◌, refl, sym, ap, subst, ◌∙◌, ℕ, ◌<◌, ◌≤◌, ◌^◌, arith, List, length, Option, Some, None, true}
+use Rattle.std.proofs.Common.{◌≡◌, ◌≢◌, refl, sym, ap, subst, ◌∙◌, ℕ, ◌<◌, ◌≤◌, ◌^◌, arith, List, length, Option, Some, None, true}
 use Rattle.ix_graph.specs.declared.graph.Mode.{Mode}
 use Rattle.ix_graph.specs.declared.graph.Mode.TheVariants.{InPipeline, Tight, Decoupled, Always}
 use Rattle.ix_extension.specs.Extensions.{ExtensionTree, view_extension}
@@ -27,13 +27,14 @@ use Rattle.rv_seq.specs.Commits.{commit_of}
 use Rattle.rv_seq.specs.States.{inputs_at, state_at}
 use Rattle.rv_seq.specs.Steps.{own_effect, whole_effect, of_decoded}
 use Rattle.rv_tried.specs.Tried.{effect_seen, whole_seen, tried}
+use Rattle.rv_lawful.specs.Forwarding.{x_written}
 use Rattle.rv_lawful.specs.Settings.{does_access}
 use Rattle.rv_lawful.specs.Sight.{IsSeen, HasWords, AreWords, IsEarlyCommit, IsEarly, EarlyLaw, ExactLaw, KeepsLaw, TailLaw}
 use Rattle.rv_sight.proofs.Asking.{asks_of, own_asks, base_asks_are, none_asks}
 use Rattle.rv_sight.specs.Written.{WrittenLaw}
-use Rattle.rv_sight.proofs.Coming.{over_same, exact_answer, early_commit, early_answer, same_access, same_load, same_blocks, same_own, none_load, none_blocks, none_writes, own_stop, base_stop, IsHeld, held_by, IsEarlyEffect}
+use Rattle.rv_sight.proofs.Coming.{over_same, exact_answer, early_commit, early_answer, same_access, same_load, same_blocks, same_own, same_x, none_load, none_blocks, none_writes, own_stop, base_stop, IsHeld, held_by, IsEarlyEffect}
 use Rattle.rv_sight.proofs.Plans.{plan_of, own_within, base_decoded}
-use Rattle.rv_sight.proofs.Seeing.{Laws, own_is, base_is, none_tried, own_blocks, base_blocks, keeps_own, keeps_base, all_blocks, exact_own, early_own, exact_base, early_base}
+use Rattle.rv_sight.proofs.Seeing.{Laws, own_is, base_is, none_tried, own_blocks, base_blocks, keeps_own, keeps_base, all_blocks, exact_own, early_own, own_x, exact_base, early_base, base_x}
 use Rattle.rv_seq.specs.declared.answer.StepAnswer.{StepAnswer}
 
 module _ (laws : Laws) (d : Design) (stands : Stands d) where
@@ -93,11 +94,12 @@ module _ (laws : Laws) (d : Design) (stands : Stands d) where
       pub accesses : (tried x i memory o).accesses ≡ does_access x s code o
       pub load : (tried x i memory o).load ≡ (tried x (state_at code s) s.mem o).load
       pub blocks : (tried x i memory o).blocks ≡ (tried x (state_at code s) s.mem o).blocks
+      pub writes : a.destination ≢ 0 → a.x_time < d.sheet.shape.mem → x_written (tried x i memory o).answer ≡ x_written (of_decoded x s code o)
 
     early_of : (o : Option Decoded) → decoded_in x code ≡ o → IsSeen (asks_in d code o) code s i → Early o (asks_in d code o)
     early_of None is seen =
         let r = none_tried x i memory s code in
-        record { answer = subst (λ (z : StepAnswer). IsEarly (asks_in d code None) z (of_decoded x s code None)) (sym r.0) refl; accesses = r.1; load = none_load x i memory s code; blocks = none_blocks x i memory s code }
+        record { answer = subst (λ (z : StepAnswer). IsEarly (asks_in d code None) z (of_decoded x s code None)) (sym r.0) refl; accesses = r.1; load = none_load x i memory s code; blocks = none_blocks x i memory s code; writes = λ some low. ap x_written r.0 }
     early_of (Some (D.Own n)) is seen =
         let l = own_within x code n is in
         let p = plan_of d stands n l in
@@ -120,6 +122,9 @@ module _ (laws : Laws) (d : Design) (stands : Stands d) where
           accesses = same_access x i memory s code (D.Own n) stops effects.load effects.store;
           load = same_load x i memory s code (D.Own n) stops effects.load;
           blocks = same_blocks x i memory s code (D.Own n) stops blocks.custom;
+          writes = λ some low.
+              same_x x i memory s code (D.Own n) saw.word stops
+              (ap (λ (z : Effect). z.rd) (own_is x n here) ∙ own_x laws d stands code s ws hw word pc i memory wi aw n l saw some low ∙ ap (λ (z : Effect). z.rd) (sym (own_is x n there)));
         } in
         subst (λ (z : Asks). Early (Some (D.Own n)) z) (sym e) done
     early_of (Some (D.Base b)) is seen =
@@ -142,6 +147,9 @@ module _ (laws : Laws) (d : Design) (stands : Stands d) where
           accesses = same_access x i memory s code (D.Base b) stops effects.load effects.store;
           load = same_load x i memory s code (D.Base b) stops effects.load;
           blocks = same_blocks x i memory s code (D.Base b) stops blocks.custom;
+          writes = λ some low.
+              same_x x i memory s code (D.Base b) saw.word stops
+              (ap (λ (z : Effect). z.rd) (base_is x b here) ∙ base_x laws d stands code s ws hw word pc i memory wi aw b (base_decoded x code b is) saw some low ∙ ap (λ (z : Effect). z.rd) (sym (base_is x b there)));
         } in
         subst (λ (z : Asks). Early (Some (D.Base b)) z) (sym e) done
 
@@ -185,7 +193,7 @@ module _ (laws : Laws) (d : Design) (stands : Stands d) where
   pub early_law : EarlyLaw d
   early_law code s i memory ws wi hw aw seen =
       let r = early_of code s i memory ws wi hw aw (decoded_in x code) refl seen in
-      record { answer = r.answer; accesses = r.accesses; load = r.load; blocks = r.blocks }
+      record { answer = r.answer; accesses = r.accesses; load = r.load; blocks = r.blocks; x = r.writes }
 
   pub keeps_law : KeepsLaw d
   keeps_law code s c ws hw word pc e = (held_of code s c ws hw word pc (decoded_in x code) refl e).kept

@@ -1,5 +1,5 @@
 -- What the laws of rows are made of: how cells move, the order of holds, and the form of a row (this project's choice).
-use Rattle.std.specs.Prelude.{◌≡◌, ℕ, suc, ◌+◌, ◌%◌, ◌^◌, ◌<◌, ◌≤◌, List, [], ◌∷◌, map, Option, Some, None, Bool, false, ◌&&◌, ◌||◌, not, if◌then◌else◌, is_some, ◌⊎◌}
+use Rattle.std.specs.Prelude.{◌≡◌, ℕ, suc, ◌+◌, ◌<◌, ◌≤◌, List, [], ◌∷◌, map, Option, Some, None, false, ◌&&◌, ◌||◌, not, if◌then◌else◌, is_some, ◌⊎◌}
 use Rattle.rv_trace.specs.declared.row.Cell.{Cell}
 use Rattle.rv_trace.specs.declared.row.Row.{Row}
 use Rattle.ix_plan.specs.declared.design.Target.{Target}
@@ -32,11 +32,6 @@ stays row (Some c) = if is_some c.hold && not (has_serial row.flushed c.serial) 
 abbrev pub leaves : Row → Option Cell → Option Name
 leaves row None = None
 leaves row (Some c) = if is_some c.hold || has_serial row.flushed c.serial then None else name_of (Some c)
-
--- the address behind what leaves stage 0, where something does
-abbrev pub address_after : ℕ → Option Name → ℕ
-address_after before None = before
-address_after before (Some n) = (n.1 + 4) % 2 ^ 32
 
 -- what stands in stage 0
 abbrev pub front : List (Option Cell) → Option Cell

@@ -1,8 +1,8 @@
-use Rattle.std.proofs.Common.{◌∙◌, sym, ap, get_or, None, arith}
+use Rattle.std.proofs.Common.{◌∙◌, sym, ap, length, get_or, None, arith}
 use Rattle.ix_eval.specs.Tables.{table}
 use Rattle.rv_ports.specs.Seats.{loaded}
 use Rattle.rv_engine.specs.Showing.{slot_seat, slot_load}
-use Rattle.rv_engine.proofs.Seats.{got_at, shown_is}
+use Rattle.rv_engine.proofs.Seats.{got_at, shown_is, struck_within}
 use Rattle.rv_engine.proofs.showing.show.Goals as goal
 
 pub returns : goal.returns
@@ -11,3 +11,6 @@ returns c =
     (c.seats_in-seats.ensures ∙ ap (λ f. table (slot_seat c.args.shape c.args.arch.now.x f c.args.slots.now) 5) c.struck.ensures)
     (c.datum_in.ensures ∙ ap (λ s. loaded c.args.arch.now.mem (slot_load s)) (sym (ap (λ n. get_or c.args.slots.now n None) (sym c.from.ensures) ∙ got_at c.args.slots.now c.from.result c.index-slots-from.result (let inside = c.requires.inside in let from = c.from.ensures in omega (arith, inside, from)) c.index-slots-from.is)))
     c.frozen_in-frozen.ensures
+
+pub seats_in-seats-requires-clause-flushed : goal.seats_in-seats-requires-clause-flushed
+seats_in-seats-requires-clause-flushed c = struck_within c.args.turn (length c.args.slots.now) c.struck.result c.struck.ensures c.requires.turn
