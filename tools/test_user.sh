@@ -134,15 +134,23 @@ run_all_scripts() {
     head -n 1 out | grep -q 'Kanata	0004' || fail "$name has no log"
 }
 
+# The extension of an example, or one whose instructions the example does not have.
+extension_of() {
+    if [ -f "$1.core_desc" ]; then
+        echo "$1.core_desc"
+    else
+        echo "$examples/wide-add.core_desc"
+    fi
+}
+
 for sheet in "$examples"/*.toml; do
     for image in "$examples"/*.hex; do
-        extension=${image%.hex}.core_desc
-        [ -f "$extension" ] || extension=$examples/wide-add.core_desc
-        run_all_scripts "$extension" "$sheet" "$image" "$image"
+        run_all_scripts "$(extension_of "${image%.hex}")" "$sheet" "$image" "$image"
     done
     for source in "$examples"/*.s; do
-        "$program" asm "$examples/wide-add.core_desc" "$source" > source.hex || fail "$source is not assembled"
-        run_all_scripts "$examples/wide-add.core_desc" "$sheet" source.hex "$source"
+        extension=$(extension_of "${source%.s}")
+        "$program" asm "$extension" "$source" > source.hex || fail "$source is not assembled"
+        run_all_scripts "$extension" "$sheet" source.hex "$source"
     done
     run_all_scripts "$examples/two-decoupled.core_desc" "$sheet" "$examples/first-run.hex" "$examples/first-run.hex"
 done

@@ -242,7 +242,7 @@ def add_sheet_options(parser):
     """What else the datasheet has."""
     parser.add_argument(
         "--core",
-        choices=["three", "four", "five"],
+        choices=["three", "four", "five", "three_f", "five_f"],
         default="five",
         help="the core of the datasheet (else five)",
     )

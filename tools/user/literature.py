@@ -40,7 +40,7 @@ from trace_summary import account
 FOLDER = ROOT / "examples" / "literature"
 WAITS = ROOT / "examples" / "some.waits"
 CELL_COUNTS = ROOT / "tools" / "cell_counts.py"
-CORES = ["three", "four", "five"]
+CORES = ["three", "four", "five", "three_f", "five_f"]
 MOST_STEPS = 200_000
 MEMORY = 0x8000_0000
 REGISTER = re.compile(r"  reg \[(\d+):0\] \w+;")

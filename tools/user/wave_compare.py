@@ -28,7 +28,7 @@ from ixt_texts import (
 
 DIFFERS = 3
 EXAMPLES = ROOT / "examples"
-CORES = ["three", "four", "five"]
+CORES = ["three", "four", "five", "three_f", "five_f"]
 WAITS = EXAMPLES / "some.waits"
 MOST_ROWS = 200_000
 TOP = "wave_bench"
