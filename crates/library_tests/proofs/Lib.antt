@@ -1,1 +1,2 @@
 mod Additions
+mod Windows

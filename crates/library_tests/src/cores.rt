@@ -1,7 +1,7 @@
 use rv_core::{Blocks, Core, CoreKind, Plain, Predictor, Shape, shape_of};
 
 /// A core of a user: one more `impl`, with the proof of its law.
-struct Late;
+pub(crate) struct Late;
 
 impl Core for Late {
     const STAGES: u8 = 5;

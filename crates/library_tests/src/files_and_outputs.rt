@@ -50,15 +50,27 @@ fn a_read_that_fails_in_turn(rt: HostRuntime) -> Result<(), Fail> {
 #[test]
 fn a_name_that_is_not_there(rt: HostRuntime) -> Result<(), Fail> {
     let alloc = rt.alloc();
-    let mut failing = MemShelf::new(files(alloc, TEXT)?, List::new(alloc), 7);
-    let read = read_all(alloc, &mut failing, "c");
+    let mut shelf = MemShelf::new(files(alloc, TEXT)?, List::new(alloc), 7);
+    let read = read_all(alloc, &mut shelf, "c");
     assert!(rt; matches!(&read, Err(ReadErr::Fault)));
-    let mut sure = SureShelf::new(files(alloc, TEXT)?);
-    assert_eq!(rt; read_all(alloc, &mut sure, "c")?.len(), 0);
-    assert_eq!(rt;
-        read_all(alloc, &mut sure, "b")?.as_slice(),
-        b"other".as_slice()
-    );
+    Ok(())
+}
+
+#[test]
+fn a_sure_name_that_is_not_there(rt: HostRuntime) -> Result<(), Fail> {
+    let alloc = rt.alloc();
+    let mut shelf = SureShelf::new(files(alloc, TEXT)?);
+    let read = read_all(alloc, &mut shelf, "c")?;
+    assert_eq!(rt; read.len(), 0);
+    Ok(())
+}
+
+#[test]
+fn a_name_that_is_there(rt: HostRuntime) -> Result<(), Fail> {
+    let alloc = rt.alloc();
+    let mut shelf = SureShelf::new(files(alloc, TEXT)?);
+    let read = read_all(alloc, &mut shelf, "b")?;
+    assert_eq!(rt; read.as_slice(), b"other".as_slice());
     Ok(())
 }
 
@@ -95,33 +107,50 @@ fn a_write_that_fails_in_turn(rt: HostRuntime) -> Result<(), Fail> {
     Ok(())
 }
 
-#[test]
-fn an_output_of_text_and_digits(rt: HostRuntime) -> Result<(), Fail> {
-    let alloc = rt.alloc();
+const DIGITS: &[u8] = b"x 0 18446744073709551615 00008f0a";
+
+// An output that holds `DIGITS`.
+fn digits(alloc: Global) -> Result<Out, Memory> {
     let mut out = Out::new(alloc)?;
     out.text("x ");
     out.decimal(0);
     out.text(" ");
     out.decimal(18_446_744_073_709_551_615);
     out.text(" ");
-    out.hex(
-        Bits {
-            raw: 0x8f0a,
-            width: 32,
-        },
-        8,
-    );
-    let due = b"x 0 18446744073709551615 00008f0a".as_slice();
-    assert_eq!(rt; out.bytes(), due);
-    assert_eq!(rt; out.room(), 65_503);
+    let word = Bits {
+        raw: 0x8f0a,
+        width: 32,
+    };
+    out.hex(word, 8);
+    Ok(out)
+}
 
+#[test]
+fn an_output_of_text_and_digits(rt: HostRuntime) -> Result<(), Fail> {
+    let out = digits(rt.alloc())?;
+    assert_eq!(rt; out.bytes(), DIGITS);
+    assert_eq!(rt; out.room(), 65_503);
+    Ok(())
+}
+
+#[test]
+fn an_output_whose_write_fails(rt: HostRuntime) -> Result<(), Fail> {
+    let alloc = rt.alloc();
+    let mut out = digits(alloc)?;
     let mut sink = MemSink::new(alloc, List::from_slice(alloc, &[1])?, 4)?;
     assert!(rt; out.flush(&mut sink).is_err());
     assert_eq!(rt; sink.bytes(), b"x 0 ".as_slice());
-    assert_eq!(rt; out.bytes(), due);
+    assert_eq!(rt; out.bytes(), DIGITS);
+    Ok(())
+}
+
+#[test]
+fn an_output_that_is_written(rt: HostRuntime) -> Result<(), Fail> {
+    let alloc = rt.alloc();
+    let mut out = digits(alloc)?;
     let mut sure = SureSink::new(alloc, 33)?;
     out.flush(&mut sure)?;
-    assert_eq!(rt; sure.bytes(), due);
+    assert_eq!(rt; sure.bytes(), DIGITS);
     assert_eq!(rt; out.bytes().len(), 0);
     Ok(())
 }

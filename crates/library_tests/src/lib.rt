@@ -15,6 +15,8 @@ mod files_and_outputs;
 #[cfg(test)]
 mod graphs;
 #[cfg(test)]
+mod machines;
+#[cfg(test)]
 mod names;
 #[cfg(test)]
 mod problems;

@@ -1,0 +1,106 @@
+ghost use Rattle.std.specs.Prelude.{IfOk};
+ghost use Rattle.ix_sheet.specs.Sheets.{IsValidSheet};
+ghost use Rattle.ix_standing.specs.Standing.{Stands};
+
+use crate::cores::Late;
+use ix_bits::List;
+use ix_design::design;
+use ix_elab::elaborate;
+use ix_io::MemSink;
+use ix_plan::Design;
+use ix_schedules::name_law;
+use ix_sheet::{Sheet, native_windows};
+use rv_core::shape_of;
+use rv_isa::Image;
+use rv_pipe::write_design_run;
+use rv_waits::Waits;
+use std::alloc::Global;
+use std::test::Fail;
+
+/// An instruction that doubles what it reads, and a block that goes on at 20 behind the instruction at 8.
+const SOURCE: &[u8] = b"InstructionSet Twice extends RV32I {
+  instructions {
+    twice {
+      encoding: 7'd0 :: 5'd0 :: rs1[4:0] :: 3'd0 :: rd[4:0] :: 7'b0001011;
+      behavior: { X[rd] = (unsigned<32>)(X[rs1] + X[rs1]); }
+    }
+  }
+  always { skip { if (PC == 8) PC = 20; } }
+}";
+
+/// `addi x1, x0, 5`, `twice x2, x1`, `add x3, x2, x1`, which goes on at 20, two words that are passed over, and `ebreak`.
+const WORDS: [u32; 6] = [
+    0x0050_0093,
+    0x0000_810B,
+    0x0011_01B3,
+    0x0010_0193,
+    0x0020_0193,
+    0x0010_0073,
+];
+
+/// What `run` writes of 20 cycles: each sum waits in one row, in which what it reads is at EX, the jump of the block flushes what was
+/// fetched behind it, and `ebreak` stops the run in EX.
+const RUN: &str = "\
+0 0@00000000 - - - -
+1 1@00000004 0@00000000 - - -
+2 2@00000008 1@00000004 0@00000000 - -
+3 3@0000000c/Behind 2@00000008/Behind 1@00000004/Operand(x1,0) 0@00000000 -
+4 3@0000000c 2@00000008 1@00000004 - 0@00000000 r0
+= 0 00000000 00500093 x1=00000005
+5 4@00000010/Behind 3@0000000c/Behind 2@00000008/Operand(x2,1) 1@00000004 -
+6 4@00000010 3@0000000c 2@00000008 - 1@00000004 r1
+= 1 00000004 0000810b x2=0000000a
+7 5@00000014 4@00000010 3@0000000c 2@00000008 - f3 f4 f5 p00000014
+8 6@00000014 - - - 2@00000008 r2
+= 2 00000008 001101b3 x3=0000000f pc=00000014
+9 - 6@00000014 - - -
+10 - - 6@00000014 - -
+11 - - - 6@00000014 - stop Ebreak
+state
+pc 00000014
+x1 00000005
+x2 0000000a
+x3 0000000f
+";
+
+/// The datasheet of the core `Late`, which no text names: each operation at the widest window that the core has.
+fn sheet_of_late() -> Sheet
+    ensures { IsValidSheet result }
+{
+    let shape = shape_of::<Late>();
+    Sheet {
+        shape,
+        period: 10,
+        weighted: false,
+        delay: [1; 34],
+        window: native_windows(shape),
+    }
+}
+
+/// The design of the extension on that core.
+fn design_on_late(alloc: Global) -> Result<Design, Fail>
+    ensures { IfOk result Stands }
+{
+    name_law();
+    let Ok(extension) = elaborate(alloc, SOURCE) else {
+        return Err(Fail::from("an extension"));
+    };
+    match design(alloc, extension, sheet_of_late()) {
+        Ok(design) => Ok(design),
+        Err(_) => Err(Fail::from("a design")),
+    }
+}
+
+/// A core that forwards and always guesses the next word.
+#[test]
+fn a_run_on_a_core_of_a_user(rt: HostRuntime) -> Result<(), Fail> {
+    let alloc = rt.alloc();
+    let design = design_on_late(alloc)?;
+    let image = Image::from_list(List::from_slice(alloc, &WORDS)?);
+    let waits = Waits::new(alloc);
+    let mut sink = MemSink::new(alloc, List::new(alloc), u32::MAX)?;
+    let written = write_design_run(alloc, &design, &image, &waits, 20, &mut sink);
+    assert!(rt; written.is_ok());
+    assert_eq!(rt; str::from_utf8(sink.bytes()), Ok(RUN));
+    Ok(())
+}
