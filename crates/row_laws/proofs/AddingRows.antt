@@ -18,7 +18,7 @@ use Rattle.rv_lawful.specs.Outstanding.{is_written, decoupled, architecture}
 use Rattle.rv_tried.specs.Parts.{shown, native}
 use Rattle.rv_seq.specs.Bare.{bare}
 use Rattle.rv_seq.specs.Commits.{commit_of, applied}
-use Rattle.rv_seq.specs.Runs.{run, answer_at}
+use Rattle.rv_seq.specs.Runs.{run_with, run, answer_at}
 use Rattle.rv_seq.specs.States.{first}
 use Rattle.rv_seq.specs.Steps.{attempted, step, after}
 use Rattle.rv_seq.specs.declared.answer.StepAnswer.{StepAnswer}
@@ -43,19 +43,19 @@ use Rattle.row_laws.proofs.Stages.{SpawnsNone, left_unretired, none_written, tru
 -- The run
 
 answer_0 : answer_at bare adding_image 0 ≡ Done (writes 0 5243027 1 5)
-unfolding step run decoded_in attempted effect_of over blocks_effect commit_of first applied decoded base_row base_patterns fields_of format_of base_formats
+unfolding step run_with decoded_in attempted effect_of over blocks_effect commit_of first applied decoded base_row base_patterns fields_of format_of base_formats
 answer_0 = refl
 
 answer_1 : answer_at bare adding_image 1 ≡ Done (writes 4 7340307 2 7)
-unfolding step run decoded_in attempted effect_of over blocks_effect commit_of first applied decoded base_row base_patterns fields_of format_of base_formats
+unfolding step run_with decoded_in attempted effect_of over blocks_effect commit_of first applied decoded base_row base_patterns fields_of format_of base_formats
 answer_1 = refl
 
 answer_2 : answer_at bare adding_image 2 ≡ Done (writes 8 2130355 3 12)
-unfolding step run decoded_in attempted effect_of over blocks_effect commit_of first applied decoded base_row base_patterns fields_of format_of base_formats
+unfolding step run_with decoded_in attempted effect_of over blocks_effect commit_of first applied decoded base_row base_patterns fields_of format_of base_formats
 answer_2 = refl
 
 answer_3 : answer_at bare adding_image 3 ≡ Stopped Ebreak
-unfolding step run decoded_in attempted effect_of over blocks_effect commit_of first applied decoded base_row base_patterns fields_of format_of base_formats
+unfolding step run_with decoded_in attempted effect_of over blocks_effect commit_of first applied decoded base_row base_patterns fields_of format_of base_formats
 answer_3 = refl
 
 -- What the rows retire is the run's
@@ -72,27 +72,27 @@ unfolding retirements
 last_answer stop = answer_3
 
 agrees_0 : AgreesWithRun bare adding [] row_0
-unfolding architecture decoupled is_written retirements is_flushed is_retired place shown native step run decoded_in attempted effect_of over blocks_effect commit_of first applied decoded base_row base_patterns fields_of format_of base_formats
+unfolding architecture decoupled is_written retirements is_flushed is_retired place shown native step run_with decoded_in attempted effect_of over blocks_effect commit_of first applied decoded base_row base_patterns fields_of format_of base_formats
 agrees_0 = agrees adding [] row_0 tt tt tt refl
 
 agrees_1 : AgreesWithRun bare adding (row_0 ∷ []) row_1
-unfolding architecture decoupled is_written retirements is_flushed is_retired place shown native step run decoded_in attempted effect_of over blocks_effect commit_of first applied decoded base_row base_patterns fields_of format_of base_formats
+unfolding architecture decoupled is_written retirements is_flushed is_retired place shown native step run_with decoded_in attempted effect_of over blocks_effect commit_of first applied decoded base_row base_patterns fields_of format_of base_formats
 agrees_1 = agrees adding (row_0 ∷ []) row_1 tt tt tt refl
 
 agrees_2 : AgreesWithRun bare adding two_rows row_2
-unfolding architecture decoupled is_written retirements is_flushed is_retired place shown native step run decoded_in attempted effect_of over blocks_effect commit_of first applied decoded base_row base_patterns fields_of format_of base_formats
+unfolding architecture decoupled is_written retirements is_flushed is_retired place shown native step run_with decoded_in attempted effect_of over blocks_effect commit_of first applied decoded base_row base_patterns fields_of format_of base_formats
 agrees_2 = agrees adding two_rows row_2 (refl, (writes 0 5243027 1 5, answer_0, refl)) tt tt refl
 
 agrees_3 : AgreesWithRun bare adding three_rows row_3
-unfolding architecture decoupled is_written retirements is_flushed is_retired place shown native step run decoded_in attempted effect_of over blocks_effect commit_of first applied decoded base_row base_patterns fields_of format_of base_formats
+unfolding architecture decoupled is_written retirements is_flushed is_retired place shown native step run_with decoded_in attempted effect_of over blocks_effect commit_of first applied decoded base_row base_patterns fields_of format_of base_formats
 agrees_3 = agrees adding three_rows row_3 (refl, (writes 4 7340307 2 7, answer_1, refl)) tt tt refl
 
 agrees_4 : AgreesWithRun bare adding four_rows row_4
-unfolding architecture decoupled is_written retirements is_flushed is_retired place shown native step run decoded_in attempted effect_of over blocks_effect commit_of first applied decoded base_row base_patterns fields_of format_of base_formats
+unfolding architecture decoupled is_written retirements is_flushed is_retired place shown native step run_with decoded_in attempted effect_of over blocks_effect commit_of first applied decoded base_row base_patterns fields_of format_of base_formats
 agrees_4 = agrees adding four_rows row_4 tt tt tt refl
 
 agrees_5 : AgreesWithRun bare adding five_rows row_5
-unfolding architecture decoupled is_written retirements is_flushed is_retired place shown native step run decoded_in attempted effect_of over blocks_effect commit_of first applied decoded base_row base_patterns fields_of format_of base_formats
+unfolding architecture decoupled is_written retirements is_flushed is_retired place shown native step run_with decoded_in attempted effect_of over blocks_effect commit_of first applied decoded base_row base_patterns fields_of format_of base_formats
 agrees_5 = agrees adding five_rows row_5 (refl, (writes 8 2130355 3 12, answer_2, refl)) tt (last_answer (Some Ebreak), refl) refl
 
 pub adding_agrees : Agreeing bare adding adding_rows
@@ -110,7 +110,7 @@ done_same a c d e f = the (sym e ∙ f) where
   the q = cc
 
 pub wrong_value_refused : IsOther wrong_value
-unfolding architecture decoupled is_written retirements is_flushed is_retired place shown native step run decoded_in attempted effect_of over blocks_effect commit_of first applied decoded base_row base_patterns fields_of format_of base_formats
+unfolding architecture decoupled is_written retirements is_flushed is_retired place shown native step run_with decoded_in attempted effect_of over blocks_effect commit_of first applied decoded base_row base_patterns fields_of format_of base_formats
 wrong_value_refused h =
     let r = h.0.recorded 0 (writes 0 5243027 1 6) refl in
     let same = done_same (answer_at bare adding_image 0) (writes 0 5243027 1 5) r.0 answer_0 r.1 in
@@ -193,8 +193,8 @@ done_runs rows c p d e a stop due = apart (sym a ∙ ap (answer_at bare adding_i
   apart q = cc
 
 goes_to : (rows : List Row) (c : Cell) (p : ℕ) (d : Commit) → place rows c.serial ≡ p → answer_at bare adding_image p ≡ Done d → successor adding rows c ≡ d.next
-unfolding run applied
-goes_to rows c p d e a = ap (λ n. (run bare adding_image (suc n)).pc) e ∙ ap (λ r. (after (run bare adding_image p) r).pc) a
+unfolding run_with applied
+goes_to rows c p d e a = ap (λ n. (run bare adding_image (suc n)).pc) e ∙ ap (λ r. (after bare (run bare adding_image p) r).pc) a
 
 -- no hold of the base set's is true of a cell of EX but Operand and Drain
 free_plain : (earlier : List Row) (row : Row) (c : Cell) → ((r j : ℕ) → WaitsForOperand adding earlier row 1 c r j → ⊥) → ((j : ℕ) → WaitsToDrain adding earlier row 1 c j → ⊥) → Free adding_hand earlier row 1 c

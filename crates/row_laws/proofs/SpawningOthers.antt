@@ -10,7 +10,7 @@ use Rattle.rv_lawful.specs.LawfulTrace.{fetch_address, IsEmptyAfter}
 use Rattle.rv_lawful.specs.Outstanding.{Decoupled, units_after, is_written, decoupled}
 use Rattle.rv_lawful.specs.Settings.{Stands}
 use Rattle.rv_seq.specs.Commits.{commit_of, applied}
-use Rattle.rv_seq.specs.Runs.{run}
+use Rattle.rv_seq.specs.Runs.{run_with}
 use Rattle.rv_seq.specs.States.{first}
 use Rattle.rv_seq.specs.Steps.{attempted, step}
 use Rattle.rv_seq.specs.declared.commit.Stop.{Stop}
@@ -153,5 +153,5 @@ names_drain : AllNamed frozen_hand drain_left_out
 names_drain = (row_named frozen_hand None (Some (break 4 16 None)) None None (newest drain_left_out).written (Some Ebreak) refl, frozen_7_judged.names)
 
 pub drain_left_out_refused : IsUnlawfulFrozen drain_left_out
-unfolding is_flushed is_retired is_written place step run decoded_in attempted effect_of over blocks_effect commit_of first applied decoded base_row base_patterns fields_of format_of base_formats
+unfolding is_flushed is_retired is_written place step run_with decoded_in attempted effect_of over blocks_effect commit_of first applied decoded base_row base_patterns fields_of format_of base_formats
 drain_left_out_refused h = idle frozen frozen_seven (newest drain_left_out) 1 (break 4 16 None) (Drain 3) h refl refl refl (waits_to_drain frozen_hand frozen_seven (newest drain_left_out) (break 4 16 None) 3 names_drain refl)

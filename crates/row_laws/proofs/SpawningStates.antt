@@ -10,7 +10,7 @@ use Rattle.rv_lawful.specs.Headline.{AgreesWithRun, Agreeing}
 use Rattle.rv_lawful.specs.Outstanding.{is_written, decoupled, architecture}
 use Rattle.rv_seq.specs.Bare.{bare}
 use Rattle.rv_seq.specs.Commits.{commit_of, applied}
-use Rattle.rv_seq.specs.Runs.{run, answer_at}
+use Rattle.rv_seq.specs.Runs.{run_with, run, answer_at}
 use Rattle.rv_seq.specs.States.{first}
 use Rattle.rv_seq.specs.Steps.{attempted, step}
 use Rattle.rv_seq.specs.declared.answer.StepAnswer.{StepAnswer}
@@ -28,51 +28,51 @@ use Rattle.row_laws.proofs.Agreement.{agrees}
 -- Out of order
 
 passing_answer_0 : answer_at bare passing_hand.image 0 ≡ Done (record_of 0 3146387 5 (Now 3))
-unfolding architecture decoupled is_written retirements is_flushed is_retired place shown native spawned paid step run decoded_in attempted effect_of over blocks_effect commit_of first applied decoded base_row base_patterns fields_of format_of base_formats
+unfolding architecture decoupled is_written retirements is_flushed is_retired place shown native spawned paid step run_with decoded_in attempted effect_of over blocks_effect commit_of first applied decoded base_row base_patterns fields_of format_of base_formats
 passing_answer_0 = refl
 
 passing_answer_1 : answer_at bare passing_hand.image 1 ≡ Done (record_of 4 4195091 6 (Now 4))
-unfolding architecture decoupled is_written retirements is_flushed is_retired place shown native spawned paid step run decoded_in attempted effect_of over blocks_effect commit_of first applied decoded base_row base_patterns fields_of format_of base_formats
+unfolding architecture decoupled is_written retirements is_flushed is_retired place shown native spawned paid step run_with decoded_in attempted effect_of over blocks_effect commit_of first applied decoded base_row base_patterns fields_of format_of base_formats
 passing_answer_1 = refl
 
 passing_answer_2 : answer_at bare passing_hand.image 2 ≡ Done (record_of 8 6456243 7 (Now 7))
-unfolding architecture decoupled is_written retirements is_flushed is_retired place shown native spawned paid step run decoded_in attempted effect_of over blocks_effect commit_of first applied decoded base_row base_patterns fields_of format_of base_formats
+unfolding architecture decoupled is_written retirements is_flushed is_retired place shown native spawned paid step run_with decoded_in attempted effect_of over blocks_effect commit_of first applied decoded base_row base_patterns fields_of format_of base_formats
 passing_answer_2 = refl
 
 passing_answer_3 : answer_at bare passing_hand.image 3 ≡ Stopped Ebreak
-unfolding architecture decoupled is_written retirements is_flushed is_retired place shown native spawned paid step run decoded_in attempted effect_of over blocks_effect commit_of first applied decoded base_row base_patterns fields_of format_of base_formats
+unfolding architecture decoupled is_written retirements is_flushed is_retired place shown native spawned paid step run_with decoded_in attempted effect_of over blocks_effect commit_of first applied decoded base_row base_patterns fields_of format_of base_formats
 passing_answer_3 = refl
 
 passing_agrees_0 : AgreesWithRun bare passing [] passing_0
-unfolding architecture decoupled is_written retirements is_flushed is_retired place shown native spawned paid step run decoded_in attempted effect_of over blocks_effect commit_of first applied decoded base_row base_patterns fields_of format_of base_formats
+unfolding architecture decoupled is_written retirements is_flushed is_retired place shown native spawned paid step run_with decoded_in attempted effect_of over blocks_effect commit_of first applied decoded base_row base_patterns fields_of format_of base_formats
 passing_agrees_0 = agrees passing [] passing_0 tt tt tt refl
 
 passing_agrees_1 : AgreesWithRun bare passing (passing_0 ∷ []) passing_1
-unfolding architecture decoupled is_written retirements is_flushed is_retired place shown native spawned paid step run decoded_in attempted effect_of over blocks_effect commit_of first applied decoded base_row base_patterns fields_of format_of base_formats
+unfolding architecture decoupled is_written retirements is_flushed is_retired place shown native spawned paid step run_with decoded_in attempted effect_of over blocks_effect commit_of first applied decoded base_row base_patterns fields_of format_of base_formats
 passing_agrees_1 = agrees passing (passing_0 ∷ []) passing_1 tt tt tt refl
 
 passing_agrees_2 : AgreesWithRun bare passing (passing_1 ∷ passing_0 ∷ []) passing_2
-unfolding architecture decoupled is_written retirements is_flushed is_retired place shown native spawned paid step run decoded_in attempted effect_of over blocks_effect commit_of first applied decoded base_row base_patterns fields_of format_of base_formats
+unfolding architecture decoupled is_written retirements is_flushed is_retired place shown native spawned paid step run_with decoded_in attempted effect_of over blocks_effect commit_of first applied decoded base_row base_patterns fields_of format_of base_formats
 passing_agrees_2 = agrees passing (passing_1 ∷ passing_0 ∷ []) passing_2 (refl, (record_of 0 3146387 5 (Now 3), passing_answer_0, refl)) tt tt refl
 
 passing_agrees_3 : AgreesWithRun bare passing passing_three passing_3
-unfolding architecture decoupled is_written retirements is_flushed is_retired place shown native spawned paid step run decoded_in attempted effect_of over blocks_effect commit_of first applied decoded base_row base_patterns fields_of format_of base_formats
+unfolding architecture decoupled is_written retirements is_flushed is_retired place shown native spawned paid step run_with decoded_in attempted effect_of over blocks_effect commit_of first applied decoded base_row base_patterns fields_of format_of base_formats
 passing_agrees_3 = agrees passing passing_three passing_3 (refl, (record_of 4 4195091 6 (Now 4), passing_answer_1, refl)) tt tt refl
 
 passing_agrees_4 : AgreesWithRun bare passing passing_four passing_4
-unfolding architecture decoupled is_written retirements is_flushed is_retired place shown native spawned paid step run decoded_in attempted effect_of over blocks_effect commit_of first applied decoded base_row base_patterns fields_of format_of base_formats
+unfolding architecture decoupled is_written retirements is_flushed is_retired place shown native spawned paid step run_with decoded_in attempted effect_of over blocks_effect commit_of first applied decoded base_row base_patterns fields_of format_of base_formats
 passing_agrees_4 = agrees passing passing_four passing_4 tt (record { commit = record_of 4 4195091 6 (Now 4); step = passing_answer_1; values = refl; retired = refl; once = refl }) tt refl
 
 passing_agrees_5 : AgreesWithRun bare passing passing_five passing_5
-unfolding architecture decoupled is_written retirements is_flushed is_retired place shown native spawned paid step run decoded_in attempted effect_of over blocks_effect commit_of first applied decoded base_row base_patterns fields_of format_of base_formats
+unfolding architecture decoupled is_written retirements is_flushed is_retired place shown native spawned paid step run_with decoded_in attempted effect_of over blocks_effect commit_of first applied decoded base_row base_patterns fields_of format_of base_formats
 passing_agrees_5 = agrees passing passing_five passing_5 tt (record { commit = record_of 0 3146387 5 (Now 3); step = passing_answer_0; values = refl; retired = refl; once = refl }) tt refl
 
 passing_agrees_6 : AgreesWithRun bare passing passing_six passing_6
-unfolding architecture decoupled is_written retirements is_flushed is_retired place shown native spawned paid step run decoded_in attempted effect_of over blocks_effect commit_of first applied decoded base_row base_patterns fields_of format_of base_formats
+unfolding architecture decoupled is_written retirements is_flushed is_retired place shown native spawned paid step run_with decoded_in attempted effect_of over blocks_effect commit_of first applied decoded base_row base_patterns fields_of format_of base_formats
 passing_agrees_6 = agrees passing passing_six passing_6 tt tt tt refl
 
 passing_agrees_7 : AgreesWithRun bare passing passing_seven passing_7
-unfolding architecture decoupled is_written retirements is_flushed is_retired place shown native spawned paid step run decoded_in attempted effect_of over blocks_effect commit_of first applied decoded base_row base_patterns fields_of format_of base_formats
+unfolding architecture decoupled is_written retirements is_flushed is_retired place shown native spawned paid step run_with decoded_in attempted effect_of over blocks_effect commit_of first applied decoded base_row base_patterns fields_of format_of base_formats
 passing_agrees_7 = agrees passing passing_seven passing_7 (refl, (record_of 8 6456243 7 (Now 7), passing_answer_2, refl)) tt (passing_answer_3, refl) refl
 
 pub passing_agrees : Agreeing bare passing passing_rows
@@ -81,47 +81,47 @@ passing_agrees = (passing_agrees_7, (passing_agrees_6, (passing_agrees_5, (passi
 -- The port
 
 port_answer_0 : answer_at bare port_hand.image 0 ≡ Done (record_of 0 4195091 6 (Now 4))
-unfolding architecture decoupled is_written retirements is_flushed is_retired place shown native spawned paid step run decoded_in attempted effect_of over blocks_effect commit_of first applied decoded base_row base_patterns fields_of format_of base_formats
+unfolding architecture decoupled is_written retirements is_flushed is_retired place shown native spawned paid step run_with decoded_in attempted effect_of over blocks_effect commit_of first applied decoded base_row base_patterns fields_of format_of base_formats
 port_answer_0 = refl
 
 port_answer_1 : answer_at bare port_hand.image 1 ≡ Done (record_of 4 5243795 7 (Now 5))
-unfolding architecture decoupled is_written retirements is_flushed is_retired place shown native spawned paid step run decoded_in attempted effect_of over blocks_effect commit_of first applied decoded base_row base_patterns fields_of format_of base_formats
+unfolding architecture decoupled is_written retirements is_flushed is_retired place shown native spawned paid step run_with decoded_in attempted effect_of over blocks_effect commit_of first applied decoded base_row base_patterns fields_of format_of base_formats
 port_answer_1 = refl
 
 port_answer_2 : answer_at bare port_hand.image 2 ≡ Done (record_of 8 6292499 8 (Now 6))
-unfolding architecture decoupled is_written retirements is_flushed is_retired place shown native spawned paid step run decoded_in attempted effect_of over blocks_effect commit_of first applied decoded base_row base_patterns fields_of format_of base_formats
+unfolding architecture decoupled is_written retirements is_flushed is_retired place shown native spawned paid step run_with decoded_in attempted effect_of over blocks_effect commit_of first applied decoded base_row base_patterns fields_of format_of base_formats
 port_answer_2 = refl
 
 port_answer_3 : answer_at bare port_hand.image 3 ≡ Stopped Fetch
-unfolding architecture decoupled is_written retirements is_flushed is_retired place shown native spawned paid step run decoded_in attempted effect_of over blocks_effect commit_of first applied decoded base_row base_patterns fields_of format_of base_formats
+unfolding architecture decoupled is_written retirements is_flushed is_retired place shown native spawned paid step run_with decoded_in attempted effect_of over blocks_effect commit_of first applied decoded base_row base_patterns fields_of format_of base_formats
 port_answer_3 = refl
 
 port_agrees_0 : AgreesWithRun bare port [] port_0
-unfolding architecture decoupled is_written retirements is_flushed is_retired place shown native spawned paid step run decoded_in attempted effect_of over blocks_effect commit_of first applied decoded base_row base_patterns fields_of format_of base_formats
+unfolding architecture decoupled is_written retirements is_flushed is_retired place shown native spawned paid step run_with decoded_in attempted effect_of over blocks_effect commit_of first applied decoded base_row base_patterns fields_of format_of base_formats
 port_agrees_0 = agrees port [] port_0 tt tt tt refl
 
 port_agrees_1 : AgreesWithRun bare port (port_0 ∷ []) port_1
-unfolding architecture decoupled is_written retirements is_flushed is_retired place shown native spawned paid step run decoded_in attempted effect_of over blocks_effect commit_of first applied decoded base_row base_patterns fields_of format_of base_formats
+unfolding architecture decoupled is_written retirements is_flushed is_retired place shown native spawned paid step run_with decoded_in attempted effect_of over blocks_effect commit_of first applied decoded base_row base_patterns fields_of format_of base_formats
 port_agrees_1 = agrees port (port_0 ∷ []) port_1 tt tt tt refl
 
 port_agrees_2 : AgreesWithRun bare port (port_1 ∷ port_0 ∷ []) port_2
-unfolding architecture decoupled is_written retirements is_flushed is_retired place shown native spawned paid step run decoded_in attempted effect_of over blocks_effect commit_of first applied decoded base_row base_patterns fields_of format_of base_formats
+unfolding architecture decoupled is_written retirements is_flushed is_retired place shown native spawned paid step run_with decoded_in attempted effect_of over blocks_effect commit_of first applied decoded base_row base_patterns fields_of format_of base_formats
 port_agrees_2 = agrees port (port_1 ∷ port_0 ∷ []) port_2 (refl, (record_of 0 4195091 6 (Now 4), port_answer_0, refl)) tt tt refl
 
 port_agrees_3 : AgreesWithRun bare port port_three port_3
-unfolding architecture decoupled is_written retirements is_flushed is_retired place shown native spawned paid step run decoded_in attempted effect_of over blocks_effect commit_of first applied decoded base_row base_patterns fields_of format_of base_formats
+unfolding architecture decoupled is_written retirements is_flushed is_retired place shown native spawned paid step run_with decoded_in attempted effect_of over blocks_effect commit_of first applied decoded base_row base_patterns fields_of format_of base_formats
 port_agrees_3 = agrees port port_three port_3 tt (record { commit = record_of 0 4195091 6 (Now 4); step = port_answer_0; values = refl; retired = refl; once = refl }) tt refl
 
 port_agrees_4 : AgreesWithRun bare port port_four port_4
-unfolding architecture decoupled is_written retirements is_flushed is_retired place shown native spawned paid step run decoded_in attempted effect_of over blocks_effect commit_of first applied decoded base_row base_patterns fields_of format_of base_formats
+unfolding architecture decoupled is_written retirements is_flushed is_retired place shown native spawned paid step run_with decoded_in attempted effect_of over blocks_effect commit_of first applied decoded base_row base_patterns fields_of format_of base_formats
 port_agrees_4 = agrees port port_four port_4 (refl, (record_of 4 5243795 7 (Now 5), port_answer_1, refl)) tt tt refl
 
 port_agrees_5 : AgreesWithRun bare port port_five port_5
-unfolding architecture decoupled is_written retirements is_flushed is_retired place shown native spawned paid step run decoded_in attempted effect_of over blocks_effect commit_of first applied decoded base_row base_patterns fields_of format_of base_formats
+unfolding architecture decoupled is_written retirements is_flushed is_retired place shown native spawned paid step run_with decoded_in attempted effect_of over blocks_effect commit_of first applied decoded base_row base_patterns fields_of format_of base_formats
 port_agrees_5 = agrees port port_five port_5 (refl, (record_of 8 6292499 8 (Now 6), port_answer_2, refl)) tt tt refl
 
 port_agrees_6 : AgreesWithRun bare port port_six port_6
-unfolding architecture decoupled is_written retirements is_flushed is_retired place shown native spawned paid step run decoded_in attempted effect_of over blocks_effect commit_of first applied decoded base_row base_patterns fields_of format_of base_formats
+unfolding architecture decoupled is_written retirements is_flushed is_retired place shown native spawned paid step run_with decoded_in attempted effect_of over blocks_effect commit_of first applied decoded base_row base_patterns fields_of format_of base_formats
 port_agrees_6 = agrees port port_six port_6 tt (record { commit = record_of 8 6292499 8 (Now 6); step = port_answer_2; values = refl; retired = refl; once = refl }) (port_answer_3, refl) refl
 
 pub port_agrees : Agreeing bare port port_rows
@@ -130,59 +130,59 @@ port_agrees = (port_agrees_6, (port_agrees_5, (port_agrees_4, (port_agrees_3, (p
 -- The frozen unit
 
 frozen_answer_0 : answer_at bare frozen_hand.image 0 ≡ Done (record_of 0 3146387 5 (Now 3))
-unfolding architecture decoupled is_written retirements is_flushed is_retired place shown native spawned paid step run decoded_in attempted effect_of over blocks_effect commit_of first applied decoded base_row base_patterns fields_of format_of base_formats
+unfolding architecture decoupled is_written retirements is_flushed is_retired place shown native spawned paid step run_with decoded_in attempted effect_of over blocks_effect commit_of first applied decoded base_row base_patterns fields_of format_of base_formats
 frozen_answer_0 = refl
 
 frozen_answer_1 : answer_at bare frozen_hand.image 1 ≡ Done (record_of 4 4195091 6 (Now 4))
-unfolding architecture decoupled is_written retirements is_flushed is_retired place shown native spawned paid step run decoded_in attempted effect_of over blocks_effect commit_of first applied decoded base_row base_patterns fields_of format_of base_formats
+unfolding architecture decoupled is_written retirements is_flushed is_retired place shown native spawned paid step run_with decoded_in attempted effect_of over blocks_effect commit_of first applied decoded base_row base_patterns fields_of format_of base_formats
 frozen_answer_1 = refl
 
 frozen_answer_2 : answer_at bare frozen_hand.image 2 ≡ Done (record_of 8 6292499 8 (Now 6))
-unfolding architecture decoupled is_written retirements is_flushed is_retired place shown native spawned paid step run decoded_in attempted effect_of over blocks_effect commit_of first applied decoded base_row base_patterns fields_of format_of base_formats
+unfolding architecture decoupled is_written retirements is_flushed is_retired place shown native spawned paid step run_with decoded_in attempted effect_of over blocks_effect commit_of first applied decoded base_row base_patterns fields_of format_of base_formats
 frozen_answer_2 = refl
 
 frozen_answer_3 : answer_at bare frozen_hand.image 3 ≡ Done (record_of 12 15 0 Absent)
-unfolding architecture decoupled is_written retirements is_flushed is_retired place shown native spawned paid step run decoded_in attempted effect_of over blocks_effect commit_of first applied decoded base_row base_patterns fields_of format_of base_formats
+unfolding architecture decoupled is_written retirements is_flushed is_retired place shown native spawned paid step run_with decoded_in attempted effect_of over blocks_effect commit_of first applied decoded base_row base_patterns fields_of format_of base_formats
 frozen_answer_3 = refl
 
 frozen_answer_4 : answer_at bare frozen_hand.image 4 ≡ Stopped Ebreak
-unfolding architecture decoupled is_written retirements is_flushed is_retired place shown native spawned paid step run decoded_in attempted effect_of over blocks_effect commit_of first applied decoded base_row base_patterns fields_of format_of base_formats
+unfolding architecture decoupled is_written retirements is_flushed is_retired place shown native spawned paid step run_with decoded_in attempted effect_of over blocks_effect commit_of first applied decoded base_row base_patterns fields_of format_of base_formats
 frozen_answer_4 = refl
 
 frozen_agrees_0 : AgreesWithRun bare frozen [] frozen_0
-unfolding architecture decoupled is_written retirements is_flushed is_retired place shown native spawned paid step run decoded_in attempted effect_of over blocks_effect commit_of first applied decoded base_row base_patterns fields_of format_of base_formats
+unfolding architecture decoupled is_written retirements is_flushed is_retired place shown native spawned paid step run_with decoded_in attempted effect_of over blocks_effect commit_of first applied decoded base_row base_patterns fields_of format_of base_formats
 frozen_agrees_0 = agrees frozen [] frozen_0 tt tt tt refl
 
 frozen_agrees_1 : AgreesWithRun bare frozen (frozen_0 ∷ []) frozen_1
-unfolding architecture decoupled is_written retirements is_flushed is_retired place shown native spawned paid step run decoded_in attempted effect_of over blocks_effect commit_of first applied decoded base_row base_patterns fields_of format_of base_formats
+unfolding architecture decoupled is_written retirements is_flushed is_retired place shown native spawned paid step run_with decoded_in attempted effect_of over blocks_effect commit_of first applied decoded base_row base_patterns fields_of format_of base_formats
 frozen_agrees_1 = agrees frozen (frozen_0 ∷ []) frozen_1 tt tt tt refl
 
 frozen_agrees_2 : AgreesWithRun bare frozen (frozen_1 ∷ frozen_0 ∷ []) frozen_2
-unfolding architecture decoupled is_written retirements is_flushed is_retired place shown native spawned paid step run decoded_in attempted effect_of over blocks_effect commit_of first applied decoded base_row base_patterns fields_of format_of base_formats
+unfolding architecture decoupled is_written retirements is_flushed is_retired place shown native spawned paid step run_with decoded_in attempted effect_of over blocks_effect commit_of first applied decoded base_row base_patterns fields_of format_of base_formats
 frozen_agrees_2 = agrees frozen (frozen_1 ∷ frozen_0 ∷ []) frozen_2 (refl, (record_of 0 3146387 5 (Now 3), frozen_answer_0, refl)) tt tt refl
 
 frozen_agrees_3 : AgreesWithRun bare frozen (frozen_2 ∷ frozen_1 ∷ frozen_0 ∷ []) frozen_3
-unfolding architecture decoupled is_written retirements is_flushed is_retired place shown native spawned paid step run decoded_in attempted effect_of over blocks_effect commit_of first applied decoded base_row base_patterns fields_of format_of base_formats
+unfolding architecture decoupled is_written retirements is_flushed is_retired place shown native spawned paid step run_with decoded_in attempted effect_of over blocks_effect commit_of first applied decoded base_row base_patterns fields_of format_of base_formats
 frozen_agrees_3 = agrees frozen (frozen_2 ∷ frozen_1 ∷ frozen_0 ∷ []) frozen_3 (refl, (record_of 4 4195091 6 (Now 4), frozen_answer_1, refl)) tt tt refl
 
 frozen_agrees_4 : AgreesWithRun bare frozen (frozen_3 ∷ frozen_2 ∷ frozen_1 ∷ frozen_0 ∷ []) frozen_4
-unfolding architecture decoupled is_written retirements is_flushed is_retired place shown native spawned paid step run decoded_in attempted effect_of over blocks_effect commit_of first applied decoded base_row base_patterns fields_of format_of base_formats
+unfolding architecture decoupled is_written retirements is_flushed is_retired place shown native spawned paid step run_with decoded_in attempted effect_of over blocks_effect commit_of first applied decoded base_row base_patterns fields_of format_of base_formats
 frozen_agrees_4 = agrees frozen (frozen_3 ∷ frozen_2 ∷ frozen_1 ∷ frozen_0 ∷ []) frozen_4 (refl, (record_of 8 6292499 8 (Now 6), frozen_answer_2, refl)) tt tt refl
 
 frozen_agrees_5 : AgreesWithRun bare frozen frozen_five frozen_5
-unfolding architecture decoupled is_written retirements is_flushed is_retired place shown native spawned paid step run decoded_in attempted effect_of over blocks_effect commit_of first applied decoded base_row base_patterns fields_of format_of base_formats
+unfolding architecture decoupled is_written retirements is_flushed is_retired place shown native spawned paid step run_with decoded_in attempted effect_of over blocks_effect commit_of first applied decoded base_row base_patterns fields_of format_of base_formats
 frozen_agrees_5 = agrees frozen frozen_five frozen_5 tt (record { commit = record_of 0 3146387 5 (Now 3); step = frozen_answer_0; values = refl; retired = refl; once = refl }) tt refl
 
 frozen_agrees_6 : AgreesWithRun bare frozen frozen_six frozen_6
-unfolding architecture decoupled is_written retirements is_flushed is_retired place shown native spawned paid step run decoded_in attempted effect_of over blocks_effect commit_of first applied decoded base_row base_patterns fields_of format_of base_formats
+unfolding architecture decoupled is_written retirements is_flushed is_retired place shown native spawned paid step run_with decoded_in attempted effect_of over blocks_effect commit_of first applied decoded base_row base_patterns fields_of format_of base_formats
 frozen_agrees_6 = agrees frozen frozen_six frozen_6 (refl, (record_of 12 15 0 Absent, frozen_answer_3, refl)) (record { commit = record_of 4 4195091 6 (Now 4); step = frozen_answer_1; values = refl; retired = refl; once = refl }) tt refl
 
 frozen_agrees_7 : AgreesWithRun bare frozen frozen_seven frozen_7
-unfolding architecture decoupled is_written retirements is_flushed is_retired place shown native spawned paid step run decoded_in attempted effect_of over blocks_effect commit_of first applied decoded base_row base_patterns fields_of format_of base_formats
+unfolding architecture decoupled is_written retirements is_flushed is_retired place shown native spawned paid step run_with decoded_in attempted effect_of over blocks_effect commit_of first applied decoded base_row base_patterns fields_of format_of base_formats
 frozen_agrees_7 = agrees frozen frozen_seven frozen_7 tt (record { commit = record_of 8 6292499 8 (Now 6); step = frozen_answer_2; values = refl; retired = refl; once = refl }) tt refl
 
 frozen_agrees_8 : AgreesWithRun bare frozen frozen_eight frozen_8
-unfolding architecture decoupled is_written retirements is_flushed is_retired place shown native spawned paid step run decoded_in attempted effect_of over blocks_effect commit_of first applied decoded base_row base_patterns fields_of format_of base_formats
+unfolding architecture decoupled is_written retirements is_flushed is_retired place shown native spawned paid step run_with decoded_in attempted effect_of over blocks_effect commit_of first applied decoded base_row base_patterns fields_of format_of base_formats
 frozen_agrees_8 = agrees frozen frozen_eight frozen_8 tt (record { commit = record_of 12 15 0 Absent; step = frozen_answer_3; values = refl; retired = refl; once = refl }) (frozen_answer_4, refl) refl
 
 pub frozen_agrees : Agreeing bare frozen frozen_rows
@@ -206,7 +206,7 @@ done_same a c d e f = the (sym e ∙ f) where
   the q = cc
 
 pub wrong_write_refused : IsOther wrong_write
-unfolding architecture decoupled is_written retirements is_flushed is_retired place shown native spawned paid step run decoded_in attempted effect_of over blocks_effect commit_of first applied decoded base_row base_patterns fields_of format_of base_formats
+unfolding architecture decoupled is_written retirements is_flushed is_retired place shown native spawned paid step run_with decoded_in attempted effect_of over blocks_effect commit_of first applied decoded base_row base_patterns fields_of format_of base_formats
 wrong_write_refused h =
     let w = h.0.written (write_of 1 6 (Now 5)) refl in
     let same = done_same (answer_at bare passing_hand.image 1) (record_of 4 4195091 6 (Now 4)) w.commit passing_answer_1 w.step in
@@ -214,7 +214,7 @@ wrong_write_refused h =
     absurd (omega (arith, e))
 
 pub late_native_refused : IsOther late_native
-unfolding architecture decoupled is_written retirements is_flushed is_retired place shown native spawned paid step run decoded_in attempted effect_of over blocks_effect commit_of first applied decoded base_row base_patterns fields_of format_of base_formats
+unfolding architecture decoupled is_written retirements is_flushed is_retired place shown native spawned paid step run_with decoded_in attempted effect_of over blocks_effect commit_of first applied decoded base_row base_patterns fields_of format_of base_formats
 late_native_refused h =
     let r = h.0.recorded 2 (record_of 8 6456243 7 Later) refl in
     let same = done_same (answer_at bare passing_hand.image 2) (record_of 8 6456243 7 (Now 7)) r.0 passing_answer_2 r.1 in
@@ -222,7 +222,7 @@ late_native_refused h =
     absurd (omega (arith, e))
 
 pub early_spawn_refused : IsOther early_spawn
-unfolding architecture decoupled is_written retirements is_flushed is_retired place shown native spawned paid step run decoded_in attempted effect_of over blocks_effect commit_of first applied decoded base_row base_patterns fields_of format_of base_formats
+unfolding architecture decoupled is_written retirements is_flushed is_retired place shown native spawned paid step run_with decoded_in attempted effect_of over blocks_effect commit_of first applied decoded base_row base_patterns fields_of format_of base_formats
 early_spawn_refused h =
     let r = h.0.recorded 0 (record_of 0 3146387 5 (Now 3)) refl in
     let same = done_same (answer_at bare passing_hand.image 0) (record_of 0 3146387 5 (Now 3)) r.0 passing_answer_0 r.1 in
@@ -230,7 +230,7 @@ early_spawn_refused h =
     absurd (omega (arith, e))
 
 pub later_left_out_refused : IsOtherFrozen later_left_out
-unfolding architecture decoupled is_written retirements is_flushed is_retired place shown native spawned paid step run decoded_in attempted effect_of over blocks_effect commit_of first applied decoded base_row base_patterns fields_of format_of base_formats
+unfolding architecture decoupled is_written retirements is_flushed is_retired place shown native spawned paid step run_with decoded_in attempted effect_of over blocks_effect commit_of first applied decoded base_row base_patterns fields_of format_of base_formats
 later_left_out_refused h =
     let r = h.0.recorded 3 (record_of 12 15 0 Absent) refl in
     let same = done_same (answer_at bare frozen_hand.image 3) (record_of 12 15 0 Absent) r.0 frozen_answer_3 r.1 in
@@ -248,9 +248,9 @@ unfolding decoupled is_written
 owes_one = refl
 
 pub writes_one : WritesOne
-unfolding architecture decoupled is_written retirements is_flushed is_retired place shown native spawned paid step run decoded_in attempted effect_of over blocks_effect commit_of first applied decoded base_row base_patterns fields_of format_of base_formats
+unfolding architecture decoupled is_written retirements is_flushed is_retired place shown native spawned paid step run_with decoded_in attempted effect_of over blocks_effect commit_of first applied decoded base_row base_patterns fields_of format_of base_formats
 writes_one = (refl, refl)
 
 pub applies_both : AppliesBoth
-unfolding architecture decoupled is_written retirements is_flushed is_retired place shown native spawned paid step run decoded_in attempted effect_of over blocks_effect commit_of first applied decoded base_row base_patterns fields_of format_of base_formats
+unfolding architecture decoupled is_written retirements is_flushed is_retired place shown native spawned paid step run_with decoded_in attempted effect_of over blocks_effect commit_of first applied decoded base_row base_patterns fields_of format_of base_formats
 applies_both = (refl, refl)

@@ -16,6 +16,8 @@ use Rattle.rv_seq.specs.declared.commit.Stop.{Stop}
 use Rattle.rv_seq.specs.declared.commit.Stop.TheVariants.{Fetch}
 use Rattle.rv_seq.specs.Steps.{word_at}
 use Rattle.rv_seq.specs.Commits.{applied}
+use Rattle.rv_seq.specs.declared.arch.TrapState.{TrapState}
+use Rattle.rv_seq.specs.Interrupts.{return_to, is_return, resumed}
 use Rattle.rv_waits.specs.Waits.{wait_at}
 use Rattle.rv_trace.specs.declared.row.Hold.{Hold}
 use Rattle.rv_trace.specs.declared.row.Hold.TheVariants.{Tail}
@@ -43,8 +45,8 @@ use Rattle.rv_engine.specs.Settings.{Setting, Machine, shape_of, tree_of, outsta
 -- Fetch
 
 -- the token of a fetched word, which sees no operands yet
-abbrev pub new_token : Design → List Bits → ℕ → ℕ → ℕ → Token
-new_token d future serial at word =
+abbrev pub new_token : Design → List Bits → Option TrapState → ℕ → ℕ → ℕ → Token
+new_token d future trap serial at word =
     record {
       cell = record { serial = serial; at = at; word = word; hold = None };
       decoded = decoded_in (view_extension d.extension) word;
@@ -55,12 +57,13 @@ new_token d future serial at word =
       tail = (asks_in d word (decoded_in (view_extension d.extension) word)).tail;
       beside = record { board = None; port = None; left = None };
       guess = next_word at;
+      back = return_to word trap;
     }
 
 -- what is fetched, where there is a word
-abbrev pub fetched : Design → List Bits → ℕ → ℕ → Option ℕ → Option Token
-fetched d future serial at None = None
-fetched d future serial at (Some word) = Some (new_token d future serial at word)
+abbrev pub fetched : Design → List Bits → Option TrapState → ℕ → ℕ → Option ℕ → Option Token
+fetched d future trap serial at None = None
+fetched d future trap serial at (Some word) = Some (new_token d future trap serial at word)
 
 -- stage 0 takes it where it is free
 abbrev pub fill_first : Option Token → Slots → Slots
@@ -86,6 +89,7 @@ with_guess d future memory t =
       tail = t.tail;
       beside = t.beside;
       guess = guess_of d.sheet.shape.predict (jump_with (view_extension d.extension) future memory t.cell.at t.cell.word) t.cell.at;
+      back = t.back;
     }
 
 -- the token of stage 0, so
@@ -98,7 +102,7 @@ guess_first d future memory (s ∷ older) = option_map (with_guess d future memo
 -- the token with these inputs, so many rows to wait, and what it meets beside the stages
 abbrev pub with_inputs : State → ℕ → Beside → Token → Token
 with_inputs i wait beside t =
-    record { cell = t.cell; decoded = t.decoded; asks = t.asks; inputs = i; trial = t.trial; wait = wait; tail = t.tail; beside = beside; guess = t.guess }
+    record { cell = t.cell; decoded = t.decoded; asks = t.asks; inputs = i; trial = t.trial; wait = wait; tail = t.tail; beside = beside; guess = t.guess; back = t.back }
 
 -- the operands of a word before these tokens, the first of them in this stage, as a row begins
 abbrev pub operand_pair : Shape → ℕ → Slots → List ℕ → ℕ → Operands
@@ -131,11 +135,12 @@ tried_with x memory i t =
       decoded = t.decoded;
       asks = t.asks;
       inputs = i;
-      trial = Some (tried x i memory t.decoded);
+      trial = Some (tried x i memory t.back t.decoded);
       wait = t.wait;
       tail = t.tail;
       beside = t.beside;
       guess = t.guess;
+      back = t.back;
     }
 
 -- it sees the custom registers of the future file
@@ -191,6 +196,7 @@ waited t =
       tail = tail_after t.cell.hold t.tail;
       beside = t.beside;
       guess = t.guess;
+      back = t.back;
     }
 
 -- the token that goes on from a slot
@@ -301,7 +307,7 @@ owed_by k m = wait_at k.waits m.accesses - m.stood
 
 -- what the machine fetches
 abbrev pub new_by : Setting → Machine → Option Token
-new_by k m = fetched k.design m.future m.next m.fetch (word_at k.image m.fetch)
+new_by k m = fetched k.design m.future m.arch.trap m.next m.fetch (word_at k.image m.fetch)
 
 -- the slots after the fetch, with the guess behind the first
 abbrev pub filled_by : Setting → Machine → Slots
@@ -355,9 +361,9 @@ stop_after k m =
     (if remains (seen_by k m) || (is_owing (outstanding_by k m).owed || is_some (word_at k.image (fetch_by k m))) then None else Some Fetch)
 
 -- the state after what is written at retirement
-abbrev pub arch_retired : Option Commit → Arch → Arch
-arch_retired None s = s
-arch_retired (Some c) s = applied c s
+abbrev pub arch_retired : ExtensionTree → Option Commit → Arch → Arch
+arch_retired x None s = s
+arch_retired x (Some c) s = resumed (is_return x c.word) (applied c s)
 
 -- and after what a unit writes
 abbrev pub arch_paid : Option Owed → Arch → Arch
@@ -408,7 +414,7 @@ machine_after k m =
       accesses = accesses_after m.accesses (memory_by k m);
       stood = stood_after m.stood (memory_by k m);
       future = file_early (executed_by k m) (file_late (left_by k m) (file_paid (paid_by k m) m.future));
-      arch = arch_paid (paid_by k m) (arch_retired (native_of (left_by k m)) m.arch);
+      arch = arch_paid (paid_by k m) (arch_retired (tree_of k) (native_of (left_by k m)) m.arch);
       entries = (outstanding_by k m).entries;
       owed = (outstanding_by k m).owed;
     }

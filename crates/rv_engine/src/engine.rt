@@ -75,21 +75,22 @@ fn owes(owing: &Owing) -> bool
 /// Makes the writes of a row: of the token that goes out of the last stage, of what a unit writes, if one does, and, in the future
 /// file, of the token that leaves EX.
 fn write(
-    shape: Shape,
+    design: &Design,
     paying: &Option<Owed>,
     slots: &[Option<Token>],
     future: &mut [Bits; 16],
     arch: &mut Arch,
 )
-    requires inside { shape.ex < length slots.now }
+    requires well_formed { IsWellFormed design.now.extension }
+    requires inside { design.now.sheet.shape.ex < length slots.now }
     requires stored { AreStoredInside (native_of (leaving None slots.now)) }
-    ensures future { future.new ≡ file_early (going (first_slot (drop shape.ex slots.now))) (file_late (leaving None slots.now) (file_paid paying.now future.old)) }
-    ensures arch { arch.new ≡ arch_paid paying.now (arch_retired (native_of (leaving None slots.now)) arch.old) }
+    ensures future { future.new ≡ file_early (going (first_slot (drop design.now.sheet.shape.ex slots.now))) (file_late (leaving None slots.now) (file_paid paying.now future.old)) }
+    ensures arch { arch.new ≡ arch_paid paying.now (arch_retired (view_extension design.now.extension) (native_of (leaving None slots.now)) arch.old) }
 {
-    retire(last(slots), arch);
+    retire(&design.extension, last(slots), arch);
     pay_all(paying, future, arch);
     put_late(last(slots), future);
-    put_early(&slots[usize::from(shape.ex)], future);
+    put_early(&slots[usize::from(design.sheet.shape.ex)], future);
 }
 
 /// The slots up to their loads: what is fetched comes in, the address behind it is guessed, operands are read, the token of EX is tried, holds are decided, and the load
@@ -123,7 +124,7 @@ fn prepare(
 {
     let shape = design.sheet.shape;
     let word = word_at(image, front.fetch);
-    let next = fetch(design, asking, front, future, word, slots);
+    let next = fetch(design, asking, front, future, arch.trap, word, slots);
     guess(design, future, &arch.mem, slots, scratch);
     read(design, &arch.x, owed_in(waits, front), owing, slots);
     try_executing(design, future, &arch.mem, slots, scratch);
@@ -181,7 +182,7 @@ fn row_of(
     let stood = stood_then(front.stood, &slots[memory]);
     let retired = retired_in(last(slots));
     let paying = owing.paying();
-    write(shape, &paying, slots, future, arch);
+    write(design, &paying, slots, future, arch);
     owing.cycle(entering_in(last(slots)));
     let stop = stop_of_row(image, stopped, slots, owing, fetch);
     advance(slots);

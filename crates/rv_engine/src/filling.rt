@@ -18,6 +18,7 @@ use rv_core::{Blocks, Plain, Predictor};
 use rv_effect::{blocks_effect, decode_in};
 use rv_holds::{Beside, Token};
 use rv_memory::RandomAccess;
+use rv_seq::{TrapState, return_to};
 use rv_trace::Cell;
 
 /// The token of a fetched word, which sees no operands yet.
@@ -26,12 +27,13 @@ fn new_token(
     asking: &Asking,
     front: Front,
     future: &[Bits; 16],
+    trap: Option<TrapState>,
     word: u32,
 ) -> Token
     requires well_formed { IsWellFormed design.now.extension }
     requires asking { IsAskingOf design.now asking.now }
     requires future { AreWide (view_extension design.now.extension) future.now }
-    ensures token { result ≡ specified_new_token design.now future.now front.next front.fetch word }
+    ensures token { result ≡ specified_new_token design.now future.now trap front.next front.fetch word }
     ensures fitting { IsFitting design.now result }
 {
     let decoded = decode_in(&design.extension, word);
@@ -63,6 +65,7 @@ fn new_token(
             left: None,
         },
         guess: front.fetch.wrapping_add(4),
+        back: return_to(word, trap),
     }
 }
 
@@ -72,6 +75,7 @@ pub fn fetch(
     asking: &Asking,
     front: Front,
     future: &[Bits; 16],
+    trap: Option<TrapState>,
     word: Option<u32>,
     slots: &mut [Option<Token>],
 ) -> u32
@@ -81,8 +85,8 @@ pub fn fetch(
     requires stages { 0 < length slots.old }
     requires fitting { AreFitting design.now slots.old }
     requires serial { front.next + 1 < 2 ^ 32 }
-    ensures next { result ≡ next_after front.next slots.old (fetched design.now future.now front.next front.fetch word) }
-    ensures slots { slots.new ≡ fill_first (fetched design.now future.now front.next front.fetch word) slots.old }
+    ensures next { result ≡ next_after front.next slots.old (fetched design.now future.now trap front.next front.fetch word) }
+    ensures slots { slots.new ≡ fill_first (fetched design.now future.now trap front.next front.fetch word) slots.old }
     ensures fitting { AreFitting design.now slots.new }
 {
     match word {
@@ -91,7 +95,7 @@ pub fn fetch(
             if slots[0].is_some() {
                 return front.next;
             }
-            slots[0] = Some(new_token(design, asking, front, future, word));
+            slots[0] = Some(new_token(design, asking, front, future, trap, word));
             front.next + 1
         }
     }

@@ -1,4 +1,6 @@
 ghost use Rattle.std.specs.Prelude.{◌≡◌, ◌<◌, get_or, length, IfSome};
+ghost use Rattle.ix_extension.specs.Extensions.{view_extension};
+ghost use Rattle.ix_extension.specs.WellFormed.{IsWellFormed};
 ghost use Rattle.rv_seq.specs.declared.commit.Slot.TheVariants.{Absent};
 ghost use Rattle.rv_seq.specs.Commits.{with_x, with_slot, with_customs, applied};
 ghost use Rattle.rv_tried.specs.Parts.{paid};
@@ -10,9 +12,10 @@ ghost use Rattle.rv_engine.specs.Kept.{AreStoredInside};
 
 use crate::owing::{Owed, Owing};
 use ix_bits::Bits;
+use ix_tree::Extension;
 use rv_asks::Asks;
 use rv_holds::{Token, does_spawn, does_touch};
-use rv_seq::{Arch, Slot, StepAnswer, apply};
+use rv_seq::{Arch, Slot, StepAnswer, apply, is_return, resume};
 use rv_trace::Hold;
 use rv_tried::{Spawned, native, spawn_writes};
 
@@ -88,9 +91,10 @@ pub fn retiring_hold(owing: &Owing, taker: Option<u32>, asks: &Asks) -> Option<H
 }
 
 /// Makes the writes of the token that goes out of the last stage, of which this is the slot, where one does.
-pub fn retire(slot: &Option<Token>, arch: &mut Arch)
-    requires { AreStoredInside (native_of (going slot.now)) }
-    ensures { arch.new ≡ arch_retired (native_of (going slot.now)) arch.old }
+pub fn retire(ext: &Extension, slot: &Option<Token>, arch: &mut Arch)
+    requires well_formed { IsWellFormed ext.now }
+    requires stored { AreStoredInside (native_of (going slot.now)) }
+    ensures { arch.new ≡ arch_retired (view_extension ext.now) (native_of (going slot.now)) arch.old }
 {
     if let Some(token) = slot {
         if token.cell.hold.is_none() {
@@ -98,6 +102,9 @@ pub fn retire(slot: &Option<Token>, arch: &mut Arch)
                 if let StepAnswer::Done(commit) = &trial.answer {
                     let writes = native(&token.asks, &trial.blocks, commit);
                     apply(arch, &writes);
+                    if is_return(ext, writes.word) {
+                        resume(arch);
+                    }
                 }
             }
         }

@@ -26,6 +26,7 @@ fn try_token(design: &Design, memory: &RandomAccess, token: &mut Token, scratch:
     let trial = try_word(
         &design.extension,
         token.decoded,
+        token.back,
         &token.inputs,
         memory,
         scratch,

@@ -205,6 +205,7 @@ held h t =
       tail = t.tail;
       beside = t.beside;
       guess = t.guess;
+      back = t.back;
     }
 
 abbrev pub with_hold : Shape → ℕ → Option Token → Slots → Option Token

@@ -37,6 +37,8 @@ pub struct Token {
     pub beside: Beside,
     /// The guess of the address behind it, as it was when the token left stage 0.
     pub guess: u32,
+    /// The address to which it returns, if it is a return, as the core knew it when the token was fetched.
+    pub back: Option<u32>,
 }
 
 /// The stop that a token makes, where it has been tried and makes one.

@@ -14,6 +14,7 @@ use Rattle.rv_seq.specs.declared.answer.StepAnswer.TheVariants.{Done, Stopped}
 use Rattle.rv_seq.specs.declared.commit.Commit.{Commit}
 use Rattle.rv_seq.specs.declared.commit.Slot.{Slot}
 use Rattle.rv_seq.specs.Commits.{applied}
+use Rattle.rv_seq.specs.Interrupts.{is_return, resumed}
 use Rattle.rv_seq.specs.States.{first}
 use Rattle.rv_tried.specs.declared.parts.Spawned.{Spawned}
 use Rattle.rv_tried.specs.Parts.{native, spawned, paid}
@@ -119,10 +120,11 @@ outstanding_targets k rows = flat_map (owed_targets k) (reverse (outstanding k r
 
 -- States
 
--- the state behind what a row retires, if it retires something, as the instruction of this place of the run: what its own body and the blocks write
-abbrev pub after_retired : Setting → ℕ → Option (ℕ × Commit) → Arch → Arch
-after_retired k p None s = s
-after_retired k p (Some (t, c)) s = applied (native (k.asks c.word) (k.course.blocks p) c) s
+-- the state behind what a row retires, if it retires something, as the instruction of this place of the run: what its own body and the blocks write, and behind a return
+-- interrupts are taken again
+abbrev pub after_retired : ExtensionTree → Setting → ℕ → Option (ℕ × Commit) → Arch → Arch
+after_retired x k p None s = s
+after_retired x k p (Some (t, c)) s = resumed (is_return x c.word) (applied (native (k.asks c.word) (k.course.blocks p) c) s)
 
 -- the writes of what a unit writes
 abbrev pub writes_of : Written → Spawned
@@ -136,7 +138,7 @@ after_written (Some w) s = paid (writes_of w) s
 -- the architectural state after these rows: that of the writes which the rows show, and of what the blocks write to the spawn targets of what is retired
 unfoldable pub architecture : ExtensionTree → Setting → List Row → Arch
 architecture x k [] = first x
-architecture x k (row ∷ earlier) = after_written row.written (after_retired k (retirements earlier) row.retired (architecture x k earlier))
+architecture x k (row ∷ earlier) = after_written row.written (after_retired x k (retirements earlier) row.retired (architecture x k earlier))
 
 -- the state behind the writes of the `spawn` body of the step at a place; a stop writes nothing
 abbrev pub after_spawned : Setting → ℕ → StepAnswer → Arch → Arch

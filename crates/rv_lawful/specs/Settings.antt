@@ -10,6 +10,7 @@ use Rattle.rv_effect.specs.Decoding.{decoded_in}
 use Rattle.rv_seq.specs.declared.arch.Arch.{Arch}
 use Rattle.rv_seq.specs.declared.answer.StepAnswer.{StepAnswer}
 use Rattle.rv_seq.specs.States.{first, state_at}
+use Rattle.rv_seq.specs.Interrupts.{return_to}
 use Rattle.rv_seq.specs.Steps.{word_at, own_effect}
 use Rattle.rv_seq.specs.Stops.{stop_of}
 use Rattle.rv_seq.specs.Runs.{run, answer_at, access_in}
@@ -45,7 +46,7 @@ word_accesses x s (Some word) = does_access x s word (decoded_in x word)
 -- what the word at the pc of a state comes to
 abbrev pub state_trial : ExtensionTree → Arch → Option ℕ → Trial
 state_trial x s None = no_trial
-state_trial x s (Some word) = tried x (state_at word s) s.mem (decoded_in x word)
+state_trial x s (Some word) = tried x (state_at word s) s.mem (return_to word s.trap) (decoded_in x word)
 
 -- what the word at this place of the run comes to
 abbrev pub run_trial : ExtensionTree → List ℕ → ℕ → Trial

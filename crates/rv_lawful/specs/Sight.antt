@@ -17,6 +17,7 @@ use Rattle.rv_seq.specs.declared.commit.Commit.{Commit}
 use Rattle.rv_seq.specs.declared.commit.Slot.TheVariants.{Absent}
 use Rattle.rv_seq.specs.Commits.{applied}
 use Rattle.rv_seq.specs.States.{zero_bit, state_at}
+use Rattle.rv_seq.specs.Interrupts.{return_to}
 use Rattle.rv_seq.specs.Steps.{of_decoded}
 use Rattle.rv_tried.specs.declared.trial.Trial.{Trial}
 use Rattle.rv_tried.specs.Tried.{tried}
@@ -62,17 +63,17 @@ IsEarly a (Stopped stop) (Done c) = ⊥
 
 -- what a word comes to with what the instruction sees of a state
 abbrev pub state_tried : Design → ℕ → Arch → Trial
-state_tried d word s = tried (view_extension d.extension) (state_at word s) s.mem (decoded_in (view_extension d.extension) word)
+state_tried d word s = tried (view_extension d.extension) (state_at word s) s.mem (return_to word s.trap) (decoded_in (view_extension d.extension) word)
 
 -- a word tried with what agrees with a state comes to the step of that state, whatever the memory holds, but for rd and late and spawned writes; it accesses the memory where that step
 -- does, with the same load, and the always-blocks write the same; so does the instruction's own body to its x register, where it has one and the time of that write is below MEM
 pub record ComesEarly (d : Design) (word : ℕ) (s : Arch) (i : State) (memory : List ℕ) : Type 0 where
-  pub answer : IsEarly (asked d word) (tried (view_extension d.extension) i memory (decoded_in (view_extension d.extension) word)).answer (of_decoded (view_extension d.extension) s word (decoded_in (view_extension d.extension) word))
-  pub accesses : (tried (view_extension d.extension) i memory (decoded_in (view_extension d.extension) word)).accesses ≡ does_access (view_extension d.extension) s word (decoded_in (view_extension d.extension) word)
-  pub load : (tried (view_extension d.extension) i memory (decoded_in (view_extension d.extension) word)).load ≡ (state_tried d word s).load
-  pub blocks : (tried (view_extension d.extension) i memory (decoded_in (view_extension d.extension) word)).blocks ≡ (state_tried d word s).blocks
+  pub answer : IsEarly (asked d word) (tried (view_extension d.extension) i memory (return_to word s.trap) (decoded_in (view_extension d.extension) word)).answer (of_decoded (view_extension d.extension) s word (decoded_in (view_extension d.extension) word))
+  pub accesses : (tried (view_extension d.extension) i memory (return_to word s.trap) (decoded_in (view_extension d.extension) word)).accesses ≡ does_access (view_extension d.extension) s word (decoded_in (view_extension d.extension) word)
+  pub load : (tried (view_extension d.extension) i memory (return_to word s.trap) (decoded_in (view_extension d.extension) word)).load ≡ (state_tried d word s).load
+  pub blocks : (tried (view_extension d.extension) i memory (return_to word s.trap) (decoded_in (view_extension d.extension) word)).blocks ≡ (state_tried d word s).blocks
   pub x : (asked d word).destination ≢ 0 → (asked d word).x_time < d.sheet.shape.mem →
-      x_written (tried (view_extension d.extension) i memory (decoded_in (view_extension d.extension) word)).answer ≡ x_written (of_decoded (view_extension d.extension) s word (decoded_in (view_extension d.extension) word))
+      x_written (tried (view_extension d.extension) i memory (return_to word s.trap) (decoded_in (view_extension d.extension) word)).answer ≡ x_written (of_decoded (view_extension d.extension) s word (decoded_in (view_extension d.extension) word))
 
 abbrev pub EarlyLaw : Design → Type 0
 EarlyLaw d =
@@ -81,8 +82,8 @@ EarlyLaw d =
 
 -- it comes to the step of the state, and the instruction itself writes the same custom registers
 pub record ComesExact (d : Design) (word : ℕ) (s : Arch) (i : State) (memory : List ℕ) : Type 0 where
-  pub answer : (tried (view_extension d.extension) i memory (decoded_in (view_extension d.extension) word)).answer ≡ of_decoded (view_extension d.extension) s word (decoded_in (view_extension d.extension) word)
-  pub own : (tried (view_extension d.extension) i memory (decoded_in (view_extension d.extension) word)).own ≡ (state_tried d word s).own
+  pub answer : (tried (view_extension d.extension) i memory (return_to word s.trap) (decoded_in (view_extension d.extension) word)).answer ≡ of_decoded (view_extension d.extension) s word (decoded_in (view_extension d.extension) word)
+  pub own : (tried (view_extension d.extension) i memory (return_to word s.trap) (decoded_in (view_extension d.extension) word)).own ≡ (state_tried d word s).own
 
 -- with the memory of the state, where it loads, it comes to that step
 abbrev pub ExactLaw : Design → Type 0

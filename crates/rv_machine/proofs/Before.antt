@@ -34,7 +34,9 @@ use Rattle.rv_lawful.specs.Outstanding.{outstanding}
 use Rattle.rv_lawful.specs.Settings.{jump_of}
 use Rattle.ix_plan.specs.declared.design.Design.{Design}
 use Rattle.rv_machine.specs.Owing.{judged, Apart}
-use Rattle.rv_machine.proofs.Repaid.{repaid_memory}
+use Rattle.rv_seq.specs.Interrupts.{return_to}
+use Rattle.rv_machine.proofs.Runs.{run_return}
+use Rattle.rv_machine.proofs.Repaid.{repaid_memory, repaid_trap}
 use Rattle.rv_engine.specs.Owing.{Outstanding}
 use Rattle.rv_machine.proofs.Meeting.{Meets, reading_meets}
 use Rattle.rv_machine.proofs.Apart.{alike_apart, filled_apart}
@@ -242,10 +244,16 @@ module _ (k : Setting) (ready : IsReady k) (earlier : List Row) (m : Machine) (i
   fetch_word : m.fetch < 2 ^ 32
   fetch_word = subst (λ n. n < 2 ^ 32) (sym inv.fetch) (expected_word k ready r 1 (tail m.slots) (placed_tail m.slots inv.placed))
 
+  -- a return goes on where the run's does, from each place
+  back_is : (n word : ℕ) → return_to word m.arch.trap ≡ return_to word (run k (r + n)).trap
+  back_is n word =
+      ap (return_to word) (sym (repaid_trap m.owed m.arch) ∙ ap (λ (s : Arch). s.trap) inv.arch)
+      ∙ sym (run_return k r n word)
+
   pub filled_placed : Placed k r 0 (filled_by k m)
   filled_placed =
       guess_placed k ready r m.future m.arch.mem filled
-      (fill_placed k ready r m.next m.fetch m.future m.slots (word_at k.image m.fetch) inv.placed inv.fetch fetch_word refl inv.future_wide)
+      (fill_placed k ready r m.next m.fetch m.future m.arch.trap m.slots (word_at k.image m.fetch) back_is inv.placed inv.fetch fetch_word refl inv.future_wide)
 
   -- the guess behind the first is another one
   filled_alike : Alike filled (filled_by k m)

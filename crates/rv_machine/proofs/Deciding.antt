@@ -110,6 +110,7 @@ held_placed k p address stage older later h t same each i =
       words = i.words;
       wide = i.wide;
       guess = i.guess;
+      back = i.back;
       first = i.first;
       second = i.second;
       untried = i.untried;

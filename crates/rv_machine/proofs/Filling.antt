@@ -4,6 +4,8 @@ use Rattle.std.specs.Prelude.{◌||◌, if◌then◌else◌, is_some, nat_lt}
 use Rattle.std.proofs.lemmas.Bool.Decides.{nat_tests}
 use Rattle.ix_bits.specs.declared.number.Bits.{Bits}
 use Rattle.rv_effect.specs.WordEffects.{AreWide}
+use Rattle.rv_seq.specs.declared.arch.TrapState.{TrapState}
+use Rattle.rv_seq.specs.Interrupts.{return_to}
 use Rattle.rv_seq.specs.Steps.{word_at}
 use Rattle.rv_trace.specs.declared.row.Row.{Row}
 use Rattle.rv_trace.specs.RowParts.{name_of, leaves, front}
@@ -15,13 +17,13 @@ use Rattle.rv_engine.specs.Settings.{Setting, shape_of, tree_of}
 use Rattle.rv_engine.specs.Rows.{new_token, fetched, fill_first, with_guess, guess_first, first_slot, next_after, going}
 use Rattle.rv_lawful.specs.LawfulTrace.{guess_after, guessed}
 use Rattle.rv_machine.specs.Owing.{judged}
-use Rattle.rv_machine.specs.Placed.{count, tail, settling_stage, expected_after, expected, IsReady, IsPlaced, Placed}
+use Rattle.rv_machine.specs.Placed.{count, tail, settling_stage, expected_after, expected, run, IsReady, IsPlaced, Placed}
 use Rattle.rv_machine.proofs.Moving.{KeepsAll}
 use Rattle.rv_machine.proofs.Reading.{same_trial}
 
 -- the fetched token is placed in stage 0
-pub new_placed : (k : Setting) (ready : IsReady k) (p address serial at word : ℕ) (future : List Bits) (older : Slots) → at ≡ address → at < 2 ^ 32 → word_at k.image at ≡ Some word → AreWide (tree_of k) future → IsPlaced k p address 0 older (new_token k.design future serial at word)
-new_placed k ready p address serial at word future older a lt w wide =
+pub new_placed : (k : Setting) (ready : IsReady k) (p address serial at word : ℕ) (future : List Bits) (trap : Option TrapState) (older : Slots) → return_to word trap ≡ return_to word (run k p).trap → at ≡ address → at < 2 ^ 32 → word_at k.image at ≡ Some word → AreWide (tree_of k) future → IsPlaced k p address 0 older (new_token k.design future trap serial at word)
+new_placed k ready p address serial at word future trap older b a lt w wide =
     record {
       at = a;
       word = w;
@@ -32,6 +34,7 @@ new_placed k ready p address serial at word future older a lt w wide =
       words = record { word = ready.image at word w; rs1 = omega arith; rs2 = omega arith; pc = lt };
       wide = wide;
       guess = omega arith;
+      back = b;
       first = λ past. absurd (omega (arith, past));
       second = λ past. absurd (omega (arith, past));
       untried = λ before. refl;
@@ -43,11 +46,11 @@ new_placed k ready p address serial at word future older a lt w wide =
       exact = λ trial e. cc;
     }
 
-pub fill_placed : (k : Setting) (ready : IsReady k) (r serial at : ℕ) (future : List Bits) (slots : Slots) (o : Option ℕ) → Placed k r 0 slots → at ≡ expected k r 1 (tail slots) → at < 2 ^ 32 → word_at k.image at ≡ o → AreWide (tree_of k) future → Placed k r 0 (fill_first (fetched k.design future serial at o) slots)
-fill_placed k ready r serial at future [] o h a lt w wide = tt
-fill_placed k ready r serial at future (Some t ∷ older) o h a lt w wide = h
-fill_placed k ready r serial at future (None ∷ older) None h a lt w wide = h
-fill_placed k ready r serial at future (None ∷ older) (Some word) h a lt w wide = (new_placed k ready (r + count older) (expected k r 1 older) serial at word future older a lt w wide, h.1)
+pub fill_placed : (k : Setting) (ready : IsReady k) (r serial at : ℕ) (future : List Bits) (trap : Option TrapState) (slots : Slots) (o : Option ℕ) → ((n word : ℕ) → return_to word trap ≡ return_to word (run k (r + n)).trap) → Placed k r 0 slots → at ≡ expected k r 1 (tail slots) → at < 2 ^ 32 → word_at k.image at ≡ o → AreWide (tree_of k) future → Placed k r 0 (fill_first (fetched k.design future trap serial at o) slots)
+fill_placed k ready r serial at future trap [] o b h a lt w wide = tt
+fill_placed k ready r serial at future trap (Some t ∷ older) o b h a lt w wide = h
+fill_placed k ready r serial at future trap (None ∷ older) None b h a lt w wide = h
+fill_placed k ready r serial at future trap (None ∷ older) (Some word) b h a lt w wide = (new_placed k ready (r + count older) (expected k r 1 older) serial at word future trap older (b (count older) word) a lt w wide, h.1)
 
 guess_one : (k : Setting) (ready : IsReady k) (p address : ℕ) (future : List Bits) (memory : List ℕ) (older : Slots) (t : Token) → IsPlaced k p address 0 older t → IsPlaced k p address 0 older (with_guess k.design future memory t)
 guess_one k ready p address future memory older t i =
@@ -61,6 +64,7 @@ guess_one k ready p address future memory older t i =
       words = i.words;
       wide = i.wide;
       guess = ready.guesses future memory t.cell.at t.cell.word;
+      back = i.back;
       first = i.first;
       second = i.second;
       untried = i.untried;

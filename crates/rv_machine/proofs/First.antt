@@ -5,7 +5,7 @@ use Rattle.std.proofs.lemmas.Bool.Decides.{nat_tests}
 use Rattle.rv_core.specs.declared.Shape.{Shape}
 use Rattle.ix_bits.specs.declared.number.Bits.{Bits}
 use Rattle.rv_seq.specs.States.{first as first_state, zero_bit}
-use Rattle.rv_seq.specs.Runs.{run as seq_run}
+use Rattle.rv_seq.specs.Runs.{run_with}
 use Rattle.rv_waits.specs.Waits.{greatest}
 use Rattle.rv_trace.specs.declared.row.Row.{Row}
 use Rattle.rv_trace.specs.Trace.{blank, place, is_flushed, is_retired, retirements, rows_without}
@@ -93,7 +93,7 @@ apart_none k owed stage zero = tt
 apart_none k owed stage (suc n) = apart_none k owed (suc stage) n
 
 pub first : (k : Setting) (ready : IsReady k) → Inv k [] (first_machine k)
-unfolding future_file retirements is_flushed is_retired is_written decoupled units_after place fetch_address next_serial seq_run first_state architecture rows_without
+unfolding future_file retirements is_flushed is_retired is_written decoupled units_after place fetch_address next_serial run_with first_state architecture rows_without
 first k ready =
     let n = (shape_of k).stages in
     let most = ready.most in

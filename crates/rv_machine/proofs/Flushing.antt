@@ -6,6 +6,7 @@ use Rattle.std.proofs.lemmas.Bool.Decides.{nat_tests}
 use Rattle.ix_bits.specs.declared.number.Bits.{Bits}
 use Rattle.ix_plan.specs.declared.design.Design.{Design}
 use Rattle.rv_seq.specs.Steps.{word_at}
+use Rattle.rv_seq.specs.declared.arch.TrapState.{TrapState}
 use Rattle.rv_trace.specs.declared.row.Cell.{Cell}
 use Rattle.rv_trace.specs.declared.row.Row.{Row}
 use Rattle.rv_trace.specs.Trace.{place, has_serial, is_flushed, is_retired, retirements}
@@ -41,9 +42,9 @@ alike_get (Some t ∷ a) (Some v ∷ b) zero u h e = (t, refl, subst (λ (w : To
   same_here v w e = cc
 alike_get (s ∷ a) (x ∷ b) (suc i) u h e = alike_get a b i u h.1 e
 
-pub new_serial : (d : Design) (future : List Bits) (serial at : ℕ) (o : Option ℕ) → HasSerial serial (fetched d future serial at o)
-new_serial d future serial at None = tt
-new_serial d future serial at (Some word) = refl
+pub new_serial : (d : Design) (future : List Bits) (trap : Option TrapState) (serial at : ℕ) (o : Option ℕ) → HasSerial serial (fetched d future trap serial at o)
+new_serial d future trap serial at None = tt
+new_serial d future trap serial at (Some word) = refl
 
 pub fetched_serial : (serial : ℕ) (new : Option Token) (u : Token) → HasSerial serial new → new ≡ Some u → u.cell.serial ≡ serial
 fetched_serial serial None u h e = cc
@@ -61,7 +62,7 @@ module _ (k : Setting) (ready : IsReady k) (earlier : List Row) (m : Machine) (r
   alike = B.loaded_alike k ready earlier m inv
 
   new_has : HasSerial m.next (new_by k m)
-  new_has = new_serial k.design m.future m.next m.fetch (word_at k.image m.fetch)
+  new_has = new_serial k.design m.future m.arch.trap m.next m.fetch (word_at k.image m.fetch)
 
   pub loaded_serials : Serials earlier (retirements earlier) (loaded_by k m)
   loaded_serials =

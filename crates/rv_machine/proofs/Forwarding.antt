@@ -10,7 +10,7 @@ use Rattle.rv_seq.specs.declared.commit.Commit.{Commit}
 use Rattle.rv_seq.specs.declared.commit.Slot.{Slot}
 use Rattle.rv_seq.specs.declared.commit.Slot.TheVariants.{Absent, Now, Later}
 use Rattle.rv_seq.specs.Commits.{applied, with_x}
-use Rattle.rv_seq.specs.Runs.{run as seq_run}
+use Rattle.rv_seq.specs.Runs.{run_with}
 use Rattle.rv_seq.specs.States.{first as first_state}
 use Rattle.rv_seq.specs.Steps.{word_at}
 use Rattle.rv_asks.specs.declared.asks.Asks.{Asks}
@@ -45,7 +45,7 @@ with_x_length x rd Later = refl
 
 -- there are 32 x registers
 run_length : (k : Setting) (p : ℕ) → length (run k p).x ≡ 32
-unfolding seq_run first_state
+unfolding run_with first_state
 run_length k zero = refl
 run_length k (suc p) =
     after_step k p (λ s. length s.x ≡ 32) (run_length k p)

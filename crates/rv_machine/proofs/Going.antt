@@ -128,6 +128,7 @@ module _ (k : Setting) (ready : IsReady k) (r stage : ℕ) (t : Token) (older : 
         words = here.words;
         wide = here.wide;
         guess = here.guess;
+        back = here.back;
         first = first_case (stage == (shape_of k).rd) refl;
         second = second_case (stage == (shape_of k).rd) refl;
         untried = λ lt. here.untried (omega (arith, lt));

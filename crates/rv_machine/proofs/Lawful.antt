@@ -93,7 +93,7 @@ module _ (k : Setting) (ready : IsReady k) (earlier : List Row) (m : Machine) (r
 
   new_is : token_name (new_by k m) ≡ new_cell (judged k) earlier
   new_is =
-      new_name k.design m.future m.next m.fetch (word_at k.image m.fetch)
+      new_name k.design m.future m.arch.trap m.next m.fetch (word_at k.image m.fetch)
       ∙ ap (λ s. fetched s m.fetch (word_at k.image m.fetch)) made.inv.next_is
       ∙ ap (λ a. fetched (next_serial (judged k) earlier) a (word_at k.image a)) made.inv.fetch_is
 

@@ -179,10 +179,10 @@ module _ (k : Setting) (ready : IsReady k) (r stage : ℕ) (older : Slots) (t : 
       (record { word = here.input_word; pc = here.input_pc ∙ address; first = here.first past_rd; second = here.second past_rd; customs = here.seen gone.0 gone.1 })
 
   abbrev result : Trial
-  result = tried (tree_of k) t.inputs (run k r).mem t.decoded
+  result = tried (tree_of k) t.inputs (run k r).mem t.back t.decoded
 
   early : IsTried k (r + count older) (tried_with (tree_of k) (run k r).mem t.inputs t) result
-  early = early_trial k ready (r + count older) t t.inputs (run k r).mem here.decoded here.asks word_there here.wide here.words agrees
+  early = early_trial k ready (r + count older) t t.inputs (run k r).mem here.decoded here.back here.asks word_there here.wide here.words agrees
 
   same_some : (a b : Trial) → ◌≡◌ {A = Option Trial} (Some a) (Some b) → a ≡ b
   same_some a b e = cc
@@ -205,6 +205,7 @@ module _ (k : Setting) (ready : IsReady k) (r stage : ℕ) (older : Slots) (t : 
         words = here.words;
         wide = here.wide;
         guess = here.guess;
+        back = here.back;
         first = here.first;
         second = here.second;
         untried = λ lt. absurd (omega (arith, lt, past));
@@ -219,7 +220,7 @@ module _ (k : Setting) (ready : IsReady k) (r stage : ℕ) (older : Slots) (t : 
   -- what it reads is what the run reads
   reads : store_hold older t.asks ≡ None → IsExact k (r + count older) result
   reads none =
-      exact_trial k ready (r + count older) t t.inputs (run k r).mem here.decoded here.asks word_there here.wide here.words agrees
+      exact_trial k ready (r + count older) t t.inputs (run k r).mem here.decoded here.back here.asks word_there here.wide here.words agrees
       (λ l. memory_ready k ready r (suc stage) older t.asks (omega (arith, past)) behind (on_path k r (suc stage) older (omega (arith, past)) behind) none l)
 
 -- a token that leaves MEM comes to what the run comes to
@@ -275,6 +276,6 @@ loading_loaded k ready r stage (Some t ∷ older) h d = (by_case (is_loading (sh
   by_case : (b : Bool) → is_loading (shape_of k) stage t ≡ b → LoadedSlot k (r + count later) stage (if b then Some (tried_with (tree_of k) (run k r).mem t.inputs t) else Some t)
   by_case true e = λ at free trial q.
       same_place trial
-      (subst (λ u. IsExact k (r + count older) u) (same_some (tried (tree_of k) t.inputs (run k r).mem t.decoded) trial q)
+      (subst (λ u. IsExact k (r + count older) u) (same_some (tried (tree_of k) t.inputs (run k r).mem t.back t.decoded) trial q)
       (reads k ready r stage older t h.0 h.1 at (free_store k ready stage t older at free d.0)))
   by_case false e = λ at free trial q. same_place trial (h.0.exact trial q (λ l. absurd (cc (is_no_load (shape_of k) stage t e at free, l))))

@@ -8,6 +8,7 @@ use Rattle.rv_asks.specs.declared.asks.Asks.{Asks}
 use Rattle.rv_seq.specs.declared.commit.Stop.TheVariants.{Fetch}
 use Rattle.rv_seq.specs.Steps.{word_at}
 use Rattle.rv_waits.specs.Waits.{wait_at, greatest}
+use Rattle.rv_seq.specs.declared.arch.TrapState.{TrapState}
 use Rattle.rv_trace.specs.declared.row.Row.{Row}
 use Rattle.rv_trace.specs.Trace.{retirements, rows_without}
 use Rattle.rv_trace.specs.RowParts.{names_of, serial_after, front, MovesInto}
@@ -79,17 +80,17 @@ advanced_short : (come : Option Token) (l : Slots) → IsShort come → AreShort
 advanced_short come [] c h = tt
 advanced_short come (s ∷ l) c h = (kept_short come s c h.0, advanced_short (going s) l (going_short s h.0) h.1)
 
-fetched_short : (k : Setting) (ready : IsReady k) (future : List Bits) (serial at : ℕ) (o : Option ℕ) → IsShort (fetched k.design future serial at o)
-fetched_short k ready future serial at None = tt
-fetched_short k ready future serial at (Some word) = ready.tails word
+fetched_short : (k : Setting) (ready : IsReady k) (future : List Bits) (trap : Option TrapState) (serial at : ℕ) (o : Option ℕ) → IsShort (fetched k.design future trap serial at o)
+fetched_short k ready future trap serial at None = tt
+fetched_short k ready future trap serial at (Some word) = ready.tails word
 
-no_fetch : (d : Design) (future : List Bits) (serial at : ℕ) (o : Option ℕ) → fetched d future serial at o ≡ None → o ≡ None
-no_fetch d future serial at None e = refl
-no_fetch d future serial at (Some word) e = cc
+no_fetch : (d : Design) (future : List Bits) (trap : Option TrapState) (serial at : ℕ) (o : Option ℕ) → fetched d future trap serial at o ≡ None → o ≡ None
+no_fetch d future trap serial at None e = refl
+no_fetch d future trap serial at (Some word) e = cc
 
-new_serial : (d : Design) (future : List Bits) (serial at : ℕ) (o : Option ℕ) → HasSerial serial (fetched d future serial at o)
-new_serial d future serial at None = tt
-new_serial d future serial at (Some word) = refl
+new_serial : (d : Design) (future : List Bits) (trap : Option TrapState) (serial at : ℕ) (o : Option ℕ) → HasSerial serial (fetched d future trap serial at o)
+new_serial d future trap serial at None = tt
+new_serial d future trap serial at (Some word) = refl
 
 -- the next serial is the one behind that of stage 0
 serial_told : (serial : ℕ) (new : Option Token) (l : Slots) → 0 < length l → serial_after serial (cell_of (first_slot l)) ≡ serial → HasSerial serial new → serial_after serial (cell_of (first_slot (fill_first new l))) ≡ next_after serial l new
@@ -147,7 +148,7 @@ module _ (k : Setting) (ready : IsReady k) (earlier : List Row) (m : Machine) (r
   first_now : serial_after after.next (cell_of (first_slot (loaded_by k m))) ≡ after.next
   first_now =
       first_named after.next (loaded_by k m) (fill_first (new_by k m) m.slots) made.names
-      ∙ first_fetched m.next (new_by k m) m.slots some_slots made.inv.next_first (new_serial k.design m.future m.next m.fetch (word_at k.image m.fetch))
+      ∙ first_fetched m.next (new_by k m) m.slots some_slots made.inv.next_first (new_serial k.design m.future m.arch.trap m.next m.fetch (word_at k.image m.fetch))
 
   pub next_first : serial_after after.next (cell_of (first_slot after.slots)) ≡ after.next
   next_first = first_kept after.next (seen_by k m) (cleared_first flushed after.next (loaded_by k m) first_now)
@@ -161,7 +162,7 @@ module _ (k : Setting) (ready : IsReady k) (earlier : List Row) (m : Machine) (r
       ∙ unheld_first flushed m.next (loaded_by k m)
       ∙ ap (λ o. serial_after m.next o) (front_cells (loaded_by k m))
       ∙ first_named m.next (loaded_by k m) (fill_first (new_by k m) m.slots) made.names
-      ∙ serial_told m.next (new_by k m) m.slots some_slots made.inv.next_first (new_serial k.design m.future m.next m.fetch (word_at k.image m.fetch)))
+      ∙ serial_told m.next (new_by k m) m.slots some_slots made.inv.next_first (new_serial k.design m.future m.arch.trap m.next m.fetch (word_at k.image m.fetch)))
 
   pub moved_next : FlushesFirst row flushed (loaded_by k m) → row.stop ≡ None → MovesInto row None (Lawful.stages_of (judged k) row) (names_of (cells_of after.slots))
   moved_next flushes stop =
@@ -266,7 +267,7 @@ module _ (k : Setting) (ready : IsReady k) (earlier : List Row) (m : Machine) (r
     same = go_same ∙ to_go-tails (shape_of k) most (owed_by k m) 0 (loaded_by k m) (fill_first (new_by k m) m.slots) tails
 
     short : IsShort (new_by k m)
-    short = fetched_short k ready m.future m.next m.fetch (word_at k.image m.fetch)
+    short = fetched_short k ready m.future m.arch.trap m.next m.fetch (word_at k.image m.fetch)
 
     some : 0 < (shape_of k).stages
     some = let a = ready.ex_last in omega (arith, a)
@@ -287,7 +288,7 @@ module _ (k : Setting) (ready : IsReady k) (earlier : List Row) (m : Machine) (r
       | inr x ↦
           let z = nothing_there (seen_by k m) m.fetch (to_go-zero (shape_of k) most (owed_by k m) 0 (seen_by k m) (same ∙ x.1)) in
           let plain : fetch_by k m ≡ m.fetch = ap (λ o. Rows.unless (redirect_of o) (fetch_after m.fetch (seen_by k m))) (none_turned (sym go_same ∙ same ∙ x.1)) ∙ z.1 in
-          let none = no_fetch k.design m.future m.next m.fetch (word_at k.image m.fetch) x.0 in
+          let none = no_fetch k.design m.future m.arch.trap m.next m.fetch (word_at k.image m.fetch) x.0 in
           let now : row.stop ≡ Some Fetch = made.is.stop ∙ fetch_stop idle g z.0 (ap (λ n. word_at k.image n) plain ∙ none) in
           cc (stop, now)
     ]

@@ -104,7 +104,7 @@ module _ (k : Setting) (ready : IsReady k) (earlier : List Row) (m : Machine) (r
   first_loaded n = first_named n (loaded_by k m) (fill_first (new_by k m) m.slots) (alike_names (fill_first (new_by k m) m.slots) (loaded_by k m) (B.loaded_alike k ready earlier m inv))
 
   first_new : serial_after (next_after m.next m.slots (new_by k m)) (cell_of (first_slot (fill_first (new_by k m) m.slots))) ≡ next_after m.next m.slots (new_by k m)
-  first_new = again m.slots (new_by k m) some_slots inv.next_first (new_serial k.design m.future m.next m.fetch (word_at k.image m.fetch)) where
+  first_new = again m.slots (new_by k m) some_slots inv.next_first (new_serial k.design m.future m.arch.trap m.next m.fetch (word_at k.image m.fetch)) where
     again : (l : Slots) (o : Option Token) → 0 < length l → serial_after m.next (cell_of (first_slot l)) ≡ m.next → HasSerial m.next o → serial_after (next_after m.next l o) (cell_of (first_slot (fill_first o l))) ≡ next_after m.next l o
     again l o lt e h = first_fetched m.next o l lt e h
 
@@ -115,7 +115,7 @@ module _ (k : Setting) (ready : IsReady k) (earlier : List Row) (m : Machine) (r
 
   -- the serial of the next fetch is told by stage 0
   pub first_of_filled : serial_after m.next (cell_of (first_slot (fill_first (new_by k m) m.slots))) ≡ next_after m.next m.slots (new_by k m)
-  first_of_filled = by_slots m.slots (new_by k m) some_slots inv.next_first (new_serial k.design m.future m.next m.fetch (word_at k.image m.fetch)) where
+  first_of_filled = by_slots m.slots (new_by k m) some_slots inv.next_first (new_serial k.design m.future m.arch.trap m.next m.fetch (word_at k.image m.fetch)) where
     by_slots : (l : Slots) (o : Option Token) → 0 < length l → serial_after m.next (cell_of (first_slot l)) ≡ m.next → HasSerial m.next o → serial_after m.next (cell_of (first_slot (fill_first o l))) ≡ next_after m.next l o
     by_slots [] o lt e h = absurd (omega (arith, lt))
     by_slots (Some t ∷ l) o lt e h = e

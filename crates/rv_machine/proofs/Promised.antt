@@ -7,7 +7,7 @@ use Rattle.ix_plan.specs.declared.design.Design.{Design}
 use Rattle.ix_plan.specs.declared.design.Target.{Target}
 use Rattle.ix_standing.specs.Standing.{Stands}
 use Rattle.rv_seq.specs.declared.arch.Arch.{Arch}
-use Rattle.rv_seq.specs.Runs.{run}
+use Rattle.rv_seq.specs.Runs.{run_with, run}
 use Rattle.rv_seq.specs.States.{first as first_state}
 use Rattle.rv_trace.specs.declared.row.Row.{Row}
 use Rattle.rv_trace.specs.Trace.{newest, retirements}
@@ -135,7 +135,7 @@ arch_is k ready (row ∷ earlier) are =
 
 -- with what is outstanding it is the run's
 applied_is : (k : Setting) (x : ExtensionTree) (rows : List Row) → Agreeing x (judged k) rows → applied_state x (judged k) rows ≡ run x k.image (retirements rows)
-unfolding architecture decoupled retirements run
+unfolding architecture decoupled retirements run_with
 applied_is k x [] h = refl
 applied_is k x (row ∷ earlier) h = h.0.state
 

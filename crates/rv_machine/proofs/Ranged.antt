@@ -67,11 +67,11 @@ done_word : (k : Setting) (p : ℕ) (c : Commit) → answer k p ≡ Done c → I
 done_word k p c e = word_write c.word c.rd_index c.rd (step_write (tree_of k) k.image (run k p) c (run_words (tree_of k) k.image p) e)
 
 module _ (k : Setting) (ready : IsReady k) (earlier : List Row) (m : Machine) (row : Row) (inv : Inv k earlier m) (is : IsRowOf k m row) where
-  after_retired : AreRanged (arch_retired (native_of (left_by k m)) m.arch).x
+  after_retired : AreRanged (arch_retired (tree_of k) (native_of (left_by k m)) m.arch).x
   after_retired = elim (R.goes_out k ready earlier m row inv is) [
-    | inl n ↦ subst (λ t. AreRanged (arch_retired (native_of t) m.arch).x) (sym n.0) inv.ranged
+    | inl n ↦ subst (λ t. AreRanged (arch_retired (tree_of k) (native_of t) m.arch).x) (sym n.0) inv.ranged
     | inr y ↦
-        subst (λ w. AreRanged (arch_retired w m.arch).x) (sym y.0.writes)
+        subst (λ w. AreRanged (arch_retired (tree_of k) w m.arch).x) (sym y.0.writes)
         (after_native (asked k.design y.0.token.cell.word) ((judged k).course.blocks (retirements earlier)) y.0.commit m.arch (done_word k (retirements earlier) y.0.commit y.0.recorded) inv.ranged)
   ]
 
@@ -84,4 +84,4 @@ module _ (k : Setting) (ready : IsReady k) (earlier : List Row) (m : Machine) (r
       (done_word k (place earlier (paid_is k earlier (shape_of k).stages (lasts_of k.design.plans) m.entries (outstanding (judged k) earlier) m.entries m.owed w inv.owing e).0.0) is_owing.commit is_owing.step) h)
 
   pub ranged_next : (reg : ℕ) → slice_index (machine_after k m).arch.x reg < 2 ^ 32
-  ranged_next = after_paid (paid_by k m) (arch_retired (native_of (left_by k m)) m.arch) refl after_retired
+  ranged_next = after_paid (paid_by k m) (arch_retired (tree_of k) (native_of (left_by k m)) m.arch) refl after_retired

@@ -47,6 +47,10 @@ native_shown a blocks c =
     (same_index a.spawned c.rd_index) (same_x a.spawned c.rd) (same_customs a.spawned_customs blocks c.custom)
 
 -- it shows the word and the next pc of the record
+pub native_word : (a : Asks) (blocks : List (Option Bits)) (c : Commit) → (native a blocks c).word ≡ c.word
+unfolding native
+native_word a blocks c = refl
+
 pub shown_word : (a : Asks) (c : Commit) → (shown a c).word ≡ c.word
 unfolding shown
 shown_word a c = refl

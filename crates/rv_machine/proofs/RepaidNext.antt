@@ -9,6 +9,7 @@ use Rattle.rv_seq.specs.declared.arch.Arch.{Arch}
 use Rattle.rv_seq.specs.declared.answer.StepAnswer.TheVariants.{Done}
 use Rattle.rv_seq.specs.declared.commit.Commit.{Commit}
 use Rattle.rv_seq.specs.Commits.{applied}
+use Rattle.rv_seq.specs.Interrupts.{is_return, resumed}
 use Rattle.rv_seq.specs.Steps.{word_at, after}
 use Rattle.rv_tried.specs.Parts.{native, spawned, paid}
 use Rattle.rv_trace.specs.declared.row.Row.{Row}
@@ -28,6 +29,8 @@ use Rattle.rv_sight.specs.Written.{IsAskedFor}
 use Rattle.rv_machine.specs.Owing.{judged, repaid, IsOwing, Owing, Distinct, Apart}
 use Rattle.rv_machine.specs.Placed.{run, IsReady, Inv}
 use Rattle.rv_machine.specs.Told.{out_of}
+use Rattle.rv_machine.proofs.Recorded.{native_word}
+use Rattle.rv_machine.proofs.Repaid.{paid_resumed, repaid_resumed}
 use Rattle.rv_machine.proofs.Runs.{answer, run_suc, step_at, step_word, kept_word, whole_word}
 use Rattle.rv_machine.proofs.Unspawned.{native_same, record_long}
 use Rattle.rv_machine.proofs.Numbers.{x_at, custom_at}
@@ -226,15 +229,15 @@ module _ (k : Setting) (ready : IsReady k) (earlier : List Row) (m : Machine) (r
 
   -- where this enters, and this is written at retirement
   abbrev Behind : Option Commit → List Owed → Type 0
-  Behind c new = repaid (new ++ unpaid_among (lasts_of k.design.plans) m.entries m.entries m.owed) (arch_paid (paid_by k m) (arch_retired c m.arch)) ≡ run k (retirements (row ∷ earlier))
+  Behind c new = repaid (new ++ unpaid_among (lasts_of k.design.plans) m.entries m.entries m.owed) (arch_paid (paid_by k m) (arch_retired (tree_of k) c m.arch)) ≡ run k (retirements (row ∷ earlier))
 
   module _ (y : R.Retirement k ready earlier m row inv is (left_by k m) row.retired) (goes : out_of (seen_by k m) ≡ 1) where
-    now : run k (retirements (row ∷ earlier)) ≡ applied y.commit (run k (retirements earlier))
+    now : run k (retirements (row ∷ earlier)) ≡ resumed (is_return (tree_of k) y.commit.word) (applied y.commit (run k (retirements earlier)))
     now =
         let z : retirements earlier + 1 ≡ suc (retirements earlier) = omega arith in
         ap (λ j. run k j) (R.retired_now k ready earlier m row inv is ∙ ap (λ o. retirements earlier + o) goes ∙ z)
         ∙ run_suc k (retirements earlier)
-        ∙ ap (λ a. after (run k (retirements earlier)) a) y.recorded
+        ∙ ap (λ a. after (tree_of k) (run k (retirements earlier)) a) y.recorded
 
     abbrev native_part : Commit
     native_part = native (asked k.design y.token.cell.word) ((judged k).course.blocks (retirements earlier)) y.commit
@@ -254,22 +257,25 @@ module _ (k : Setting) (ready : IsReady k) (earlier : List Row) (m : Machine) (r
         (λ n few touched. left_apart y.token y.is_left n few (ap (λ (a : Asks). touches a (register_at n)) y.asks ∙ touched))
 
     -- behind what is written at retirement
-    behind_native : repaid (unpaid_among (lasts_of k.design.plans) m.entries m.entries m.owed) (arch_paid (paid_by k m) (arch_retired (native_of (left_by k m)) m.arch)) ≡ applied native_part (run k (retirements earlier))
+    behind_native : repaid (unpaid_among (lasts_of k.design.plans) m.entries m.entries m.owed) (arch_paid (paid_by k m) (arch_retired (tree_of k) (native_of (left_by k m)) m.arch)) ≡ resumed (is_return (tree_of k) native_part.word) (applied native_part (run k (retirements earlier)))
     behind_native =
-        early (arch_retired (native_of (left_by k m)) m.arch)
-        ∙ ap (λ o. repaid m.owed (arch_retired o m.arch)) y.writes
-        ∙ repaid_applied native_part m.owed m.arch free
-        ∙ ap (λ s. applied native_part s) inv.arch
+        early (arch_retired (tree_of k) (native_of (left_by k m)) m.arch)
+        ∙ ap (λ o. repaid m.owed (arch_retired (tree_of k) o m.arch)) y.writes
+        ∙ repaid_resumed (is_return (tree_of k) native_part.word) m.owed (applied native_part m.arch)
+        ∙ ap (λ s. resumed (is_return (tree_of k) native_part.word) s) (repaid_applied native_part m.owed m.arch free ∙ ap (λ s. applied native_part s) inv.arch)
 
     retiring : (o : Option ℕ) → (asked k.design y.token.cell.word).unit ≡ o → Behind (native_of (left_by k m)) (owed_by_entering (into_unit o (Some (R.owed_at k ready earlier m row inv is y.token.cell.serial y.token.cell.word y.commit))))
     retiring None e =
         behind_native
-        ∙ ap (λ c. applied c (run k (retirements earlier))) (native_same (asked k.design y.token.cell.word) (no_unit k ready y.token.cell.word e) y.commit (record_long (tree_of k) k.image (run k (retirements earlier)) y.commit y.recorded) ((judged k).course.blocks (retirements earlier)))
+        ∙ ap (λ (c : Commit). resumed (is_return (tree_of k) c.word) (applied c (run k (retirements earlier)))) (native_same (asked k.design y.token.cell.word) (no_unit k ready y.token.cell.word e) y.commit (record_long (tree_of k) k.image (run k (retirements earlier)) y.commit y.recorded) ((judged k).course.blocks (retirements earlier)))
         ∙ sym now
     retiring (Some u) e =
         ap (λ s. paid (spawned (asked k.design y.token.cell.word) ((judged k).course.own (retirements earlier)) y.commit) s) behind_native
-        ∙ whole_applied (asked k.design y.token.cell.word) ((judged k).course.own (retirements earlier)) ((judged k).course.blocks (retirements earlier)) y.commit (run k (retirements earlier))
-        (λ n few. whole_word k ready (retirements earlier) y.token.cell.word y.commit n there y.recorded few)
+        ∙ paid_resumed (is_return (tree_of k) native_part.word) (spawned (asked k.design y.token.cell.word) ((judged k).course.own (retirements earlier)) y.commit) (applied native_part (run k (retirements earlier)))
+        ∙ ap (λ s. resumed (is_return (tree_of k) native_part.word) s)
+        (whole_applied (asked k.design y.token.cell.word) ((judged k).course.own (retirements earlier)) ((judged k).course.blocks (retirements earlier)) y.commit (run k (retirements earlier))
+        (λ n few. whole_word k ready (retirements earlier) y.token.cell.word y.commit n there y.recorded few))
+        ∙ ap (λ w. resumed (is_return (tree_of k) w) (applied y.commit (run k (retirements earlier)))) (native_word (asked k.design y.token.cell.word) ((judged k).course.blocks (retirements earlier)) y.commit)
         ∙ sym now
 
   pub repaid_next : repaid (machine_after k m).owed (machine_after k m).arch ≡ run k (retirements (row ∷ earlier))
@@ -277,9 +283,9 @@ module _ (k : Setting) (ready : IsReady k) (earlier : List Row) (m : Machine) (r
     | inl n ↦
         let z : retirements earlier + 0 ≡ retirements earlier = omega arith in
         let e = R.retired_now k ready earlier m row inv is ∙ ap (λ o. retirements earlier + o) n.2 ∙ z in
-        ap (λ t. repaid (owed_by_entering (entering_of t) ++ unpaid_among (lasts_of k.design.plans) m.entries m.entries m.owed) (arch_paid (paid_by k m) (arch_retired (native_of t) m.arch))) n.0
+        ap (λ t. repaid (owed_by_entering (entering_of t) ++ unpaid_among (lasts_of k.design.plans) m.entries m.entries m.owed) (arch_paid (paid_by k m) (arch_retired (tree_of k) (native_of t) m.arch))) n.0
         ∙ early m.arch ∙ inv.arch ∙ ap (λ j. run k j) (sym e)
     | inr y ↦
-        ap (λ enter. repaid (owed_by_entering enter ++ unpaid_among (lasts_of k.design.plans) m.entries m.entries m.owed) (arch_paid (paid_by k m) (arch_retired (native_of (left_by k m)) m.arch))) y.0.enters
+        ap (λ enter. repaid (owed_by_entering enter ++ unpaid_among (lasts_of k.design.plans) m.entries m.entries m.owed) (arch_paid (paid_by k m) (arch_retired (tree_of k) (native_of (left_by k m)) m.arch))) y.0.enters
         ∙ retiring y.0 y.1 (asked k.design y.0.token.cell.word).unit refl
   ]

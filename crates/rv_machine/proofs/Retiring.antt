@@ -6,6 +6,7 @@ use Rattle.rv_seq.specs.declared.answer.StepAnswer.{StepAnswer}
 use Rattle.rv_seq.specs.declared.answer.StepAnswer.TheVariants.{Done, Stopped}
 use Rattle.rv_seq.specs.declared.commit.Commit.{Commit}
 use Rattle.rv_seq.specs.Commits.{applied}
+use Rattle.rv_seq.specs.Interrupts.{is_return, resumed}
 use Rattle.rv_seq.specs.Steps.{word_at}
 use Rattle.rv_trace.specs.declared.row.Row.{Row}
 use Rattle.rv_trace.specs.Trace.{place, is_flushed, is_retired, retirements}
@@ -37,7 +38,7 @@ use Rattle.rv_lawful.specs.Sight.{asked}
 use Rattle.rv_engine.specs.declared.owing.Owed.{Owed}
 use Rattle.rv_asks.specs.declared.asks.Asks.{Asks}
 use Rattle.rv_seq.specs.declared.arch.Arch.{Arch}
-use Rattle.rv_machine.proofs.Recorded.{shown_word, native_shown}
+use Rattle.rv_machine.proofs.Recorded.{native_word, shown_word, native_shown}
 
 cleared_stops : (k : Setting) (stage n : ℕ) (slots : Slots) → n ≤ length slots → NoStops k (stage + n) (drop n slots) → NoStops k stage (cleared n slots)
 cleared_stops k stage zero slots le h = subst (λ b. NoStops k b slots) (add-zero stage) h
@@ -309,16 +310,19 @@ module _ (k : Setting) (ready : IsReady k) (earlier : List Row) (m : Machine) (r
   -- ---- the state after the row
 
   -- what a row retires is written as it shows
-  retired_shown : (s : Arch) → after_retired (judged k) r row.retired s ≡ arch_retired (native_of (left_by k m)) s
+  retired_shown : (s : Arch) → after_retired (tree_of k) (judged k) r row.retired s ≡ arch_retired (tree_of k) (native_of (left_by k m)) s
   retired_shown s = elim goes_out [
-    | inl n ↦ ap (λ o. after_retired (judged k) r o s) n.1 ∙ ap (λ o. arch_retired (native_of o) s) (sym n.0)
+    | inl n ↦ ap (λ o. after_retired (tree_of k) (judged k) r o s) n.1 ∙ ap (λ o. arch_retired (tree_of k) (native_of o) s) (sym n.0)
     | inr y ↦
         let a = asked k.design y.0.token.cell.word in
         let c = y.0.commit in
-        ap (λ o. after_retired (judged k) r o s) y.0.is_retired
-        ∙ ap (λ w. applied (native (asked k.design w) ((judged k).course.blocks r) (shown a c)) s) (shown_word a c ∙ y.0.word)
-        ∙ ap (λ d. applied d s) (native_shown a ((judged k).course.blocks r) c)
-        ∙ ap (λ o. arch_retired o s) (sym y.0.writes)
+        let blocks = (judged k).course.blocks r in
+        let returns = is_return (tree_of k) (shown a c).word in
+        ap (λ o. after_retired (tree_of k) (judged k) r o s) y.0.is_retired
+        ∙ ap (λ w. resumed returns (applied (native (asked k.design w) blocks (shown a c)) s)) (shown_word a c ∙ y.0.word)
+        ∙ ap (λ d. resumed returns (applied d s)) (native_shown a blocks c)
+        ∙ ap (λ w. resumed (is_return (tree_of k) w) (applied (native a blocks c) s)) (shown_word a c ∙ sym (native_word a blocks c))
+        ∙ ap (λ o. arch_retired (tree_of k) o s) (sym y.0.writes)
   ]
 
   written_shown : (o : Option Owed) (s : Arch) → after_written (written_of o) s ≡ arch_paid o s
@@ -328,7 +332,7 @@ module _ (k : Setting) (ready : IsReady k) (earlier : List Row) (m : Machine) (r
   pub architecture_now : architecture (tree_of k) (judged k) (row ∷ earlier) ≡ (machine_after k m).arch
   unfolding architecture
   architecture_now =
-      ap (λ w. after_written w (after_retired (judged k) r row.retired (architecture (tree_of k) (judged k) earlier))) is.written
-      ∙ written_shown (paid_by k m) (after_retired (judged k) r row.retired (architecture (tree_of k) (judged k) earlier))
-      ∙ ap (λ s. arch_paid (paid_by k m) (after_retired (judged k) r row.retired s)) inv.state
+      ap (λ w. after_written w (after_retired (tree_of k) (judged k) r row.retired (architecture (tree_of k) (judged k) earlier))) is.written
+      ∙ written_shown (paid_by k m) (after_retired (tree_of k) (judged k) r row.retired (architecture (tree_of k) (judged k) earlier))
+      ∙ ap (λ s. arch_paid (paid_by k m) (after_retired (tree_of k) (judged k) r row.retired s)) inv.state
       ∙ ap (λ s. arch_paid (paid_by k m) s) (retired_shown m.arch)

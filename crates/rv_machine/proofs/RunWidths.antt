@@ -6,35 +6,42 @@ use Rattle.ix_extension.specs.WellFormed.{IsOf}
 use Rattle.ix_eval.specs.declared.effect.Effect.{Effect}
 use Rattle.rv_effect.specs.declared.decoded.Decoded.{Decoded}
 use Rattle.rv_effect.specs.Decoding.{decoded_in}
-use Rattle.rv_effect.specs.WordEffects.{AreWide}
+use Rattle.rv_effect.specs.WordEffects.{over, blocks_effect, AreWide}
 use Rattle.rv_seq.specs.declared.arch.Arch.{Arch}
 use Rattle.rv_seq.specs.declared.answer.StepAnswer.TheVariants.{Done}
 use Rattle.rv_seq.specs.declared.commit.Stop.{Stop}
 use Rattle.rv_seq.specs.States.{first, inputs_at}
 use Rattle.rv_seq.specs.Commits.{commit_of, applied, slots_of}
-use Rattle.rv_seq.specs.Steps.{word_at, attempted, of_decoded, of_word, step, after, unless_stopped, whole_effect, own_effect}
+use Rattle.rv_seq.specs.Steps.{word_at, return_effect, of_return, attempted, of_decoded, of_word, step, after, unless_stopped, whole_effect, own_effect}
 use Rattle.rv_seq.specs.Stops.{stop_of}
-use Rattle.rv_seq.specs.Runs.{run}
-use Rattle.rv_seq.proofs.Wide.{AreFit, wide_first, whole_fit, slots_wide, wide_after}
+use Rattle.rv_seq.specs.Interrupts.{return_to}
+use Rattle.rv_seq.specs.Runs.{run_with, run}
+use Rattle.rv_seq.proofs.Wide.{AreFit, wide_first, whole_fit, return_fit, slots_wide, wide_after}
 
 written_wide : (x : ExtensionTree) (s : Arch) (word : ℕ) (e : Effect) → AreWide x s.custom → AreFit x e.custom → AreWide x (applied (commit_of s.pc word e) s).custom
 unfolding applied commit_of
 written_wide x s word e h w = wide_after x s.custom (slots_of e.custom) h (slots_wide x e.custom w)
 
-attempted_wide : (x : ExtensionTree) (s : Arch) (word : ℕ) (e : Effect) (stop : Option Stop) → AreWide x s.custom → AreFit x e.custom → AreWide x (after s (unless_stopped stop (Done (commit_of s.pc word e)))).custom
+attempted_wide : (x : ExtensionTree) (s : Arch) (word : ℕ) (e : Effect) (stop : Option Stop) → AreWide x s.custom → AreFit x e.custom → AreWide x (after x s (unless_stopped stop (Done (commit_of s.pc word e)))).custom
 attempted_wide x s word e None h w = written_wide x s word e h w
 attempted_wide x s word e (Some stop) h w = h
 
-decoded_wide : (x : ExtensionTree) (s : Arch) (word : ℕ) (o : Option Decoded) → AreWide x s.custom → AreWide x (after s (of_decoded x s word o)).custom
+unknown_wide : (x : ExtensionTree) (s : Arch) (word : ℕ) (back : Option ℕ) → AreWide x s.custom → AreWide x (after x s (of_return x s word back)).custom
+unfolding of_return
+unknown_wide x s word None h = h
+unknown_wide x s word (Some at) h =
+    written_wide x s word (over (return_effect at) (blocks_effect x (inputs_at word s) (length x.blocks))) h (return_fit x at (inputs_at word s) (length x.blocks))
+
+decoded_wide : (x : ExtensionTree) (s : Arch) (word : ℕ) (o : Option Decoded) → AreWide x s.custom → AreWide x (after x s (of_decoded x s word o)).custom
 unfolding attempted
-decoded_wide x s word None h = h
+decoded_wide x s word None h = unknown_wide x s word (return_to word s.trap) h
 decoded_wide x s word (Some d) h = attempted_wide x s word (whole_effect x s word d) (stop_of d (own_effect x s word d)) h (whole_fit x d (inputs_at word s) (length x.blocks))
 
-fetched_wide : (x : ExtensionTree) (s : Arch) (o : Option ℕ) → AreWide x s.custom → AreWide x (after s (of_word x s o)).custom
+fetched_wide : (x : ExtensionTree) (s : Arch) (o : Option ℕ) → AreWide x s.custom → AreWide x (after x s (of_word x s o)).custom
 fetched_wide x s None h = h
 fetched_wide x s (Some word) h = decoded_wide x s word (decoded_in x word) h
 
-step_wide : (x : ExtensionTree) (image : List ℕ) (s : Arch) → AreWide x s.custom → AreWide x (after s (step x image s)).custom
+step_wide : (x : ExtensionTree) (image : List ℕ) (s : Arch) → AreWide x s.custom → AreWide x (after x s (step x image s)).custom
 unfolding step
 step_wide x image s h = fetched_wide x s (word_at image s.pc) h
 
@@ -44,6 +51,6 @@ first_is_wide t x h = wide_first t x h
 
 -- in each state of a run the custom registers have patterns of their widths
 pub run_wide : (t : TypedTextTree) (x : ExtensionTree) (image : List ℕ) (p : ℕ) → IsOf t x → AreWide x (run x image p).custom
-unfolding run
+unfolding run_with
 run_wide t x image zero h = first_is_wide t x h
 run_wide t x image (suc p) h = step_wide x image (run x image p) (run_wide t x image p h)

@@ -31,13 +31,15 @@ use Rattle.rv_effect.specs.declared.decoded.Decoded.TheVariants as D
 use Rattle.rv_effect.specs.Decoding.{decoded_in}
 use Rattle.rv_effect.specs.WordEffects.{effect_of, over, blocks_effect}
 use Rattle.rv_seq.specs.declared.arch.Arch.{Arch}
+use Rattle.rv_seq.specs.declared.arch.TrapState.{TrapState}
 use Rattle.rv_seq.specs.declared.answer.StepAnswer.TheVariants.{Done}
 use Rattle.rv_seq.specs.declared.commit.Stop.{Stop}
 use Rattle.rv_seq.specs.States.{first, inputs_at}
 use Rattle.rv_seq.specs.Commits.{commit_of, applied, with_x, x_index, x_slot}
-use Rattle.rv_seq.specs.Steps.{word_at, attempted, of_decoded, of_word, step, after, unless_stopped, whole_effect, own_effect}
+use Rattle.rv_seq.specs.Interrupts.{return_to, is_return, enabled_again, resumed}
+use Rattle.rv_seq.specs.Steps.{word_at, return_effect, of_return, attempted, of_decoded, of_word, step, after, unless_stopped, whole_effect, own_effect}
 use Rattle.rv_seq.specs.Stops.{stop_of}
-use Rattle.rv_seq.specs.Runs.{run}
+use Rattle.rv_seq.specs.Runs.{run_with, run}
 use Rattle.rv_lawful.specs.Sight.{HasWords}
 
 -- ---- numbers below 2^32
@@ -171,6 +173,8 @@ blocks_below x i (suc n) = over_below (effect_at x (W.Block n) i) (blocks_effect
 pub record HoldsWords (s : Arch) : Type 0 where
   pub registers : HasWords s
   pub pc : s.pc < 2 ^ 32
+  -- and so does the address to which a word returns
+  pub back : (word : ℕ) → IsBelow (return_to word s.trap)
 
 pub set_below : (xs : List ℕ) (i v r : ℕ) → ((n : ℕ) → Below (get_or xs n 0)) → Below v → Below (get_or (slice_set xs i v) r 0)
 set_below [] i v r h p = h r
@@ -193,24 +197,44 @@ next_below (Some a) at p = p
 
 written_words : (s : Arch) (word : ℕ) (e : Effect) → HoldsWords s → Writes e → HoldsWords (applied (commit_of s.pc word e) s)
 unfolding applied commit_of
-written_words s word e h w = record { registers = λ r. with_x_below s.x (rd_of word) r e.rd h.registers w.rd; pc = next_below e.pc s.pc w.pc }
+written_words s word e h w = record { registers = λ r. with_x_below s.x (rd_of word) r e.rd h.registers w.rd; pc = next_below e.pc s.pc w.pc; back = h.back }
 
-attempted_words : (s : Arch) (word : ℕ) (e : Effect) (stop : Option Stop) → HoldsWords s → Writes e → HoldsWords (after s (unless_stopped stop (Done (commit_of s.pc word e))))
-attempted_words s word e None h w = written_words s word e h w
-attempted_words s word e (Some stop) h w = h
+-- where a return goes on stays where interrupts are taken again
+pub return_kept : (returns : Bool) (t : Option TrapState) (word : ℕ) → return_to word (if returns then enabled_again t else t) ≡ return_to word t
+return_kept false t word = refl
+return_kept true None word = refl
+return_kept true (Some t) word = refl
 
-decoded_words : (x : ExtensionTree) (s : Arch) (word : ℕ) (o : Option Decoded) → HoldsWords s → HoldsWords (after s (of_decoded x s word o))
+resumed_words : (returns : Bool) (s : Arch) → HoldsWords s → HoldsWords (resumed returns s)
+resumed_words returns s h = record { registers = h.registers; pc = h.pc; back = λ word. subst IsBelow (sym (return_kept returns s.trap word)) (h.back word) }
+
+attempted_words : (x : ExtensionTree) (s : Arch) (word : ℕ) (e : Effect) (stop : Option Stop) → HoldsWords s → Writes e → HoldsWords (after x s (unless_stopped stop (Done (commit_of s.pc word e))))
+attempted_words x s word e None h w = resumed_words (is_return x (commit_of s.pc word e).word) (applied (commit_of s.pc word e) s) (written_words s word e h w)
+attempted_words x s word e (Some stop) h w = h
+
+-- a return writes no register, and goes on at a word
+pub return_below : (at : ℕ) → Below at → Writes (return_effect at)
+return_below at h = record { rd = tt; pc = h }
+
+unknown_words : (x : ExtensionTree) (s : Arch) (word : ℕ) (back : Option ℕ) → HoldsWords s → IsBelow back → HoldsWords (after x s (of_return x s word back))
+unfolding of_return
+unknown_words x s word None h b = h
+unknown_words x s word (Some at) h b =
+    attempted_words x s word (over (return_effect at) (blocks_effect x (inputs_at word s) (length x.blocks))) None h
+    (over_below (return_effect at) (blocks_effect x (inputs_at word s) (length x.blocks)) (return_below at b) (blocks_below x (inputs_at word s) (length x.blocks)))
+
+decoded_words : (x : ExtensionTree) (s : Arch) (word : ℕ) (o : Option Decoded) → HoldsWords s → HoldsWords (after x s (of_decoded x s word o))
 unfolding attempted
-decoded_words x s word None h = h
+decoded_words x s word None h = unknown_words x s word (return_to word s.trap) h (h.back word)
 decoded_words x s word (Some d) h =
-    attempted_words s word (whole_effect x s word d) (stop_of d (own_effect x s word d)) h
+    attempted_words x s word (whole_effect x s word d) (stop_of d (own_effect x s word d)) h
     (over_below (own_effect x s word d) (blocks_effect x (inputs_at word s) (length x.blocks)) (own_below x d (inputs_at word s) (h.registers (rs1_of word)) (h.registers (rs2_of word))) (blocks_below x (inputs_at word s) (length x.blocks)))
 
-fetched_words : (x : ExtensionTree) (s : Arch) (o : Option ℕ) → HoldsWords s → HoldsWords (after s (of_word x s o))
+fetched_words : (x : ExtensionTree) (s : Arch) (o : Option ℕ) → HoldsWords s → HoldsWords (after x s (of_word x s o))
 fetched_words x s None h = h
 fetched_words x s (Some word) h = decoded_words x s word (decoded_in x word) h
 
-step_words : (x : ExtensionTree) (image : List ℕ) (s : Arch) → HoldsWords s → HoldsWords (after s (step x image s))
+step_words : (x : ExtensionTree) (image : List ℕ) (s : Arch) → HoldsWords s → HoldsWords (after x s (step x image s))
 unfolding step
 step_words x image s h = fetched_words x s (word_at image s.pc) h
 
@@ -221,11 +245,11 @@ zeros_below (suc n) (suc r) = zeros_below n r
 
 first_words : (x : ExtensionTree) → HoldsWords (first x)
 unfolding first
-first_words x = record { registers = λ r. zeros_below 32 r; pc = lit< tt }
+first_words x = record { registers = λ r. zeros_below 32 r; pc = lit< tt; back = λ word. tt }
 
 -- in each state of a run the registers and the pc hold words
 pub run_words : (x : ExtensionTree) (image : List ℕ) (p : ℕ) → HoldsWords (run x image p)
-unfolding run
+unfolding run_with
 run_words x image zero = first_words x
 run_words x image (suc p) = step_words x image (run x image p) (run_words x image p)
 

@@ -1,5 +1,5 @@
 -- Facts on the run with an extension.
-use Rattle.std.proofs.Common.{◌≡◌, ◌≢◌, ℕ, zero, suc, ◌<◌, ◌≤◌, List, get_or, Option, Some, None, false, refl, sym, ap, ◌∙◌, subst, arith, inl, inr}
+use Rattle.std.proofs.Common.{◌≡◌, ◌≢◌, ℕ, zero, suc, ◌+◌, ◌<◌, ◌≤◌, List, get_or, Option, Some, None, false, refl, sym, ap, ◌∙◌, subst, arith, inl, inr}
 use Rattle.std.specs.Prelude.{slice_index}
 use Rattle.std.proofs.lemmas.List.{get_or_past}
 use Rattle.std.proofs.lemmas.Bool.{cases_lt}
@@ -18,7 +18,8 @@ use Rattle.rv_seq.specs.Commits.{applied, with_slot, with_customs}
 use Rattle.rv_seq.specs.States.{zero_bit, state_at}
 use Rattle.rv_seq.specs.States.{first as first_state}
 use Rattle.rv_seq.specs.Steps.{word_at, of_word, of_decoded, after, step}
-use Rattle.rv_seq.specs.Runs.{run as seq_run}
+use Rattle.rv_seq.specs.Interrupts.{return_to, is_return, resumed}
+use Rattle.rv_seq.specs.Runs.{run_with}
 use Rattle.rv_engine.specs.Settings.{Setting, tree_of}
 use Rattle.rv_tried.specs.declared.trial.Trial.{Trial}
 use Rattle.rv_tried.specs.Tried.{tried}
@@ -28,13 +29,14 @@ use Rattle.rv_lawful.specs.Outstanding.{is_register}
 use Rattle.rv_lawful.specs.Sight.{asked, IsKept}
 use Rattle.rv_machine.specs.Owing.{judged}
 use Rattle.rv_machine.specs.Placed.{run, IsReady}
+use Rattle.rv_machine.proofs.RunWords.{return_kept}
 
 -- what the step at a place comes to
 abbrev pub answer : Setting → ℕ → StepAnswer
 answer k p = (judged k).course.answer p
 
-pub run_suc : (k : Setting) (p : ℕ) → run k (suc p) ≡ after (run k p) (answer k p)
-unfolding seq_run
+pub run_suc : (k : Setting) (p : ℕ) → run k (suc p) ≡ after (tree_of k) (run k p) (answer k p)
+unfolding run_with
 run_suc k p = refl
 
 pub step_at : (x : ExtensionTree) (image : List ℕ) (s : Arch) (o : Option ℕ) → word_at image s.pc ≡ o → step x image s ≡ of_word x s o
@@ -50,41 +52,55 @@ pub access_word : (k : Setting) (p word : ℕ) → word_at k.image (run k p).pc 
 access_word k p word w = ap (λ o. word_accesses (tree_of k) (run k p) o) w
 
 -- and it comes to what the word is tried to with what the state shows of it
-pub trial_word : (k : Setting) (p word : ℕ) → word_at k.image (run k p).pc ≡ Some word → run_trial (tree_of k) k.image p ≡ tried (tree_of k) (state_at word (run k p)) (run k p).mem (decoded_in (tree_of k) word)
+pub trial_word : (k : Setting) (p word : ℕ) → word_at k.image (run k p).pc ≡ Some word → run_trial (tree_of k) k.image p ≡ tried (tree_of k) (state_at word (run k p)) (run k p).mem (return_to word (run k p).trap) (decoded_in (tree_of k) word)
 trial_word k p word w = ap (λ o. state_trial (tree_of k) (run k p) o) w
 
 -- so it answers as the step does
-same_answer : (k : Setting) (ready : IsReady k) (p word : ℕ) → word_at k.image (run k p).pc ≡ Some word → (tried (tree_of k) (state_at word (run k p)) (run k p).mem (decoded_in (tree_of k) word)).answer ≡ answer k p
+same_answer : (k : Setting) (ready : IsReady k) (p word : ℕ) → word_at k.image (run k p).pc ≡ Some word → (tried (tree_of k) (state_at word (run k p)) (run k p).mem (return_to word (run k p).trap) (decoded_in (tree_of k) word)).answer ≡ answer k p
 same_answer k ready p word w = ready.answers (tree_of k) k.image (run k p) word w
 
 -- the parts of its record are the whole of it
 pub whole_word : (k : Setting) (ready : IsReady k) (p word : ℕ) (c : Commit) (reg : ℕ) → word_at k.image (run k p).pc ≡ Some word → answer k p ≡ Done c → reg < 16 → IsWhole ((judged k).course.own p) ((judged k).course.blocks p) c reg
 whole_word k ready p word c reg w h lt =
     subst (λ (u : Trial). IsWhole u.own u.blocks c reg) (sym (trial_word k p word w))
-    (ready.whole (tree_of k) (state_at word (run k p)) (run k p).mem (decoded_in (tree_of k) word) c (same_answer k ready p word w ∙ h) reg lt)
+    (ready.whole (tree_of k) (state_at word (run k p)) (run k p).mem (return_to word (run k p).trap) (decoded_in (tree_of k) word) c (same_answer k ready p word w ∙ h) reg lt)
 
 -- and what the blocks write has its widths
 pub blocks_word : (k : Setting) (ready : IsReady k) (p word : ℕ) → word_at k.image (run k p).pc ≡ Some word → AreBlocksWide (tree_of k) ((judged k).course.blocks p)
 blocks_word k ready p word w =
     subst (λ (u : Trial). AreBlocksWide (tree_of k) u.blocks) (sym (trial_word k p word w))
-    (ready.blocks_wide (tree_of k) (state_at word (run k p)) (run k p).mem (decoded_in (tree_of k) word))
+    (ready.blocks_wide (tree_of k) (state_at word (run k p)) (run k p).mem (return_to word (run k p).trap) (decoded_in (tree_of k) word))
 
 -- what its record leaves as it is
 pub kept_word : (k : Setting) (ready : IsReady k) (p word : ℕ) (c : Commit) → word_at k.image (run k p).pc ≡ Some word → answer k p ≡ Done c → IsKept (asked k.design word) (run k p) word c
 kept_word k ready p word c w h = ready.keeps word (run k p) c (ready.wide p) (ready.words p) (ready.image (run k p).pc word w) (ready.pcs p) (sym (step_word k p word w) ∙ h)
 
-pub run_done : (k : Setting) (p : ℕ) (c : Commit) → answer k p ≡ Done c → run k (suc p) ≡ applied c (run k p)
-run_done k p c h = run_suc k p ∙ ap (λ a. after (run k p) a) h
+pub run_done : (k : Setting) (p : ℕ) (c : Commit) → answer k p ≡ Done c → run k (suc p) ≡ resumed (is_return (tree_of k) c.word) (applied c (run k p))
+run_done k p c h = run_suc k p ∙ ap (λ a. after (tree_of k) (run k p) a) h
 
 pub run_stopped : (k : Setting) (p : ℕ) (stop : Stop) → answer k p ≡ Stopped stop → run k (suc p) ≡ run k p
-run_stopped k p stop h = run_suc k p ∙ ap (λ a. after (run k p) a) h
+run_stopped k p stop h = run_suc k p ∙ ap (λ a. after (tree_of k) (run k p) a) h
 
 -- a fact on the state behind a step: where it stops, and where it writes a record
-pub after_step : (k : Setting) (p : ℕ) (P : Arch → Type 0) → P (run k p) → ((c : Commit) → answer k p ≡ Done c → P (applied c (run k p))) → P (run k (suc p))
+pub after_step : (k : Setting) (p : ℕ) (P : Arch → Type 0) → P (run k p) → ((c : Commit) → answer k p ≡ Done c → P (resumed (is_return (tree_of k) c.word) (applied c (run k p)))) → P (run k (suc p))
 after_step k p P same done = by_answer (answer k p) refl where
   by_answer : (a : StepAnswer) → answer k p ≡ a → P (run k (suc p))
   by_answer (Done c) h = subst P (sym (run_done k p c h)) (done c h)
   by_answer (Stopped stop) h = subst P (sym (run_stopped k p stop h)) same
+
+trap_of : (c : Commit) (s : Arch) → (applied c s).trap ≡ s.trap
+unfolding applied
+trap_of c s = refl
+
+-- a word returns to the same address wherever the run goes without an entry
+pub run_return : (k : Setting) (r n word : ℕ) → return_to word (run k (r + n)).trap ≡ return_to word (run k r).trap
+run_return k r zero word = ap (λ p. return_to word (run k p).trap) (let same : r + 0 ≡ r = omega arith in same)
+run_return k r (suc n) word =
+    let next : r + suc n ≡ suc (r + n) = omega arith in
+    ap (λ p. return_to word (run k p).trap) next
+    ∙ after_step k (r + n) (λ s. return_to word s.trap ≡ return_to word (run k (r + n)).trap) refl
+    (λ c h. return_kept (is_return (tree_of k) c.word) (applied c (run k (r + n))).trap word ∙ ap (return_to word) (trap_of c (run k (r + n))))
+    ∙ run_return k r n word
 
 -- a register that is not written, and not spawned
 pub run_other : (k : Setting) (ready : IsReady k) (p word reg : ℕ) → word_at k.image (run k p).pc ≡ Some word → (asked k.design word).destination ≢ reg → is_register (asked k.design word).spawned reg ≡ false → slice_index (run k (suc p)).x reg ≡ slice_index (run k p).x reg
@@ -134,7 +150,7 @@ zero_step k ready p (Some word) w =
     after_step k p (λ s. slice_index s.x 0 ≡ slice_index (run k p).x 0) refl (λ c h. (kept_word k ready p word c w h).zero)
 
 pub run_zero : (k : Setting) (ready : IsReady k) (p : ℕ) → slice_index (run k p).x 0 ≡ 0
-unfolding seq_run first_state
+unfolding run_with first_state
 run_zero k ready zero = refl
 run_zero k ready (suc p) = zero_step k ready p (word_at k.image (run k p).pc) refl ∙ run_zero k ready p
 
@@ -144,7 +160,7 @@ run_zero k ready (suc p) = zero_step k ready p (word_at k.image (run k p).pc) re
 pub record GoesOn (k : Setting) (p code : ℕ) (c : Commit) : Type 0 where
   pub at : c.at ≡ (run k p).pc
   pub word : c.word ≡ code
-  pub state : run k (suc p) ≡ applied c (run k p)
+  pub state : run k (suc p) ≡ resumed (is_return (tree_of k) c.word) (applied c (run k p))
   pub pc : (run k (suc p)).pc ≡ c.next
 
 pub goes_on : (k : Setting) (ready : IsReady k) (p word : ℕ) (c : Commit) → word_at k.image (run k p).pc ≡ Some word → answer k p ≡ Done c → GoesOn k p word c

@@ -210,7 +210,7 @@ module _ (k : Setting) (ready : IsReady k) (earlier : List Row) (m : Machine) (r
       ∙ ap (λ n. wait_at k.waits (Lawful.accesses_before (judged k).course (retirements earlier + count older)) - n) (stood_told t older (drop (shape_of k).mem m.slots) refl h)
 
   -- and for how many a module still goes on
-  pub new_tail : (o : Option ℕ) (u : Token) → fetched k.design m.future m.next m.fetch o ≡ Some u → u.tail ≡ u.asks.tail
+  pub new_tail : (o : Option ℕ) (u : Token) → fetched k.design m.future m.arch.trap m.next m.fetch o ≡ Some u → u.tail ≡ u.asks.tail
   new_tail None u e = cc
   new_tail (Some word) u e = subst (λ (v : Token). v.tail ≡ v.asks.tail) (same_token _ u e) refl where
     same_token : (v w : Token) → ◌≡◌ {A = Option Token} (Some v) (Some w) → v ≡ w
@@ -219,14 +219,14 @@ module _ (k : Setting) (ready : IsReady k) (earlier : List Row) (m : Machine) (r
   -- a token that is fetched has not stood before
   pub new_untailed : (u : Token) → new_by k m ≡ Some u → Lawful.tailed (judged k) earlier u.cell.serial ≡ 0
   new_untailed u new =
-      let serial = fetched_serial m.next (new_by k m) u (new_serial k.design m.future m.next m.fetch (word_at k.image m.fetch)) new in
+      let serial = fetched_serial m.next (new_by k m) u (new_serial k.design m.future m.arch.trap m.next m.fetch (word_at k.image m.fetch)) new in
       none_tailed (judged k) earlier u.cell.serial (λ word w. let lt = inv.fresh u.cell.serial word w in absurd (omega (arith, lt, serial)))
 
   tail_before : (n : ℕ) (u : Token) → slice_get (fill_first (new_by k m) m.slots) n ≡ Some (Some u) → u.tail + Lawful.tailed (judged k) earlier u.cell.serial ≡ u.asks.tail
   tail_before n u e = elim (filled_from (new_by k m) n m.slots u e) [
     | inl old ↦ let x = rest_of m.slots n u old in inv.tail_is n u x.0 x.1
     | inr new ↦
-        let serial = fetched_serial m.next (new_by k m) u (new_serial k.design m.future m.next m.fetch (word_at k.image m.fetch)) new in
+        let serial = fetched_serial m.next (new_by k m) u (new_serial k.design m.future m.arch.trap m.next m.fetch (word_at k.image m.fetch)) new in
         let none = none_tailed (judged k) earlier u.cell.serial (λ word w. let lt = inv.fresh u.cell.serial word w in absurd (omega (arith, lt, serial))) in
         ap (λ i. u.tail + i) none ∙ add-zero u.tail ∙ new_tail (word_at k.image m.fetch) u new
   ]

@@ -21,6 +21,8 @@ use Rattle.rv_tried.specs.Tried.{tried}
 use Rattle.rv_holds.specs.declared.token.Token.{Token}
 use Rattle.rv_holds.specs.Tokens.{Slots, or_else}
 use Rattle.rv_holds.specs.Holds.{oldest, is_late, writes_late, custom, waits_for_custom, first_from, custom_hold, late, late_hold, waiting_hold, register_count, spawner, least_from, register_at}
+use Rattle.rv_effect.specs.declared.decoded.Decoded.{Decoded}
+use Rattle.rv_seq.specs.Interrupts.{return_to}
 use Rattle.rv_engine.specs.Settings.{Setting, shape_of, tree_of}
 use Rattle.rv_engine.specs.Rows.{tried_with, seeing, is_ripe, trying}
 use Rattle.rv_lawful.specs.Future.{is_pending}
@@ -43,36 +45,38 @@ use Rattle.rv_machine.proofs.Numbers.{custom_at}
 
 -- ---- what a word is tried to with what agrees with the run
 
-pub early_trial : (k : Setting) (ready : IsReady k) (p : ℕ) (t : Token) (i : State) (memory : List ℕ) → t.decoded ≡ decoded_in (tree_of k) t.cell.word → t.asks ≡ asked k.design t.cell.word → word_at k.image (run k p).pc ≡ Some t.cell.word
-    → AreWide (tree_of k) i.custom → AreWords i → IsSeen (asked k.design t.cell.word) t.cell.word (run k p) i → IsTried k p (tried_with (tree_of k) memory i t) (tried (tree_of k) i memory t.decoded)
-early_trial k ready p t i memory same asks w wide words seen =
+pub early_trial : (k : Setting) (ready : IsReady k) (p : ℕ) (t : Token) (i : State) (memory : List ℕ) → t.decoded ≡ decoded_in (tree_of k) t.cell.word → t.back ≡ return_to t.cell.word (run k p).trap → t.asks ≡ asked k.design t.cell.word → word_at k.image (run k p).pc ≡ Some t.cell.word
+    → AreWide (tree_of k) i.custom → AreWords i → IsSeen (asked k.design t.cell.word) t.cell.word (run k p) i → IsTried k p (tried_with (tree_of k) memory i t) (tried (tree_of k) i memory t.back t.decoded)
+early_trial k ready p t i memory same back asks w wide words seen =
     let x = tree_of k in
     let word = t.cell.word in
     let c = ready.early word (run k p) i memory (ready.wide p) wide (ready.words p) words seen in
     record {
       tried = refl;
       early =
-          subst (λ a. IsEarly a (tried x i memory t.decoded).answer (answer k p)) (sym asks)
-          (subst (λ o. IsEarly (asked k.design word) (tried x i memory o).answer (answer k p)) (sym same)
-          (subst (λ a. IsEarly (asked k.design word) (tried x i memory (decoded_in x word)).answer a) (sym (step_word k p word w)) c.answer));
-      accesses = ap (λ o. (tried x i memory o).accesses) same ∙ c.accesses ∙ sym (access_word k p word w);
-      load = ap (λ o. (tried x i memory o).load) same ∙ c.load ∙ sym (ap (λ (o : Trial). o.load) (trial_word k p word w));
-      blocks = ap (λ o. (tried x i memory o).blocks) same ∙ c.blocks ∙ sym (ap (λ (o : Trial). o.blocks) (trial_word k p word w));
+          subst (λ a. IsEarly a (tried x i memory t.back t.decoded).answer (answer k p)) (sym asks)
+          (subst (λ (o : Option Decoded). IsEarly (asked k.design word) (tried x i memory t.back o).answer (answer k p)) (sym same)
+          (subst (λ (b : Option ℕ). IsEarly (asked k.design word) (tried x i memory b (decoded_in x word)).answer (answer k p)) (sym back)
+          (subst (λ a. IsEarly (asked k.design word) (tried x i memory (return_to word (run k p).trap) (decoded_in x word)).answer a) (sym (step_word k p word w)) c.answer)));
+      accesses = ap (λ (o : Option Decoded). (tried x i memory t.back o).accesses) same ∙ ap (λ (b : Option ℕ). (tried x i memory b (decoded_in x word)).accesses) back ∙ c.accesses ∙ sym (access_word k p word w);
+      load = ap (λ (o : Option Decoded). (tried x i memory t.back o).load) same ∙ ap (λ (b : Option ℕ). (tried x i memory b (decoded_in x word)).load) back ∙ c.load ∙ sym (ap (λ (o : Trial). o.load) (trial_word k p word w));
+      blocks = ap (λ (o : Option Decoded). (tried x i memory t.back o).blocks) same ∙ ap (λ (b : Option ℕ). (tried x i memory b (decoded_in x word)).blocks) back ∙ c.blocks ∙ sym (ap (λ (o : Trial). o.blocks) (trial_word k p word w));
       x = λ ne lt.
-          ap (λ o. x_written (tried x i memory o).answer) same
+          ap (λ (o : Option Decoded). x_written (tried x i memory t.back o).answer) same
+          ∙ ap (λ (b : Option ℕ). x_written (tried x i memory b (decoded_in x word)).answer) back
           ∙ c.x (λ z. ne (ap (λ (a : Asks). a.destination) asks ∙ z)) (subst (λ (a : Asks). a.x_time < (shape_of k).mem) asks lt)
           ∙ ap x_written (sym (step_word k p word w));
     }
 
-pub exact_trial : (k : Setting) (ready : IsReady k) (p : ℕ) (t : Token) (i : State) (memory : List ℕ) → t.decoded ≡ decoded_in (tree_of k) t.cell.word → t.asks ≡ asked k.design t.cell.word → word_at k.image (run k p).pc ≡ Some t.cell.word
-    → AreWide (tree_of k) i.custom → AreWords i → IsSeen (asked k.design t.cell.word) t.cell.word (run k p) i → (t.asks.loads ≡ true → memory ≡ (run k p).mem) → IsExact k p (tried (tree_of k) i memory t.decoded)
-exact_trial k ready p t i memory same asks w wide words seen read =
+pub exact_trial : (k : Setting) (ready : IsReady k) (p : ℕ) (t : Token) (i : State) (memory : List ℕ) → t.decoded ≡ decoded_in (tree_of k) t.cell.word → t.back ≡ return_to t.cell.word (run k p).trap → t.asks ≡ asked k.design t.cell.word → word_at k.image (run k p).pc ≡ Some t.cell.word
+    → AreWide (tree_of k) i.custom → AreWords i → IsSeen (asked k.design t.cell.word) t.cell.word (run k p) i → (t.asks.loads ≡ true → memory ≡ (run k p).mem) → IsExact k p (tried (tree_of k) i memory t.back t.decoded)
+exact_trial k ready p t i memory same back asks w wide words seen read =
     let x = tree_of k in
     let word = t.cell.word in
     let c = ready.exact word (run k p) i memory (ready.wide p) wide (ready.words p) words seen (λ l. read (ap (λ (a : Asks). a.loads) asks ∙ l)) in
     record {
-      answer = ap (λ o. (tried x i memory o).answer) same ∙ c.answer ∙ sym (step_word k p word w);
-      own = ap (λ o. (tried x i memory o).own) same ∙ c.own ∙ sym (ap (λ (o : Trial). o.own) (trial_word k p word w));
+      answer = ap (λ (o : Option Decoded). (tried x i memory t.back o).answer) same ∙ ap (λ (b : Option ℕ). (tried x i memory b (decoded_in x word)).answer) back ∙ c.answer ∙ sym (step_word k p word w);
+      own = ap (λ (o : Option Decoded). (tried x i memory t.back o).own) same ∙ ap (λ (b : Option ℕ). (tried x i memory b (decoded_in x word)).own) back ∙ c.own ∙ sym (ap (λ (o : Trial). o.own) (trial_word k p word w));
     }
 
 -- ---- the holds until which a token can't be tried
@@ -230,13 +234,13 @@ module _ (k : Setting) (ready : IsReady k) (r stage : ℕ) (older : Slots) (t : 
   same_some : (a b : Trial) → ◌≡◌ {A = Option Trial} (Some a) (Some b) → a ≡ b
   same_some a b e = cc
 
-  early : IsTried k (r + count older) (tried_with (tree_of k) memory (seeing future t.inputs) t) (tried (tree_of k) (seeing future t.inputs) memory t.decoded)
-  early = early_trial k ready (r + count older) t (seeing future t.inputs) memory here.decoded here.asks word_there wide words_are agrees
+  early : IsTried k (r + count older) (tried_with (tree_of k) memory (seeing future t.inputs) t) (tried (tree_of k) (seeing future t.inputs) memory t.back t.decoded)
+  early = early_trial k ready (r + count older) t (seeing future t.inputs) memory here.decoded here.back here.asks word_there wide words_are agrees
 
   pub try_one : IsPlaced k (r + count older) (expected k r (suc stage) older) stage older (tried_with (tree_of k) memory (seeing future t.inputs) t)
   try_one =
       let after_ex = ready.ex_mem in
-      let result = tried (tree_of k) (seeing future t.inputs) memory t.decoded in
+      let result = tried (tree_of k) (seeing future t.inputs) memory t.back t.decoded in
       record {
         at = here.at;
         word = here.word;
@@ -247,6 +251,7 @@ module _ (k : Setting) (ready : IsReady k) (r stage : ℕ) (older : Slots) (t : 
         words = words_are;
         wide = wide;
         guess = here.guess;
+        back = here.back;
         first = here.first;
         second = here.second;
         untried = λ lt. absurd (omega (arith, lt, at_ex));
@@ -257,7 +262,7 @@ module _ (k : Setting) (ready : IsReady k) (r stage : ℕ) (older : Slots) (t : 
         gone = λ lt. absurd (omega (arith, lt, at_ex));
         exact = λ trial e past.
             subst (λ u. IsExact k (r + count older) u) (same_some result trial e)
-            (exact_trial k ready (r + count older) t (seeing future t.inputs) memory here.decoded here.asks word_there wide words_are agrees
+            (exact_trial k ready (r + count older) t (seeing future t.inputs) memory here.decoded here.back here.asks word_there wide words_are agrees
             (λ l. let lt = past l in absurd (omega (arith, lt, at_ex, after_ex))));
       }
 

@@ -8,12 +8,16 @@ use Rattle.rv_asks.specs.declared.asks.Asks.{Asks}
 use Rattle.rv_effect.specs.declared.decoded.Decoded.{Decoded}
 use Rattle.rv_seq.specs.declared.arch.Arch.{Arch}
 use Rattle.rv_seq.specs.declared.answer.StepAnswer.TheVariants.{Done}
+use Rattle.rv_effect.specs.WordEffects.{over, blocks_effect}
+use Rattle.ix_eval.specs.declared.effect.Effect.{Effect}
+use Rattle.rv_seq.specs.States.{inputs_at}
 use Rattle.rv_seq.specs.declared.commit.Commit.{Commit}
 use Rattle.rv_seq.specs.declared.commit.Slot.{Slot}
 use Rattle.rv_seq.specs.declared.commit.Slot.TheVariants.{Absent}
 use Rattle.rv_seq.specs.declared.commit.Stop.{Stop}
 use Rattle.rv_seq.specs.Commits.{slot_of, commit_of}
-use Rattle.rv_seq.specs.Steps.{word_at, own_effect, whole_effect, unless_stopped, attempted, of_decoded, of_word, step}
+use Rattle.rv_seq.specs.Interrupts.{return_to}
+use Rattle.rv_seq.specs.Steps.{word_at, return_effect, of_return, own_effect, whole_effect, unless_stopped, attempted, of_decoded, of_word, step}
 use Rattle.rv_seq.specs.Stops.{stop_of}
 use Rattle.rv_tried.specs.Parts.{native_index, native_x, native_customs, native}
 use Rattle.rv_lawful.specs.Sight.{SpawnsNothing}
@@ -43,9 +47,16 @@ long_done : (o : Option Stop) (c d : Commit) → length c.custom ≡ 16 → unle
 long_done (Some stop) c d l e = cc
 long_done None c d l e = let same : c ≡ d = cc in ap (λ (z : Commit). length z.custom) (sym same) ∙ l
 
+long_unknown : (x : ExtensionTree) (s : Arch) (word : ℕ) (back : Option ℕ) (c : Commit) → of_return x s word back ≡ Done c → length c.custom ≡ 16
+unfolding of_return commit_of
+long_unknown x s word None c e = cc
+long_unknown x s word (Some at) c e =
+    let whole : Effect = over (return_effect at) (blocks_effect x (inputs_at word s) (length x.blocks)) in
+    long_done None (commit_of s.pc word whole) c (table_length (λ r. slot_of (get_or whole.custom r None)) 16) e
+
 long_decoded : (x : ExtensionTree) (s : Arch) (word : ℕ) (o : Option Decoded) (c : Commit) → of_decoded x s word o ≡ Done c → length c.custom ≡ 16
 unfolding attempted commit_of
-long_decoded x s word None c e = cc
+long_decoded x s word None c e = long_unknown x s word (return_to word s.trap) c e
 long_decoded x s word (Some d) c e =
     long_done (stop_of d (own_effect x s word d)) (commit_of s.pc word (whole_effect x s word d)) c (table_length (λ r. slot_of (get_or (whole_effect x s word d).custom r None)) 16) e
 

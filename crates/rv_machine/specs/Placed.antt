@@ -14,6 +14,7 @@ use Rattle.rv_seq.specs.declared.commit.Slot.TheVariants.{Absent}
 use Rattle.rv_seq.specs.Commits.{with_slot}
 use Rattle.rv_seq.specs.States.{zero_bit, state_at}
 use Rattle.rv_asks.specs.declared.asks.Asks.{Asks}
+use Rattle.rv_seq.specs.Interrupts.{return_to}
 use Rattle.rv_seq.specs.Steps.{word_at, step}
 use Rattle.rv_seq.specs.Runs as Runs
 use Rattle.rv_trace.specs.declared.row.Row.{Row}
@@ -52,7 +53,7 @@ run k p = Runs.run (tree_of k) k.image p
 
 -- a word that is tried with what its instruction sees of a state answers as the step of that state
 abbrev pub AnswerLaw : Type 0
-AnswerLaw = (x : ExtensionTree) (image : List ℕ) (s : Arch) (word : ℕ) → word_at image s.pc ≡ Some word → (tried x (state_at word s) s.mem (decoded_in x word)).answer ≡ step x image s
+AnswerLaw = (x : ExtensionTree) (image : List ℕ) (s : Arch) (word : ℕ) → word_at image s.pc ≡ Some word → (tried x (state_at word s) s.mem (return_to word s.trap) (decoded_in x word)).answer ≡ step x image s
 
 -- what a core and its extension have to keep: the numbers of the stages, and that words come to what the run's steps come to
 pub record IsReady (k : Setting) : Type 0 where
@@ -133,6 +134,7 @@ pub record IsPlaced (k : Setting) (p address stage : ℕ) (older : Slots) (t : T
   pub words : AreWords t.inputs
   pub wide : AreWide (tree_of k) t.inputs.custom
   pub guess : t.guess < 2 ^ 32
+  pub back : t.back ≡ return_to t.cell.word (run k p).trap
   -- past RD it has the operands of the run
   pub first : (shape_of k).rd < stage → rs1_of t.cell.word ≡ t.asks.first → t.inputs.rs1 ≡ slice_index (run k p).x (rs1_of t.cell.word)
   pub second : (shape_of k).rd < stage → rs2_of t.cell.word ≡ t.asks.second → t.inputs.rs2 ≡ slice_index (run k p).x (rs2_of t.cell.word)

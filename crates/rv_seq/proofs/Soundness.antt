@@ -14,8 +14,9 @@ use Rattle.rv_seq.specs.declared.commit.Stop.TheVariants.{Misaligned, DataRange}
 use Rattle.rv_seq.specs.declared.commit.Commit.{Commit}
 use Rattle.rv_seq.specs.Commits.{IsStoredInside, commit_of}
 use Rattle.rv_seq.specs.Stops.{access_stop, load_stop, store_stop, call_stop, target_stop, stop_of}
+use Rattle.rv_seq.specs.Steps.{return_effect}
 use Rattle.rv_seq.specs.Sound.{IsSoundCommit}
-use Rattle.rv_seq.proofs.Wide.{slots_wide, whole_fit}
+use Rattle.rv_seq.proofs.Wide.{slots_wide, whole_fit, return_fit}
 
 or_left : (o p : Option Stop) → option_or o p ≡ None → o ≡ None
 or_left None p e = refl
@@ -53,3 +54,15 @@ sound_commit x d i n at word own blocks total c e f stop g h =
     let whole : c ≡ commit_of at word (over (effect_of x d i) (blocks_effect x i n)) =
     h ∙ ap (λ (z : Effect). commit_of at word z) (g ∙ ap (λ (z : Effect). over z blocks) e ∙ ap (λ (z : Effect). over (effect_of x d i) z) f) in
     subst (λ (z : Commit). IsSoundCommit x z) (sym whole) (sound_of x d i n at word (ap (λ (z : Effect). stop_of d z) (sym e) ∙ stop))
+
+return_sound : (x : ExtensionTree) (i : Inputs) (n pc word at : ℕ) → IsSoundCommit x (commit_of pc word (over (return_effect at) (blocks_effect x i n)))
+unfolding commit_of over
+return_sound x i n pc word at = record { wide = slots_wide x (over (return_effect at) (blocks_effect x i n)).custom (return_fit x at i n); inside = tt }
+
+-- a return stores nothing
+pub sound_return : (x : ExtensionTree) (i : Inputs) (n pc word at : ℕ) (own blocks total : Effect) (c : Commit) → own ≡ return_effect at → blocks ≡ blocks_effect x i n
+    → total ≡ over own blocks → c ≡ commit_of pc word total → IsSoundCommit x c
+sound_return x i n pc word at own blocks total c e f g h =
+    let whole : c ≡ commit_of pc word (over (return_effect at) (blocks_effect x i n)) =
+    h ∙ ap (λ (z : Effect). commit_of pc word z) (g ∙ ap (λ (z : Effect). over z blocks) e ∙ ap (λ (z : Effect). over (return_effect at) z) f) in
+    subst (λ (z : Commit). IsSoundCommit x z) (sym whole) (return_sound x i n pc word at)

@@ -25,7 +25,10 @@ use Rattle.rv_effect.specs.WordEffects.{effect_of, customs_over, over, blocks_ef
 use Rattle.rv_seq.specs.declared.commit.Slot.{Slot}
 use Rattle.rv_seq.specs.declared.commit.Slot.TheVariants.{Absent, Now, Later}
 use Rattle.rv_seq.specs.States.{zero_bit, initial_in, initial_of, initials}
-use Rattle.rv_seq.specs.Commits.{slot_of, slots_of, with_slot, with_customs}
+use Rattle.rv_seq.specs.Commits.{slot_of, slots_of, with_slot, with_customs, applied}
+use Rattle.rv_seq.specs.declared.arch.Arch.{Arch}
+use Rattle.rv_seq.specs.declared.commit.Commit.{Commit}
+use Rattle.rv_seq.specs.Steps.{return_effect}
 use Rattle.rv_seq.specs.Sound.{IsNowWide}
 
 -- ---- tables, element by element
@@ -115,6 +118,9 @@ blocks_fit x i (suc n) = over_fit x (effect_at x (W.Block n) i) (blocks_effect x
 pub whole_fit : (x : ExtensionTree) (d : Decoded) (i : Inputs) (n : ℕ) → AreFit x (over (effect_of x d i) (blocks_effect x i n)).custom
 whole_fit x d i n = over_fit x (effect_of x d i) (blocks_effect x i n) (own_fit x d i) (blocks_fit x i n)
 
+pub return_fit : (x : ExtensionTree) (at : ℕ) (i : Inputs) (n : ℕ) → AreFit x (over (return_effect at) (blocks_effect x i n)).custom
+return_fit x at i n = over_fit x (return_effect at) (blocks_effect x i n) (λ r. none_fit x r 16 r) (blocks_fit x i n)
+
 slot_wide : (x : ExtensionTree) (r : ℕ) (o : Option Bits) → IsFit x r o → IsNowWide (type_of_custom x r).width (slot_of o)
 slot_wide x r None h = tt
 slot_wide x r (Some b) h = h
@@ -147,3 +153,9 @@ wide_after x custom slots h g =
           with_wide (type_of_custom x r).width (get_or custom r zero_bit) (get_or slots r Absent)
           (get_wide (λ b. b.width ≡ (type_of_custom x r).width) custom r zero_bit (omega (arith, lt, h.count)) (h.widths r)) (g r));
     }
+
+-- so a record keeps the widths of the custom registers
+pub wide_applied : (x : ExtensionTree) (c : Commit) (s : Arch) → AreWide x s.custom → ((r : ℕ) → IsNowWide (type_of_custom x r).width (get_or c.custom r Absent))
+    → AreWide x (applied c s).custom
+unfolding applied
+wide_applied x c s h g = wide_after x s.custom c.custom h g

@@ -15,11 +15,31 @@ use Rattle.rv_seq.specs.declared.arch.Arch.{Arch}
 use Rattle.rv_seq.specs.declared.answer.StepAnswer.{StepAnswer}
 use Rattle.rv_seq.specs.States.{first}
 use Rattle.rv_seq.specs.Steps.{step, after}
+use Rattle.rv_seq.specs.Interrupts.{with_line, diverted}
 
--- the state after so many steps
-unfoldable pub run : ExtensionTree → List ℕ → ℕ → Arch
-run x image zero = first x
-run x image (suc k) = after (run x image k) (step x image (run x image k))
+-- where the run of a core with an interrupt line goes to the handler: the address at which that begins, and the places, each before the step there
+pub record Entries : Type 0 where
+  pub handler : ℕ
+  pub places : List ℕ
+
+-- the first state, with an interrupt line or without one
+abbrev pub start : ExtensionTree → Option Entries → Arch
+start x None = first x
+start x (Some e) = with_line (first x)
+
+-- the state at a place, where the run may go to the handler
+abbrev pub entered : Option Entries → ℕ → Arch → Arch
+entered None p s = s
+entered (Some e) p s = if list_any (λ q. nat_eq q p) e.places then diverted e.handler s else s
+
+-- the state after so many steps, where the run goes to the handler at these places
+unfoldable pub run_with : ExtensionTree → List ℕ → Option Entries → ℕ → Arch
+run_with x image e zero = entered e 0 (start x e)
+run_with x image e (suc k) = entered e (suc k) (after x (run_with x image e k) (step x image (run_with x image e k)))
+
+-- the same on a core without an interrupt line
+abbrev pub run : ExtensionTree → List ℕ → ℕ → Arch
+run x image k = run_with x image None k
 
 -- what the step at each place comes to
 abbrev pub answer_at : ExtensionTree → List ℕ → ℕ → StepAnswer

@@ -1,6 +1,6 @@
 -- The sequential step: one instruction with the always-blocks (RISC-V Unprivileged ISA, RV32I; CoreDSL 2, always-blocks; the stops and the order of the writes are
 -- this project's choice). The instruction and all blocks see the state before. There are no cycles in it.
-use Rattle.std.specs.Prelude.{ℕ, ◌/◌, ◌%◌, List, length, Option, Some, None, if◌then◌else◌, nat_eq, slice_get}
+use Rattle.std.specs.Prelude.{ℕ, ◌/◌, ◌%◌, List, length, replicate, Option, Some, None, if◌then◌else◌, nat_eq, slice_get}
 use Rattle.ix_extension.specs.Extensions.{ExtensionTree}
 use Rattle.ix_eval.specs.declared.effect.Effect.{Effect}
 use Rattle.rv_effect.specs.declared.decoded.Decoded.{Decoded}
@@ -14,6 +14,7 @@ use Rattle.rv_seq.specs.declared.commit.Stop.TheVariants.{Fetch, Illegal}
 use Rattle.rv_seq.specs.States.{inputs_at}
 use Rattle.rv_seq.specs.Commits.{commit_of, applied}
 use Rattle.rv_seq.specs.Stops.{stop_of}
+use Rattle.rv_seq.specs.Interrupts.{return_to, is_return, resumed}
 
 -- the word at an address of the image, where the address is divisible by 4 and inside it
 abbrev pub word_at : List ℕ → ℕ → Option ℕ
@@ -35,9 +36,18 @@ unless_stopped None done = done
 unfoldable pub attempted : ExtensionTree → Arch → ℕ → Decoded → StepAnswer
 attempted x s word d = unless_stopped (stop_of d (own_effect x s word d)) (Done (commit_of s.pc word (whole_effect x s word d)))
 
--- what a word comes to; one that is no instruction stops
+-- a return goes on at this address, and does nothing else
+abbrev pub return_effect : ℕ → Effect
+return_effect at = record { rd = None; pc = Some at; custom = replicate 16 None; load = None; store = None }
+
+-- what a word that is no instruction comes to: it stops, unless it goes on at this address, with the always-blocks beside it
+unfoldable pub of_return : ExtensionTree → Arch → ℕ → Option ℕ → StepAnswer
+of_return x s word None = Stopped Illegal
+of_return x s word (Some at) = Done (commit_of s.pc word (over (return_effect at) (blocks_effect x (inputs_at word s) (length x.blocks))))
+
+-- what a word comes to
 abbrev pub of_decoded : ExtensionTree → Arch → ℕ → Option Decoded → StepAnswer
-of_decoded x s word None = Stopped Illegal
+of_decoded x s word None = of_return x s word (return_to word s.trap)
 of_decoded x s word (Some d) = attempted x s word d
 
 -- what a fetch comes to; one outside the image, or between words, stops
@@ -50,6 +60,6 @@ unfoldable pub step : ExtensionTree → List ℕ → Arch → StepAnswer
 step x image s = of_word x s (word_at image s.pc)
 
 -- the state after a step; a stop leaves it as it was
-abbrev pub after : Arch → StepAnswer → Arch
-after s (Done c) = applied c s
-after s (Stopped stop) = s
+abbrev pub after : ExtensionTree → Arch → StepAnswer → Arch
+after x s (Done c) = resumed (is_return x c.word) (applied c s)
+after x s (Stopped stop) = s

@@ -4,6 +4,7 @@ ghost use Rattle.ix_extension.specs.WellFormed.{IsWellFormed};
 ghost use Rattle.rv_effect.specs.WordEffects.{AreWide};
 ghost use Rattle.rv_seq.specs.States.{first, initials, initial_of};
 ghost use Rattle.rv_seq.specs.Bare.{bare};
+ghost use Rattle.rv_seq.specs.Interrupts.{with_line};
 
 use ix_bits::{Bits, Memory};
 use ix_tree::{Extension, Register};
@@ -20,7 +21,7 @@ pub struct TrapState {
 }
 
 /// The architectural state: the pc, the x registers, of which x0 is 0, the custom registers, the memory, and the trap state, where the
-/// core has an interrupt line. Custom registers past the extension's are a zero of one bit. Only `new` takes memory.
+/// core has an interrupt line. Custom registers past the extension's are a zero of one bit. Only the making of a first state takes memory.
 #[derive(Drop)]
 pub struct Arch {
     pub pc: u32,
@@ -71,6 +72,20 @@ impl Arch {
             }),
             Err(error) => Err(error),
         }
+    }
+
+    /// The first state of a core with a well-formed extension and an interrupt line: none was taken, and one is taken when it comes.
+    pub fn with_trap(alloc: Global, ext: &Extension) -> Result<Arch, Memory>
+        requires { IsWellFormed ext.now }
+        ensures first { IfOk result (λ arch. arch ≡ with_line (first (view_extension ext.now))) }
+        ensures wide { IfOk result (λ arch. AreWide (view_extension ext.now) arch.custom) }
+    {
+        let mut arch = Arch::new(alloc, ext)?;
+        arch.trap = Some(TrapState {
+            epc: 0,
+            enabled: true,
+        });
+        Ok(arch)
     }
 
     /// The first state of a core with an extension without sections and no interrupt line.

@@ -42,6 +42,7 @@ use Rattle.rv_effect.specs.WordEffects.{effect_of}
 use Rattle.rv_seq.specs.declared.answer.StepAnswer.{StepAnswer}
 use Rattle.rv_seq.specs.declared.commit.Stop.{Stop}
 use Rattle.rv_seq.specs.States.{state_at, inputs_at}
+use Rattle.rv_seq.specs.Interrupts.{return_to}
 use Rattle.rv_seq.specs.Steps.{word_at, own_effect, unless_stopped, attempted, of_decoded}
 use Rattle.rv_seq.specs.Stops.{stop_of}
 use Rattle.rv_tried.specs.declared.trial.Trial.{Trial}
@@ -224,14 +225,14 @@ module _ (s : Setting) (p word n : ℕ) (there : word_at s.image (run s p).pc �
   unfolding effect_of effect_at
   own_load = refl
 
-  tried_load : (tried (tree_of s) (state_at word (run s p)) (run s p).mem (Some (D.Own n))).load ≡ load_unless (stop_of (D.Own n) (own_effect (tree_of s) (run s p) word (D.Own n))) (effect_of (tree_of s) (D.Own n) i).load
+  tried_load : (tried (tree_of s) (state_at word (run s p)) (run s p).mem (return_to word (run s p).trap) (Some (D.Own n))).load ≡ load_unless (stop_of (D.Own n) (own_effect (tree_of s) (run s p) word (D.Own n))) (effect_of (tree_of s) (D.Own n) i).load
   unfolding tried tried_instruction
   tried_load = refl
 
   pub run_load_is : (run_trial (tree_of s) s.image p).load ≡ option_map read_of (first_of (effect_reads (frame_at (tree_of s) (W.Instruction n)) (statement_at (tree_of s) (W.Instruction n)) i))
   run_load_is =
       ap (λ (t : Trial). t.load) (trial_word s p word there)
-      ∙ ap (λ (o : Option Decoded). (tried (tree_of s) (state_at word (run s p)) (run s p).mem o).load) own
+      ∙ ap (λ (o : Option Decoded). (tried (tree_of s) (state_at word (run s p)) (run s p).mem (return_to word (run s p).trap) o).load) own
       ∙ tried_load
       ∙ ap (λ (o : Option Stop). load_unless o (effect_of (tree_of s) (D.Own n) i).load) no_stop
       ∙ own_load

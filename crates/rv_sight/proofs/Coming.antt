@@ -16,16 +16,17 @@ use Rattle.rv_effect.specs.declared.decoded.Decoded.TheVariants as D
 use Rattle.rv_effect.specs.WordEffects.{customs_over, over, blocks_effect}
 use Rattle.rv_asks.specs.declared.asks.Asks.{Asks}
 use Rattle.rv_seq.specs.declared.arch.Arch.{Arch}
-use Rattle.rv_seq.specs.declared.answer.StepAnswer.TheVariants.{Done}
+use Rattle.rv_seq.specs.declared.answer.StepAnswer.{StepAnswer}
+use Rattle.rv_seq.specs.declared.answer.StepAnswer.TheVariants.{Done, Stopped}
 use Rattle.rv_seq.specs.declared.commit.Commit.{Commit}
 use Rattle.rv_seq.specs.declared.commit.Slot.TheVariants.{Absent, Now}
 use Rattle.rv_seq.specs.declared.commit.Stop.{Stop}
 use Rattle.rv_seq.specs.Commits.{x_index, x_slot, slot_of, commit_of, with_x, with_store, applied}
 use Rattle.rv_seq.specs.Runs.{stored_at, access_in}
-use Rattle.rv_seq.specs.Steps.{own_effect, whole_effect, unless_stopped, attempted, of_decoded}
+use Rattle.rv_seq.specs.Steps.{return_effect, of_return, own_effect, whole_effect, unless_stopped, attempted, of_decoded}
 use Rattle.rv_seq.specs.Stops.{call_stop, load_stop, store_stop, target_stop, stop_of}
 use Rattle.rv_seq.specs.States.{state_at, inputs_at}
-use Rattle.rv_tried.specs.Tried.{effect_seen, whole_seen, tried_instruction, tried, blocks_seen, unless_stopping, load_unless, marked}
+use Rattle.rv_tried.specs.Tried.{effect_seen, whole_seen, tried_instruction, tried_return, tried, blocks_seen, unless_stopping, load_unless, marked}
 use Rattle.rv_lawful.specs.Forwarding.{value_in, x_written}
 use Rattle.rv_lawful.specs.Settings.{does_access}
 use Rattle.rv_lawful.specs.Outstanding.{is_register}
@@ -53,10 +54,10 @@ over_blocks e f b c p q g =
     record { pc = ap (λ (z : Option ℕ). option_or z b.pc) p ∙ ap (option_or f.pc) g.pc; custom = ap (λ (z : List (Option Bits)). customs_over z b.custom) q ∙ ap (customs_over f.custom) g.custom }
 
 -- ---- exactly the same
-pub exact_answer : (x : ExtensionTree) (i : State) (memory : List ℕ) (s : Arch) (code : ℕ) (d : Decoded) → i.word ≡ code → i.pc ≡ s.pc → effect_seen x i memory d ≡ own_effect x s code d → whole_seen x i memory d ≡ whole_effect x s code d
-    → (tried x i memory (Some d)).answer ≡ of_decoded x s code (Some d)
+pub exact_answer : (x : ExtensionTree) (i : State) (memory : List ℕ) (back : Option ℕ) (s : Arch) (code : ℕ) (d : Decoded) → i.word ≡ code → i.pc ≡ s.pc → effect_seen x i memory d ≡ own_effect x s code d → whole_seen x i memory d ≡ whole_effect x s code d
+    → (tried x i memory back (Some d)).answer ≡ of_decoded x s code (Some d)
 unfolding tried tried_instruction attempted
-exact_answer x i memory s code d w p e h =
+exact_answer x i memory back s code d w p e h =
     ap (λ (z : Effect). unless_stopped (stop_of d z) (Done (commit_of i.pc i.word (whole_seen x i memory d)))) e
     ∙ ap (λ (z : Effect). unless_stopped (stop_of d (own_effect x s code d)) (Done (commit_of i.pc i.word z))) h
     ∙ ap (λ (z : ℕ). unless_stopped (stop_of d (own_effect x s code d)) (Done (commit_of z i.word (whole_effect x s code d)))) p
@@ -90,52 +91,77 @@ early_answers a c d o p e h = subst (λ (z : Option Stop). IsEarly a (unless_sto
     by None = h
     by (Some stop) = refl
 
-pub early_answer : (a : Asks) (x : ExtensionTree) (i : State) (memory : List ℕ) (s : Arch) (code : ℕ) (d : Decoded) → i.word ≡ code → i.pc ≡ s.pc → stop_of d (effect_seen x i memory d) ≡ stop_of d (own_effect x s code d)
-    → IsEarlyCommit a (commit_of s.pc code (whole_seen x i memory d)) (commit_of s.pc code (whole_effect x s code d)) → IsEarly a (tried x i memory (Some d)).answer (of_decoded x s code (Some d))
+pub early_answer : (a : Asks) (x : ExtensionTree) (i : State) (memory : List ℕ) (back : Option ℕ) (s : Arch) (code : ℕ) (d : Decoded) → i.word ≡ code → i.pc ≡ s.pc → stop_of d (effect_seen x i memory d) ≡ stop_of d (own_effect x s code d)
+    → IsEarlyCommit a (commit_of s.pc code (whole_seen x i memory d)) (commit_of s.pc code (whole_effect x s code d)) → IsEarly a (tried x i memory back (Some d)).answer (of_decoded x s code (Some d))
 unfolding tried tried_instruction attempted
-early_answer a x i memory s code d w p e h =
+early_answer a x i memory back s code d w p e h =
     let P : ℕ → ℕ → Type 0 = λ y z. IsEarly a (unless_stopped (stop_of d (effect_seen x i memory d)) (Done (commit_of y z (whole_seen x i memory d)))) (unless_stopped (stop_of d (own_effect x s code d)) (Done (commit_of s.pc code (whole_effect x s code d)))) in
     let here : P s.pc code = early_answers a (commit_of s.pc code (whole_seen x i memory d)) (commit_of s.pc code (whole_effect x s code d)) (stop_of d (effect_seen x i memory d)) (stop_of d (own_effect x s code d)) e h in
     subst (λ (y : ℕ). P y i.word) (sym p) (subst (λ (z : ℕ). P s.pc z) (sym w) here)
 
-pub same_access : (x : ExtensionTree) (i : State) (memory : List ℕ) (s : Arch) (code : ℕ) (d : Decoded) → stop_of d (effect_seen x i memory d) ≡ stop_of d (own_effect x s code d)
-    → (effect_seen x i memory d).load ≡ (own_effect x s code d).load → (effect_seen x i memory d).store ≡ (own_effect x s code d).store → (tried x i memory (Some d)).accesses ≡ does_access x s code (Some d)
+pub same_access : (x : ExtensionTree) (i : State) (memory : List ℕ) (back : Option ℕ) (s : Arch) (code : ℕ) (d : Decoded) → stop_of d (effect_seen x i memory d) ≡ stop_of d (own_effect x s code d)
+    → (effect_seen x i memory d).load ≡ (own_effect x s code d).load → (effect_seen x i memory d).store ≡ (own_effect x s code d).store → (tried x i memory back (Some d)).accesses ≡ does_access x s code (Some d)
 unfolding tried tried_instruction
-same_access x i memory s code d e l t =
+same_access x i memory back s code d e l t =
     ap (λ (z : Option Stop). is_none z && is_some (access_in (effect_seen x i memory d))) e
     ∙ ap (λ (z : Option Access). is_none (stop_of d (own_effect x s code d)) && is_some (option_or z (option_map stored_at (effect_seen x i memory d).store))) l
     ∙ ap (λ (z : Option (Access × ℕ)). is_none (stop_of d (own_effect x s code d)) && is_some (option_or (own_effect x s code d).load (option_map stored_at z))) t
 
 -- and it has the same load
-pub same_load : (x : ExtensionTree) (i : State) (memory : List ℕ) (s : Arch) (code : ℕ) (d : Decoded) → stop_of d (effect_seen x i memory d) ≡ stop_of d (own_effect x s code d)
-    → (effect_seen x i memory d).load ≡ (own_effect x s code d).load → (tried x i memory (Some d)).load ≡ (tried x (state_at code s) s.mem (Some d)).load
+pub same_load : (x : ExtensionTree) (i : State) (memory : List ℕ) (back : Option ℕ) (s : Arch) (code : ℕ) (d : Decoded) → stop_of d (effect_seen x i memory d) ≡ stop_of d (own_effect x s code d)
+    → (effect_seen x i memory d).load ≡ (own_effect x s code d).load → (tried x i memory back (Some d)).load ≡ (tried x (state_at code s) s.mem back (Some d)).load
 unfolding tried tried_instruction
-same_load x i memory s code d e l =
+same_load x i memory back s code d e l =
     ap (λ (z : Option Stop). load_unless z (effect_seen x i memory d).load) e ∙ ap (load_unless (stop_of d (own_effect x s code d))) l
 
 -- what the always-blocks write, and which registers the instruction itself does
-pub same_blocks : (x : ExtensionTree) (i : State) (memory : List ℕ) (s : Arch) (code : ℕ) (d : Decoded) → stop_of d (effect_seen x i memory d) ≡ stop_of d (own_effect x s code d)
-    → (blocks_seen x i memory).custom ≡ (blocks_seen x (state_at code s) s.mem).custom → (tried x i memory (Some d)).blocks ≡ (tried x (state_at code s) s.mem (Some d)).blocks
+pub same_blocks : (x : ExtensionTree) (i : State) (memory : List ℕ) (back : Option ℕ) (s : Arch) (code : ℕ) (d : Decoded) → stop_of d (effect_seen x i memory d) ≡ stop_of d (own_effect x s code d)
+    → (blocks_seen x i memory).custom ≡ (blocks_seen x (state_at code s) s.mem).custom → (tried x i memory back (Some d)).blocks ≡ (tried x (state_at code s) s.mem back (Some d)).blocks
 unfolding tried tried_instruction
-same_blocks x i memory s code d e h =
+same_blocks x i memory back s code d e h =
     ap (λ (z : Option Stop). unless_stopping z (blocks_seen x i memory).custom) e ∙ ap (unless_stopping (stop_of d (own_effect x s code d))) h
 
-pub same_own : (x : ExtensionTree) (i : State) (memory : List ℕ) (s : Arch) (code : ℕ) (d : Decoded) → effect_seen x i memory d ≡ own_effect x s code d
-    → (tried x i memory (Some d)).own ≡ (tried x (state_at code s) s.mem (Some d)).own
+pub same_own : (x : ExtensionTree) (i : State) (memory : List ℕ) (back : Option ℕ) (s : Arch) (code : ℕ) (d : Decoded) → effect_seen x i memory d ≡ own_effect x s code d
+    → (tried x i memory back (Some d)).own ≡ (tried x (state_at code s) s.mem back (Some d)).own
 unfolding tried tried_instruction
-same_own x i memory s code d e = ap (λ (z : Effect). marked (unless_stopping (stop_of d z) z.custom)) e
+same_own x i memory back s code d e = ap (λ (z : Effect). marked (unless_stopping (stop_of d z) z.custom)) e
 
-pub none_load : (x : ExtensionTree) (i : State) (memory : List ℕ) (s : Arch) (code : ℕ) → (tried x i memory None).load ≡ (tried x (state_at code s) s.mem None).load
-unfolding tried
-none_load x i memory s code = refl
+-- ---- a word that is no instruction
+pub unknown_answer : (x : ExtensionTree) (i : State) (memory : List ℕ) (back : Option ℕ) (s : Arch) (code : ℕ) → i.word ≡ code → i.pc ≡ s.pc → IsSameBlocks (blocks_seen x i memory) (blocks_effect x (inputs_at code s) (length x.blocks))
+    → (tried x i memory back None).answer ≡ of_return x s code back
+unfolding tried tried_return of_return
+unknown_answer x i memory None s code w p h = refl
+unknown_answer x i memory (Some at) s code w p h =
+    let there = over (return_effect at) (blocks_effect x (inputs_at code s) (length x.blocks)) in
+    ap (λ (z : Effect). Done (commit_of i.pc i.word z)) (over_same (return_effect at) (return_effect at) (blocks_seen x i memory) (blocks_effect x (inputs_at code s) (length x.blocks)) refl h)
+    ∙ ap (λ (z : ℕ). Done (commit_of z i.word there)) p
+    ∙ ap (λ (z : ℕ). Done (commit_of s.pc z there)) w
 
-pub none_blocks : (x : ExtensionTree) (i : State) (memory : List ℕ) (s : Arch) (code : ℕ) → (tried x i memory None).blocks ≡ (tried x (state_at code s) s.mem None).blocks
-unfolding tried
-none_blocks x i memory s code = refl
+pub unknown_access : (x : ExtensionTree) (i : State) (memory : List ℕ) (back : Option ℕ) (s : Arch) (code : ℕ) → (tried x i memory back None).accesses ≡ does_access x s code None
+unfolding tried tried_return
+unknown_access x i memory None s code = refl
+unknown_access x i memory (Some at) s code = refl
 
-pub none_writes : (x : ExtensionTree) (i : State) (memory : List ℕ) (s : Arch) (code : ℕ) → (tried x i memory None).own ≡ (tried x (state_at code s) s.mem None).own
-unfolding tried
-none_writes x i memory s code = refl
+pub unknown_load : (x : ExtensionTree) (i : State) (memory : List ℕ) (back : Option ℕ) (s : Arch) (code : ℕ) → (tried x i memory back None).load ≡ (tried x (state_at code s) s.mem back None).load
+unfolding tried tried_return
+unknown_load x i memory None s code = refl
+unknown_load x i memory (Some at) s code = refl
+
+pub unknown_blocks : (x : ExtensionTree) (i : State) (memory : List ℕ) (back : Option ℕ) (s : Arch) (code : ℕ) → (blocks_seen x i memory).custom ≡ (blocks_seen x (state_at code s) s.mem).custom
+    → (tried x i memory back None).blocks ≡ (tried x (state_at code s) s.mem back None).blocks
+unfolding tried tried_return
+unknown_blocks x i memory None s code h = refl
+unknown_blocks x i memory (Some at) s code h = h
+
+pub unknown_own : (x : ExtensionTree) (i : State) (memory : List ℕ) (back : Option ℕ) (s : Arch) (code : ℕ) → (tried x i memory back None).own ≡ (tried x (state_at code s) s.mem back None).own
+unfolding tried tried_return
+unknown_own x i memory None s code = refl
+unknown_own x i memory (Some at) s code = refl
+
+-- each answer is early with itself
+pub early_itself : (a : Asks) (z : StepAnswer) → IsEarly a z z
+early_itself a (Done c) = record { store = refl; next = λ l. refl; customs = λ r l s. refl }
+early_itself a (Stopped stop) = refl
 
 -- ---- the x register
 -- the value that is written to this x register, where the instruction does not stop
@@ -149,10 +175,10 @@ written_is None at word e b = refl
 written_is (Some stop) at word e b = refl
 
 -- the same is written to the x register
-pub same_x : (x : ExtensionTree) (i : State) (memory : List ℕ) (s : Arch) (code : ℕ) (d : Decoded) → i.word ≡ code → stop_of d (effect_seen x i memory d) ≡ stop_of d (own_effect x s code d)
-    → (effect_seen x i memory d).rd ≡ (own_effect x s code d).rd → x_written (tried x i memory (Some d)).answer ≡ x_written (of_decoded x s code (Some d))
+pub same_x : (x : ExtensionTree) (i : State) (memory : List ℕ) (back : Option ℕ) (s : Arch) (code : ℕ) (d : Decoded) → i.word ≡ code → stop_of d (effect_seen x i memory d) ≡ stop_of d (own_effect x s code d)
+    → (effect_seen x i memory d).rd ≡ (own_effect x s code d).rd → x_written (tried x i memory back (Some d)).answer ≡ x_written (of_decoded x s code (Some d))
 unfolding tried tried_instruction attempted
-same_x x i memory s code d w e r =
+same_x x i memory back s code d w e r =
     written_is (stop_of d (effect_seen x i memory d)) i.pc i.word (effect_seen x i memory d) (blocks_seen x i memory)
     ∙ ap (λ (z : Option Stop). x_unless z (rd_of i.word) (effect_seen x i memory d).rd) e
     ∙ ap (x_unless (stop_of d (own_effect x s code d)) (rd_of i.word)) r
@@ -246,3 +272,12 @@ done_is (Some stop) c d e = cc
 pub held_by : (a : Asks) (x : ExtensionTree) (s : Arch) (code : ℕ) (d : Decoded) (c : Commit) → IsHeld a s code (commit_of s.pc code (whole_effect x s code d)) → of_decoded x s code (Some d) ≡ Done c → IsHeld a s code c
 unfolding attempted
 held_by a x s code d c h e = subst (IsHeld a s code) (done_is (stop_of d (own_effect x s code d)) (commit_of s.pc code (whole_effect x s code d)) c e) h
+
+-- a return writes nothing itself
+pub held_return : (a : Asks) (x : ExtensionTree) (s : Arch) (code : ℕ) (back : Option ℕ) (c : Commit) → ((at : ℕ) → IsHeld a s code (commit_of s.pc code (over (return_effect at) (blocks_effect x (inputs_at code s) (length x.blocks)))))
+    → of_return x s code back ≡ Done c → IsHeld a s code c
+unfolding of_return
+held_return a x s code None c h e = cc
+held_return a x s code (Some at) c h e =
+    let same : commit_of s.pc code (over (return_effect at) (blocks_effect x (inputs_at code s) (length x.blocks))) ≡ c = cc in
+    subst (IsHeld a s code) same (h at)

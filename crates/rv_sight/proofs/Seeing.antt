@@ -35,12 +35,10 @@ use Rattle.rv_effect.specs.declared.decoded.Decoded.TheVariants as D
 use Rattle.rv_asks.specs.declared.asks.Asks.{Asks}
 use Rattle.rv_asks.specs.Acts as acts
 use Rattle.rv_unit.specs.Numbering.{unit_of}
-use Rattle.rv_asks.specs.Asks.{block_acts, where_so, some_so, base_asks, blank_in}
+use Rattle.rv_asks.specs.Asks.{block_acts, where_so, some_so, with_word, base_asks, blank_in}
 use Rattle.rv_seq.specs.declared.arch.Arch.{Arch}
 use Rattle.rv_seq.specs.States.{zero_bit, state_at, inputs_at}
-use Rattle.rv_seq.specs.Steps.{of_decoded}
-use Rattle.rv_tried.specs.Tried.{tried}
-use Rattle.rv_lawful.specs.Settings.{does_access}
+use Rattle.rv_seq.specs.Steps.{return_effect}
 use Rattle.rv_lawful.specs.Sight.{IsSeen, HasWords, AreWords}
 use Rattle.rv_sight.proofs.Parts.{effect_from, rd_same, pc_same, custom_same, customs_same, load_same, store_same, rd_none, store_none, custom_none, table_none, are_inputs, raw_of_custom}
 use Rattle.rv_sight.proofs.Asking.{asks_of, flags_at, not_any, asks_first, asks_second, asks_loads, asks_stores, asks_customs, writes_any, asks_late, asks_late_customs, blocks_any, target_is_pc, target_is_rd, target_is_memory, target_is_custom}
@@ -102,10 +100,6 @@ pub base_is : (x : ExtensionTree) (b : Base) (i : Inputs) → effect_of x (D.Bas
 unfolding effect_of
 base_is x b i = refl
 
-pub none_tried : (x : ExtensionTree) (i : State) (memory : List ℕ) (s : Arch) (code : ℕ) → ((tried x i memory None).answer ≡ of_decoded x s code None) × ((tried x i memory None).accesses ≡ does_access x s code None)
-unfolding tried
-none_tried x i memory s code = (refl, refl)
-
 module _ (laws : Laws) (d : Design) (stands : Stands d) where
   abbrev x : ExtensionTree
   x = view_extension d.extension
@@ -121,6 +115,9 @@ module _ (laws : Laws) (d : Design) (stands : Stands d) where
 
   pub base_blocks : (b : Base) → AsksBlocks (base_asks d.sheet.shape (blank_in d).customs b)
   base_blocks b r few h = flags_at (λ m. list_any (acts.touches m) [] || list_any (acts.touches m) (block_acts d)) 16 r few ∙ h
+
+  pub blank_blocks : (code : ℕ) → AsksBlocks (with_word code None (blank_in d))
+  blank_blocks code r few h = flags_at (λ m. list_any (acts.touches m) [] || list_any (acts.touches m) (block_acts d)) 16 r few ∙ h
 
   -- ---- in a state
   module _ (code : ℕ) (s : Arch) (ws : AreWide x s.custom) (hw : HasWords s) (word : code < 2 ^ 32) (pc : s.pc < 2 ^ 32) where
@@ -151,6 +148,18 @@ module _ (laws : Laws) (d : Design) (stands : Stands d) where
     named_target : (b : Bool) (n r : ℕ) → some_so b n ≡ Some r → n ≡ r
     named_target true n r e = cc
     named_target false n r e = cc
+
+    pub keeps_return : (at : ℕ) → IsHeld (with_word code None (blank_in d)) s code (commit_of s.pc code (over (return_effect at) (blocks_effect x there (length x.blocks))))
+    keeps_return at =
+        let a = with_word code None (blank_in d) in
+        held_from a s code (return_effect at) (blocks_effect x there (length x.blocks))
+        (record {
+          rd = λ v is. absurd (cc is);
+          target = λ r e. absurd (cc e);
+          own = λ r few none. none_repeated 16 r;
+          blocks = λ r few none. blocks_none a (blank_blocks code) r few none (length x.blocks) (omega arith);
+          store = λ none. refl;
+        })
 
     pub keeps_own : (n : ℕ) (l : n < length x.instructions)
         → IsHeld (asks_of d code (unit_of d.plans n) (plan_of d stands n l).plan) s code (commit_of s.pc code (over (effect_at x (W.Instruction n) there) (blocks_effect x there (length x.blocks))))

@@ -12,8 +12,7 @@ use Rattle.rv_seq.specs.declared.commit.Stop.{Stop}
 use Rattle.rv_seq.specs.declared.answer.StepAnswer.{StepAnswer}
 use Rattle.rv_seq.specs.declared.answer.StepAnswer.TheVariants.{Done, Stopped}
 use Rattle.rv_seq.specs.States.{first}
-use Rattle.rv_seq.specs.Commits.{applied}
-use Rattle.rv_seq.specs.Steps.{step}
+use Rattle.rv_seq.specs.Steps.{step, after}
 use Rattle.rv_text.specs.RunText.{step_line, stop_line, head_text, memory_word, memory_lines, state_text, lines_after, lines_from, run_text}
 use Rattle.rv_text.specs.Telling.{Told, Carries, Breaks}
 
@@ -83,13 +82,13 @@ put_word memory out out' count k lt e =
 
 -- ---- steps
 -- a step goes on
-pub goes : (x : ExtensionTree) (image : List ℕ) (n number : ℕ) (s t : Arch) (c : Commit) (out out' : List ℕ) → step x image s ≡ Done c → out' ≡ out ++ step_line number c → t ≡ applied c s
+pub goes : (x : ExtensionTree) (image : List ℕ) (n number : ℕ) (s t : Arch) (c : Commit) (out out' : List ℕ) → step x image s ≡ Done c → out' ≡ out ++ step_line number c → t ≡ after x s (Done c)
     → out ++ lines_from x image (suc n) number s ≡ out' ++ lines_from x image n (suc number) t
 unfolding lines_from
 goes x image n number s t c out out' e f g =
     ap (λ (a : StepAnswer). out ++ lines_after x number s (λ z. lines_from x image n (suc number) z) a) e
-    ∙ sym (append_assoc out (step_line number c) (lines_from x image n (suc number) (applied c s)))
-    ∙ ap (λ l. l ++ lines_from x image n (suc number) (applied c s)) (sym f)
+    ∙ sym (append_assoc out (step_line number c) (lines_from x image n (suc number) (after x s (Done c))))
+    ∙ ap (λ l. l ++ lines_from x image n (suc number) (after x s (Done c))) (sym f)
     ∙ ap (λ (z : Arch). out' ++ lines_from x image n (suc number) z) (sym g)
 
 -- a step stops

@@ -14,8 +14,7 @@ use Rattle.rv_seq.specs.declared.arch.TrapState.{TrapState}
 use Rattle.rv_seq.specs.declared.answer.StepAnswer.{StepAnswer}
 use Rattle.rv_seq.specs.declared.answer.StepAnswer.TheVariants.{Done, Stopped}
 use Rattle.rv_seq.specs.States.{first}
-use Rattle.rv_seq.specs.Commits.{applied}
-use Rattle.rv_seq.specs.Steps.{step}
+use Rattle.rv_seq.specs.Steps.{step, after}
 use Rattle.rv_trace.specs.TraceText.{hex_word_text, stop_text, target_text, retired_text, registers_text}
 
 -- a step is told as a pipeline tells a retirement, with the step's number for the serial
@@ -79,7 +78,7 @@ state_text x outstanding s = head_text (length x.registers) outstanding s ++ mem
 -- the line of what a step comes to, and what is told behind it; nothing is tried after a stop
 abbrev pub lines_after : ExtensionTree → ℕ → Arch → (Arch → List ℕ) → StepAnswer → List ℕ
 lines_after x number s rest (Stopped stop) = stop_line stop ++ state_text x [] s
-lines_after x number s rest (Done c) = step_line number c ++ rest (applied c s)
+lines_after x number s rest (Done c) = step_line number c ++ rest (after x s (Done c))
 
 -- the lines of at most so many steps from a state on, of which the first has this number, and of the state behind them
 unfoldable pub lines_from : ExtensionTree → List ℕ → ℕ → ℕ → Arch → List ℕ

@@ -23,9 +23,9 @@ use Rattle.rv_seq.specs.declared.commit.Slot.TheVariants.{Absent}
 use Rattle.rv_seq.specs.declared.commit.Stop.{Stop}
 use Rattle.rv_seq.specs.Commits.{slot_of, commit_of}
 use Rattle.rv_seq.specs.Sound.{IsNowWide}
-use Rattle.rv_seq.specs.Steps.{unless_stopped}
+use Rattle.rv_seq.specs.Steps.{return_effect, unless_stopped}
 use Rattle.rv_seq.specs.Stops.{stop_of}
-use Rattle.rv_tried.specs.Tried.{effect_seen, blocks_seen, whole_seen, no_customs, marked, unless_stopping, tried_instruction, tried}
+use Rattle.rv_tried.specs.Tried.{effect_seen, blocks_seen, whole_seen, no_customs, marked, unless_stopping, tried_instruction, tried_return, tried_unknown, tried}
 use Rattle.rv_tried.specs.Whole.{IsWhole, WholeLaw, AreBlocksWide, WideLaw}
 
 marked_at : (xs : List (Option Bits)) (r : ℕ) → get_or (map is_some xs) r false ≡ is_some (get_or xs r None)
@@ -73,10 +73,19 @@ module _ (x : ExtensionTree) (i : State) (memory : List ℕ) (d : Decoded) (c : 
   unfolding tried_instruction
   instruction_whole e = by_stop (stop_of d own) e
 
+-- a return writes no custom register itself
+unknown_whole : (x : ExtensionTree) (i : State) (memory : List ℕ) (back : Option ℕ) (c : Commit) (r : ℕ) → r < 16 → (tried_unknown x i memory back).answer ≡ Done c
+    → IsWhole (tried_unknown x i memory back).own (tried_unknown x i memory back).blocks c r
+unfolding tried_return
+unknown_whole x i memory None c r lt e = cc
+unknown_whole x i memory (Some at) c r lt e =
+    let same : commit_of i.pc i.word (over (return_effect at) (blocks_seen x i memory)) ≡ c = cc in
+    by_own no_customs (blocks_seen x i memory).custom c r (ap (λ (z : Commit). get_or z.custom r Absent) (sym same) ∙ customs_of i.pc i.word (return_effect at) (blocks_seen x i memory) r lt)
+
 pub whole_law : WholeLaw
 unfolding tried
-whole_law x i memory None c e r lt = cc
-whole_law x i memory (Some d) c e r lt = instruction_whole x i memory d c r lt e
+whole_law x i memory back None c e r lt = unknown_whole x i memory back c r lt e
+whole_law x i memory back (Some d) c e r lt = instruction_whole x i memory d c r lt e
 
 -- Widths
 
@@ -132,7 +141,12 @@ instruction_wide : (x : ExtensionTree) (i : State) (memory : List ℕ) (d : Deco
 unfolding tried_instruction
 instruction_wide x i memory d = stopping_wide x i memory (stop_of d (effect_seen x i memory d))
 
+unknown_wide : (x : ExtensionTree) (i : State) (memory : List ℕ) (back : Option ℕ) → AreBlocksWide x (tried_unknown x i memory back).blocks
+unfolding tried_return
+unknown_wide x i memory None = λ r. slot_wide x r (get_or no_customs r None) (none_fit x r 16 r)
+unknown_wide x i memory (Some at) = λ r. slot_wide x r (get_or (blocks_seen x i memory).custom r None) (blocks_fit x (inputs_of i (peeked memory)) (length x.blocks) r)
+
 pub wide_law : WideLaw
 unfolding tried
-wide_law x i memory None = λ r. slot_wide x r (get_or no_customs r None) (none_fit x r 16 r)
-wide_law x i memory (Some d) = instruction_wide x i memory d
+wide_law x i memory back None = unknown_wide x i memory back
+wide_law x i memory back (Some d) = instruction_wide x i memory d

@@ -15,7 +15,7 @@ use Rattle.rv_seq.specs.declared.commit.Stop.{Stop}
 use Rattle.rv_seq.specs.declared.commit.Stop.TheVariants.{Illegal}
 use Rattle.rv_seq.specs.Commits.{commit_of}
 use Rattle.rv_seq.specs.Runs.{access_in}
-use Rattle.rv_seq.specs.Steps.{unless_stopped}
+use Rattle.rv_seq.specs.Steps.{return_effect, unless_stopped}
 use Rattle.rv_seq.specs.Stops.{stop_of}
 use Rattle.rv_tried.specs.declared.trial.Trial.{Trial}
 
@@ -60,11 +60,27 @@ tried_instruction x s memory d =
       own = marked (unless_stopping (stop_of d (effect_seen x s memory d)) (effect_seen x s memory d).custom);
     }
 
--- what a word that is no instruction comes to
+-- what a return to this address comes to: it goes on there, with the always-blocks beside it
+unfoldable pub tried_return : ExtensionTree → State → List ℕ → ℕ → Trial
+tried_return x s memory at =
+    record {
+      answer = Done (commit_of s.pc s.word (over (return_effect at) (blocks_seen x s memory)));
+      accesses = false;
+      load = None;
+      blocks = (blocks_seen x s memory).custom;
+      own = marked no_customs;
+    }
+
+-- what a word that stops comes to
 abbrev pub no_trial : Trial
 no_trial = record { answer = Stopped Illegal; accesses = false; load = None; blocks = no_customs; own = marked no_customs }
 
--- what a word comes to; one that is no instruction stops
-unfoldable pub tried : ExtensionTree → State → List ℕ → Option Decoded → Trial
-tried x s memory None = no_trial
-tried x s memory (Some d) = tried_instruction x s memory d
+-- what a word that is no instruction comes to: it stops, unless it returns to this address
+abbrev pub tried_unknown : ExtensionTree → State → List ℕ → Option ℕ → Trial
+tried_unknown x s memory None = no_trial
+tried_unknown x s memory (Some at) = tried_return x s memory at
+
+-- what a word comes to, which returns to this address where it is a return
+unfoldable pub tried : ExtensionTree → State → List ℕ → Option ℕ → Option Decoded → Trial
+tried x s memory back None = tried_unknown x s memory back
+tried x s memory back (Some d) = tried_instruction x s memory d

@@ -19,8 +19,8 @@ pub record IsWhole (own : List Bool) (blocks : List (Option Bits)) (c : Commit) 
 
 -- so is each record to which a word is tried
 abbrev pub WholeLaw : Type 0
-WholeLaw = (x : ExtensionTree) (i : State) (memory : List ℕ) (o : Option Decoded) (c : Commit) → (tried x i memory o).answer ≡ Done c → (r : ℕ) → r < 16
-    → IsWhole (tried x i memory o).own (tried x i memory o).blocks c r
+WholeLaw = (x : ExtensionTree) (i : State) (memory : List ℕ) (back : Option ℕ) (o : Option Decoded) (c : Commit) → (tried x i memory back o).answer ≡ Done c → (r : ℕ) → r < 16
+    → IsWhole (tried x i memory back o).own (tried x i memory back o).blocks c r
 
 -- what blocks write to custom registers has their widths
 abbrev pub AreBlocksWide : ExtensionTree → List (Option Bits) → Type 0
@@ -28,4 +28,4 @@ AreBlocksWide x blocks = (r : ℕ) → IsNowWide (type_of_custom x r).width (slo
 
 -- so has what the blocks write with each word
 abbrev pub WideLaw : Type 0
-WideLaw = (x : ExtensionTree) (i : State) (memory : List ℕ) (o : Option Decoded) → AreBlocksWide x (tried x i memory o).blocks
+WideLaw = (x : ExtensionTree) (i : State) (memory : List ℕ) (back : Option ℕ) (o : Option Decoded) → AreBlocksWide x (tried x i memory back o).blocks

@@ -3,6 +3,7 @@ ghost use Rattle.ix_extension.specs.Extensions.{ExtensionTree};
 ghost use Rattle.rv_effect.specs.Decoding.{decoded_in};
 ghost use Rattle.rv_seq.specs.declared.arch.Arch.{Arch};
 ghost use Rattle.rv_seq.specs.States.{state_at};
+ghost use Rattle.rv_seq.specs.Interrupts.{return_to};
 ghost use Rattle.rv_seq.specs.Steps.{word_at, step};
 ghost use Rattle.rv_tried.specs.Tried.{tried};
 ghost use Rattle.rv_tried.specs.Whole.{WholeLaw, WideLaw};
@@ -12,5 +13,5 @@ ghost use Rattle.rv_tried.specs.Whole.{WholeLaw, WideLaw};
 pub fn trial_laws()
     ensures whole { WholeLaw }
     ensures wide { WideLaw }
-    ensures step { (x : ExtensionTree) (image : List ℕ) (s : Arch) (word : ℕ) → word_at image s.pc ≡ Some word → (tried x (state_at word s) s.mem (decoded_in x word)).answer ≡ step x image s }
+    ensures step { (x : ExtensionTree) (image : List ℕ) (s : Arch) (word : ℕ) → word_at image s.pc ≡ Some word → (tried x (state_at word s) s.mem (return_to word s.trap) (decoded_in x word)).answer ≡ step x image s }
 {}

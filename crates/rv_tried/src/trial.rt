@@ -8,7 +8,7 @@ ghost use Rattle.rv_effect.specs.Decoding.{IsIn};
 ghost use Rattle.rv_seq.specs.Runs.{access_in};
 ghost use Rattle.rv_seq.specs.Sound.{IsSound};
 ghost use Rattle.rv_seq.specs.declared.answer.StepAnswer.TheVariants.{Stopped};
-ghost use Rattle.rv_tried.specs.Tried.{tried, tried_instruction, marked as specified_marked, no_customs};
+ghost use Rattle.rv_tried.specs.Tried.{tried, tried_instruction, tried_unknown, marked as specified_marked, no_customs};
 ghost use Rattle.rv_tried.specs.Whole.{AreBlocksWide};
 
 use crate::laws::trial_laws;
@@ -17,7 +17,7 @@ use ix_eval::{Access, Effect, Inputs, Scratch};
 use ix_tree::Extension;
 use rv_effect::{Decoded, blocks_effect, effect_of, over};
 use rv_memory::RandomAccess;
-use rv_seq::{StepAnswer, Stop, commit_of, stop_of};
+use rv_seq::{StepAnswer, Stop, commit_of, return_effect, stop_of};
 
 /// What a word comes to.
 #[derive(Clone, Copy, Debug, PartialEq, Eq)]
@@ -102,13 +102,44 @@ fn try_instruction(
     }
 }
 
-/// What the word of these inputs comes to on a core with a well-formed extension, where it is this instruction or none: its own
-/// effect, before which all always-blocks act, each on the same state. The custom registers and the scratch are of this extension. It
-/// takes no memory, and changes none.
+// What a word that is no instruction comes to: it stops, or returns to an address.
+#[tactic(auto, unfolding(crate::specs::Tried::tried_return))]
+fn try_unknown(
+    ext: &Extension,
+    back: Option<u32>,
+    inputs: &Inputs,
+    memory: &RandomAccess,
+    scratch: &mut Scratch,
+) -> Trial
+    requires well_formed { IsWellFormed ext.now }
+    requires wide { AreWide (view_extension ext.now) inputs.now.custom }
+    requires scratch { IsScratchOf (view_extension ext.now) scratch.old }
+    ensures scratch { IsScratchOf (view_extension ext.now) scratch.new }
+    ensures trial { result ≡ tried_unknown (view_extension ext.now) inputs.now memory.now back }
+    ensures sound { IsSound (view_extension ext.now) result.answer }
+{
+    let Some(at) = back else {
+        return stopped(Stop::Illegal);
+    };
+    let blocks = blocks_effect(ext, inputs, memory, scratch);
+    let own = return_effect(at);
+    Trial {
+        answer: StepAnswer::Done(commit_of(inputs.pc, inputs.word, &over(&own, &blocks))),
+        accesses: false,
+        load: None,
+        blocks: blocks.custom,
+        own: [false; 16],
+    }
+}
+
+/// What the word of these inputs comes to on a core with a well-formed extension, where it is this instruction, or none and returns to
+/// this address or stops: its own effect, before which all always-blocks act, each on the same state. The custom registers and the
+/// scratch are of this extension. It takes no memory, and changes none.
 #[tactic(auto, unfolding(crate::specs::Tried::tried))]
 pub fn try_word(
     ext: &Extension,
     decoded: Option<Decoded>,
+    back: Option<u32>,
     inputs: &Inputs,
     memory: &RandomAccess,
     scratch: &mut Scratch,
@@ -118,13 +149,13 @@ pub fn try_word(
     requires wide { AreWide (view_extension ext.now) inputs.now.custom }
     requires scratch { IsScratchOf (view_extension ext.now) scratch.old }
     ensures scratch { IsScratchOf (view_extension ext.now) scratch.new }
-    ensures trial { result ≡ tried (view_extension ext.now) inputs.now memory.now decoded }
+    ensures trial { result ≡ tried (view_extension ext.now) inputs.now memory.now back decoded }
     ensures sound { IsSound (view_extension ext.now) result.answer }
     ensures wide { AreBlocksWide (view_extension ext.now) result.blocks }
 {
     trial_laws();
     match decoded {
         Some(decoded) => try_instruction(ext, decoded, inputs, memory, scratch),
-        None => stopped(Stop::Illegal),
+        None => try_unknown(ext, back, inputs, memory, scratch),
     }
 }
