@@ -357,6 +357,65 @@ for n in range(0, len(DUMP) // 40 + 3):
 file("HERE", "0000006f\n")
 due("wave NONE CORE3 HERE NOWAITS 30000", 5, dump([], *[[]] * 30000)[:8192], ("-", 4096, 2, 4096))
 
+# an interrupt line: five and seven are added by a run that goes to a handler in row 3 and back from it
+file("HANDLED", "00500093\n00700113\n002081b3\n00100073\n00120213\n30200073\n")
+file("ROW3", "3")
+HANDLED_RUN = """0 0@00000000 - -
+1 1@00000004 0@00000000 -
+2 2@00000008 1@00000004 0@00000000 r0
+= 0 00000000 00500093 x1=00000005
+3 3@0000000c 2@00000008 1@00000004 r1 f2 f3 p00000010 i00000008
+= 1 00000004 00700113 x2=00000007
+4 4@00000010 - -
+5 5@00000014 4@00000010 -
+6 - 5@00000014 4@00000010 r4 p00000008
+= 4 00000010 00120213 x4=00000001
+7 6@00000008 - 5@00000014 r5
+= 5 00000014 30200073 pc=00000008
+8 7@0000000c 6@00000008 -
+9 8@00000010/Behind 7@0000000c 6@00000008 r6 stop Ebreak
+= 6 00000008 002081b3 x3=0000000c
+state
+pc 0000000c
+epc 00000008
+enabled 1
+x1 00000005
+x2 00000007
+x3 0000000c
+x4 00000001
+"""
+due("run NONE CORE3 HANDLED NOWAITS ROW3 20", 0, HANDLED_RUN)
+for n in range(0, len(HANDLED_RUN) // 40 + 3):
+    whole = 40 * n >= len(HANDLED_RUN)
+    due("run NONE CORE3 HANDLED NOWAITS ROW3 20", 0 if whole else 5, HANDLED_RUN[: 40 * n], ("-", 4096, n, 40))
+# a line that is never raised, and none: the word of MRET is an instruction on a core with a line alone
+due("run NONE CORE3 ADD NOWAITS EMPTY 20", 0, ADD_RUN.replace("pc 0000000c\n", "pc 0000000c\nepc 00000000\nenabled 1\n"))
+due("run NONE CORE3 EMPTY NOWAITS EMPTY 0", 0, "state\npc 00000000\nepc 00000000\nenabled 1\n")
+file("MRET", "30200073\n")
+due("run NONE CORE3 MRET NOWAITS 20", 0, "0 0@00000000 - -\n1 - 0@00000000 - stop Illegal\nstate\npc 00000000\n")
+due("run NONE CORE3 EMPTY NOWAITS ROW3 20", 0, "0 - - - stop Fetch\nstate\npc 00000000\nepc 00000000\nenabled 1\n")
+for words in ["run NONE CORE3 EMPTY NOWAITS ROW3", "run NONE CORE3 EMPTY NOWAITS ROW3 20 20", "runs NONE CORE3 EMPTY NOWAITS ROW3 20", "wave NONE CORE3 EMPTY NOWAITS ROW3 20", "run NONE CORE3 EMPTY NOWAITS ROW3 200001", "run NONE CORE3 EMPTY NOWAITS ROW3 -1"]:
+    due(words, 2, "refused Usage\n")
+# the rows: digits, order, ends; each number, from 0, that is refused
+for n, (text, at) in enumerate(
+    [("x", 0), ("-1", 0), ("+1", 0), ("0x1", 0), ("1,2", 0), ("1000000", 0), ("0000001", 0), ("200000", 0), ("3 3", 1), ("3 2 9", 1), ("0 0", 1), ("1 2 199999 199999", 3), ("5\n6\r7\t8 x", 4), ("9 200000", 1), ("1 2 3 2", 3)]
+):
+    file(f"BADROW{n}", text)
+    due(f"run NONE CORE3 EMPTY NOWAITS BADROW{n} 0", 15, f"refused Lines {at}\n")
+for n, text in enumerate([" \t\r\n", "000000", "0 1 2\n\n199999", "\t000007\r\n8", " ".join(str(it) for it in range(4096))]):
+    file(f"ROWS{n}", text)
+    due(f"run NONE CORE3 EMPTY NOWAITS ROWS{n} 0", 0, "state\npc 00000000\nepc 00000000\nenabled 1\n")
+file("MANYROWS", " ".join(str(it) for it in range(4097)))
+due("run NONE CORE3 EMPTY NOWAITS MANYROWS 0", 15, "refused Lines 4096\n")
+# the files in order, and the schedule behind them
+due("run NONE CORE3 EMPTY BADWAIT BADROW0 20", 14, "refused Waits 1\n")
+due("run NONE CORE3 EMPTY BADWAIT LOST 20", 14, "refused Waits 1\n")
+due("run NONE CORE3 EMPTY NOWAITS LOST 20", 4, "refused ReadFault LOST\n")
+due("run NONE CORE3 EMPTY NOWAITS LINES1 20", 6, "refused TooLong LINES1\n")
+due("run LARGE FIVE EMPTY NOWAITS BADROW0 20", 15, "refused Lines 0\n")
+due("run LARGE FIVE EMPTY NOWAITS ROW3 20", 7, "refused Extension TooManyOps large\n")
+due("run MULX SLOW EMPTY NOWAITS ROW3 20", 10, (NONE + UNTIMED).replace("delay 600", "delay 1200") + "cycle chain 2\nend\n")
+
 STORED = [Path(__file__).resolve().parent / "commands" / name for name in ["tutorial", "schedules", "runs", "forwards", "base", "diagnoses"]]
 FOLDER.joinpath("stdin").write_bytes(b"".join(it.with_suffix(".cases").read_bytes() for it in STORED) + "".join(part + END for part in parts).encode())
 FOLDER.joinpath("stdout").write_bytes(b"".join(it.with_suffix(".answers").read_bytes() for it in STORED) + "".join(answer + END for answer in answers).encode())

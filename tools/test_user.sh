@@ -155,6 +155,15 @@ for sheet in "$examples"/*.toml; do
     run_all_scripts "$examples/two-decoupled.core_desc" "$sheet" "$examples/first-run.hex" "$examples/first-run.hex"
 done
 
+# A run with an interrupt line
+
+"$program" run "$examples/wide-add.core_desc" "$examples/five.toml" "$examples/count-interrupts.hex" \
+    "$examples/some.waits" "$examples/some.lines" 200 > trace || fail "the run with an interrupt line"
+ends 0 "$user/trace_summary.py" trace --source "$examples/count-interrupts.s"
+grep -q ' Interrupt: ' out || fail "no cycle is lost to an interrupt"
+ends 0 "$user/trace_picture.py" trace --source "$examples/count-interrupts.s" -o interrupts.svg
+fits interrupts.svg
+
 # Extensions of the literature
 
 ends 0 "$user/literature.py" --no-yosys --check "$root/docs/LITERATURE.md"

@@ -69,6 +69,7 @@ HOLDS = {
     "Board": ("Bo", "a register that a later write is due to"),
     "Custom": ("Cu", "a custom register that an older instruction writes"),
     "Late": ("La", "the program counter that an older instruction writes"),
+    "Trap": ("Tr", "older instructions, to take an interrupt behind them"),
     "Drain": ("Dr", "older instructions, to stop the run behind them"),
     "Wait": ("Wa", "the memory"),
     "StoreAhead": ("SA", "an older store"),
@@ -79,7 +80,7 @@ HOLDS = {
 }
 
 # Of these the number in brackets counts rows or names a unit; of the others it is an instruction.
-COUNTED_HOLDS = ("Wait", "Tail", "UnitFull", "Behind")
+COUNTED_HOLDS = ("Wait", "Tail", "UnitFull", "Behind", "Trap")
 
 
 class BadInput(Exception):
@@ -206,6 +207,7 @@ class Row:
     late = None  # the serial of the instruction whose late write is done
     flushed = ()  # the serials of the instructions that are flushed
     redirect = None  # the address to which the next fetch goes instead
+    taken = None  # the address to which the handler of an interrupt returns that is taken
     stop = None  # the name of the stop
     retirement = None
 
@@ -215,19 +217,21 @@ class Row:
 
 
 HOLD = (
-    r"(?:Operand\(x\d+,\d+\)|Board\([xc]\d+,\d+\)|Custom\(c\d+,\d+\)|Behind"
+    r"(?:Operand\(x\d+,\d+\)|Board\([xc]\d+,\d+\)|Custom\(c\d+,\d+\)|Trap|Behind"
     r"|(?:Late|Drain|Wait|StoreAhead|Tail|UnitFull|Port)\(\d+\))"
 )
 ROW_LINE = re.compile(
     rf"(\d+)(?: (?:-|\d+@[0-9a-f]{{8}}(?:/{HOLD})?)){{3,5}}"
-    r"((?: r\d+)?(?: w\d+)?(?: f\d+)*(?: p[0-9a-f]{8})?(?: stop [A-Za-z]+)?)",
+    r"((?: r\d+)?(?: w\d+)?(?: f\d+)*(?: p[0-9a-f]{8})?(?: i[0-9a-f]{8})?(?: stop [A-Za-z]+)?)",
     re.ASCII,
 )
 WRITES = r"(?: (?:x\d+|c\d+|m[0-9a-f]{8}|pc)=(?:[0-9a-f]+|later))*"
 RETIREMENT_LINE = re.compile(rf"= (\d+) ([0-9a-f]{{8}}) ([0-9a-f]{{8}})({WRITES})", re.ASCII)
 LATE_LINE = re.compile(rf"\+ \d+{WRITES}", re.ASCII)
 STATE_LINE = re.compile(
-    r"pc [0-9a-f]{8}|[xc]\d+ [0-9a-f]+|o \d+ [xc]\d+|m [0-9a-f]{8} [0-9a-f]{8}", re.ASCII
+    r"(?:pc|epc) [0-9a-f]{8}|enabled [01]|[xc]\d+ [0-9a-f]+|o \d+ [xc]\d+"
+    r"|m [0-9a-f]{8} [0-9a-f]{8}",
+    re.ASCII,
 )
 
 
@@ -343,6 +347,8 @@ def read_marks(row, marks):
             row.late = int(mark[1:])
         elif mark[0] == "f":
             flushed.append(int(mark[1:]))
+        elif mark[0] == "i":
+            row.taken = mark[1:]
         else:
             row.redirect = mark[1:]
     row.flushed = flushed
@@ -359,7 +365,9 @@ def hold_parts(hold):
 
 def redirector_of(row):
     """The instruction that sent the fetch elsewhere in this row: the youngest one that is not
-    flushed in it, or None."""
+    flushed in it, or None where there is none, or an interrupt is taken."""
+    if row.taken is not None:
+        return None
     for cell in row.cells:
         if cell is not None and cell.serial not in row.flushed:
             return cell

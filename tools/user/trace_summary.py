@@ -29,10 +29,12 @@ from ixt_texts import (
 
 # Causes of gaps that are no hold of an instruction.
 REDIRECT = "Redirect"
+INTERRUPT = "Interrupt"
 NO_FETCH = "NoFetch"
 FILLING = "Filling"
 GAP_TEXTS = {
     REDIRECT: "dropped behind a jump or a taken branch, or not there before it",
+    INTERRUPT: "dropped before a handler, as an interrupt is taken",
     NO_FETCH: "no word stands at the next address",
     FILLING: "the pipeline fills at the start",
 }
@@ -125,6 +127,8 @@ def gap_cause(row, stage, before, gaps, addresses):
         return gaps[stage - 1]
     if cell.hold:
         return hold_cause(cell, addresses)
+    if cell.serial in before.flushed and before.taken is not None:
+        return Cause(INTERRUPT, "", None)
     if cell.serial in before.flushed:
         redirector = redirector_of(before)
         return Cause(REDIRECT, "", redirector.address if redirector else None)

@@ -150,15 +150,29 @@ fn report_finding(rest: &str, bytes: &[u8]) -> Finding<'static>
     at(line_place(bytes, told), sentence)
 }
 
-fn waits_finding(rest: &str, bytes: &[u8]) -> Finding<'static> {
+/// What is found of a number in a list of numbers, which is wrong as the sentence says.
+fn number_finding(rest: &str, bytes: &[u8], sentence: &'static str) -> Finding<'static> {
     let place = match number(rest) {
         Some(count) => word_at(bytes, count),
         None => None,
     };
-    let sentence = misplaced(Look::Other, bytes).unwrap_or(
+    at(place, misplaced(Look::Other, bytes).unwrap_or(sentence))
+}
+
+fn waits_finding(rest: &str, bytes: &[u8]) -> Finding<'static> {
+    number_finding(
+        rest,
+        bytes,
         "this is no wait: write numbers from 0 to 255 with one to three digits, blanks between them, and at most 65536 of them",
-    );
-    at(place, sentence)
+    )
+}
+
+fn lines_finding(rest: &str, bytes: &[u8]) -> Finding<'static> {
+    number_finding(
+        rest,
+        bytes,
+        "this is no row, or none behind the one before: write numbers from 0 to 199999 with one to six digits, each greater than the one before, blanks between them, and at most 4096 of them",
+    )
 }
 
 fn schedule_finding<'a>(name: &'a str, bytes: &[u8]) -> Finding<'a> {
@@ -180,6 +194,7 @@ pub(crate) fn finding_of<'a>(refusal: Refusal<'a>, bytes: &[u8]) -> Finding<'a>
         Status::Source => source_finding(refusal.rest, bytes),
         Status::Certificate => report_finding(refusal.rest, bytes),
         Status::Waits => waits_finding(refusal.rest, bytes),
+        Status::Lines => lines_finding(refusal.rest, bytes),
         Status::NoSchedule => schedule_finding(refusal.rest, bytes),
         Status::ReadFault => at(
             None,
@@ -191,7 +206,7 @@ pub(crate) fn finding_of<'a>(refusal: Refusal<'a>, bytes: &[u8]) -> Finding<'a>
         ),
         Status::Usage | Status::Other => at(
             None,
-            "these words are not a command: write `run IMAGE CYCLES`, `run EXT SHEET IMAGE WAITS CYCLES`, `check EXT`, `certify REPORT`, `seq EXT IMAGE STEPS`, `asm EXT SOURCE`, `schedule EXT SHEET`, `build EXT SHEET`, `sweep EXT SHEET`, `bench EXT SHEET NUMBER COUNT` or `wave EXT SHEET IMAGE WAITS CYCLES`, CYCLES and STEPS being numbers from 0 to 200000, NUMBER from 0 to 4294967295, and COUNT from 0 to 10000",
+            "these words are not a command: write `run IMAGE CYCLES`, `run EXT SHEET IMAGE WAITS CYCLES`, `run EXT SHEET IMAGE WAITS LINES CYCLES`, `check EXT`, `certify REPORT`, `seq EXT IMAGE STEPS`, `asm EXT SOURCE`, `schedule EXT SHEET`, `build EXT SHEET`, `sweep EXT SHEET`, `bench EXT SHEET NUMBER COUNT` or `wave EXT SHEET IMAGE WAITS CYCLES`, CYCLES and STEPS being numbers from 0 to 200000, NUMBER from 0 to 4294967295, and COUNT from 0 to 10000",
         ),
     }
 }

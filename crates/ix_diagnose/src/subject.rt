@@ -9,12 +9,12 @@ pub(crate) enum Subject<'a> {
     Name(&'a str),
 }
 
-/// The place of the image among the words of a command: the last but one, or but two where waits
-/// stand behind it.
+/// The place of the image among the words of a command: the last but one, but two where waits stand
+/// behind it, or but three where these and the rows of an interrupt line do.
 fn image_word(count: usize) -> usize {
     match count {
         4 => 2,
-        6 => 3,
+        6 | 7 => 3,
         _ => 1,
     }
 }
@@ -30,6 +30,7 @@ pub(crate) fn subject_of<'a>(line: &'a str, words: &'a [String]) -> Option<Subje
         Status::Sheet | Status::Source => 2,
         Status::Image => image_word(words.len()),
         Status::Waits => 4,
+        Status::Lines => 5,
         Status::Other => return None,
     };
     Some(Subject::File(words.get(word)?.as_str()))

@@ -17,6 +17,7 @@ pub(crate) enum Status {
     Certificate,
     Source,
     Waits,
+    Lines,
     /// No line of the tool begins so.
     Other,
 }
@@ -43,6 +44,7 @@ fn status_of(word: &str) -> Status
         "Certificate" => Status::Certificate,
         "Source" => Status::Source,
         "Waits" => Status::Waits,
+        "Lines" => Status::Lines,
         _ => Status::Other,
     }
 }

@@ -1,5 +1,5 @@
 -- What the assembly of a source, and the scheduling, the building and the sweeping of an extension, answers.
-use Rattle.std.proofs.Common.{◌≡◌, ℕ, List, [], ◌∷◌, Option, refl, ◌⊎◌, inl, inr}
+use Rattle.std.proofs.Common.{◌≡◌, ℕ, List, [], ◌∷◌, Option, Some, None, refl, ◌⊎◌, inl, inr}
 use Rattle.ix_extension.specs.Extensions.{ExtensionTree}
 use Rattle.rv_text.specs.RunText.{run_text}
 use Rattle.rv_asm.specs.ImageText.{image_text}
@@ -19,9 +19,9 @@ use Rattle.ix_sweeps.specs.SweepText.{IsSweepText}
 use Rattle.ix_words.specs.declared.command.Command.{Command}
 use Rattle.ix_words.specs.declared.command.Command.TheVariants.{Assemble, Schedule, Build, Sweep, Seq, Bench}
 use Rattle.ix_words.specs.declared.command.RunForm.{RunForm}
-use Rattle.ix_words.specs.declared.command.RunForm.TheVariants.{Rows, Ports}
-use Rattle.ix_words.specs.Readings.{Reading, extension_read, sheet_read, source_read, image_read, waits_read, number_read}
-use Rattle.ix_tool.specs.CommandOutput.{command_in, Writes, IsToldAs, Schedules, Answered, IsExtensionRun, IsDrawnRun, source_line}
+use Rattle.ix_words.specs.declared.command.RunForm.TheVariants.{Rows, Interrupted, Ports}
+use Rattle.ix_words.specs.Readings.{Reading, extension_read, sheet_read, source_read, image_read, waits_read, lines_read, number_read}
+use Rattle.ix_tool.specs.CommandOutput.{command_in, run_values, HasLines, Writes, IsToldAs, Schedules, Answered, IsExtensionRun, IsDrawnRun, source_line}
 
 module _ (x : ExtensionTree) (bytes : List ℕ) (before now : Option (List ℕ)) (faults faults_now : ℕ) (result : Status) where
   pub image_answered : (words : List ℕ) → Assembles x bytes words → (((result ≡ Memory) × (now ≡ before)) ⊎ Writes ok_status (image_text words) before now faults faults_now result)
@@ -40,8 +40,9 @@ module _ (x : ExtensionTree) (bytes : List ℕ) (before now : Option (List ℕ))
         w,
       )
 
-pub run_schedules : (form : RunForm) → Schedules (command_in form)
+run_schedules : (form : RunForm) → Schedules (command_in form)
 run_schedules Rows = tt
+run_schedules Interrupted = tt
 run_schedules Ports = tt
 
 module _ (x : ExtensionTree) (sheet : Sheet) (before now : Option (List ℕ)) (faults faults_now : ℕ) (result : Status) where
@@ -56,6 +57,13 @@ module _ (x : ExtensionTree) (sheet : Sheet) (before now : Option (List ℕ)) (f
   behaviour_answered command others schedules e status text h told w =
       inr (status, text, inl (inr (inl (record { schedules = schedules; extension = x; sheet = sheet; others = others; values_are = refl; error = e; refused = h; told = told }))), w)
 
+  -- the refusal of a run
+  pub run_refused : (form : RunForm) (image waits : List ℕ) (lines : Option (List ℕ)) (cycles : ℕ) (e : TextErr) (status : Status) (text : List ℕ) → IsRefusedSchedule x sheet e → IsToldAs e status text → Writes status text before now faults faults_now result
+      → Answered (command_in form) (run_values x sheet image waits lines cycles) before now faults faults_now result
+  run_refused form image waits None cycles e status text h told w = behaviour_answered (command_in form) (image_read image ∷ waits_read waits ∷ number_read cycles ∷ []) (run_schedules form) e status text h told w
+  run_refused form image waits (Some lines) cycles e status text h told w =
+      behaviour_answered (command_in form) (image_read image ∷ waits_read waits ∷ lines_read lines ∷ number_read cycles ∷ []) (run_schedules form) e status text h told w
+
   pub sweep_answered : (text : List ℕ) → IsSweepText x sheet text → Writes ok_status text before now faults faults_now result → Answered Sweep (extension_read x ∷ sheet_read sheet ∷ []) before now faults faults_now result
   sweep_answered text h w = inr (ok_status, text, inr (refl, h), w)
 
@@ -63,12 +71,17 @@ module _ (x : ExtensionTree) (sheet : Sheet) (before now : Option (List ℕ)) (f
   large_answered line h w =
       inr (extension_status, line, inl (inr (inr (record { command_is = refl; extension = x; sheet = sheet; values_are = refl; refused = h; status_is = refl }))), w)
 
-  pub run_answered : (form : RunForm) (image waits : List ℕ) (cycles : ℕ) (text : List ℕ) → IsExtensionRun form x sheet image waits cycles text → Writes ok_status text before now faults faults_now result
-      → Answered (command_in form) (extension_read x ∷ sheet_read sheet ∷ image_read image ∷ waits_read waits ∷ number_read cycles ∷ []) before now faults faults_now result
-  run_answered Rows image waits cycles text h w =
+  pub run_answered : (form : RunForm) (image waits : List ℕ) (lines : Option (List ℕ)) (cycles : ℕ) (text : List ℕ) → HasLines form lines → IsExtensionRun form x sheet image waits lines cycles text → Writes ok_status text before now faults faults_now result
+      → Answered (command_in form) (run_values x sheet image waits lines cycles) before now faults faults_now result
+  run_answered Rows image waits None cycles text l h w =
       inr (ok_status, text, inr (refl, record { extension = x; sheet = sheet; image = image; waits = waits; cycles = cycles; values_are = refl; runs = h }), w)
-  run_answered Ports image waits cycles text h w =
+  run_answered Rows image waits (Some lines) cycles text l h w = absurd l
+  run_answered Interrupted image waits None cycles text l h w = absurd l
+  run_answered Interrupted image waits (Some lines) cycles text l h w =
+      inr (ok_status, text, inr (refl, record { extension = x; sheet = sheet; image = image; waits = waits; lines = lines; cycles = cycles; values_are = refl; runs = h }), w)
+  run_answered Ports image waits None cycles text l h w =
       inr (ok_status, text, inr (refl, record { extension = x; sheet = sheet; image = image; waits = waits; cycles = cycles; values_are = refl; runs = h }), w)
+  run_answered Ports image waits (Some lines) cycles text l h w = absurd l
 
   pub bench_answered : (number count : ℕ) (text : List ℕ) → IsDrawnRun x sheet number count text → Writes ok_status text before now faults faults_now result
       → Answered Bench (extension_read x ∷ sheet_read sheet ∷ number_read number ∷ number_read count ∷ []) before now faults faults_now result

@@ -1,5 +1,5 @@
 -- What the summary of a drawn run shows.
-use Rattle.std.proofs.Common.{◌≡◌, ℕ, zero, suc, ◌^◌, ◌<◌, ◌%◌, ◌/◌, List, [], ◌∷◌, Bool, true, false, Option, Some, None, slice_get, ap, sym, ◌∙◌, subst}
+use Rattle.std.proofs.Common.{◌≡◌, ℕ, zero, suc, ◌<◌, ◌^◌, ◌%◌, ◌/◌, List, [], ◌∷◌, Bool, true, false, Option, Some, None, slice_get, ap, sym, ◌∙◌, subst}
 use Rattle.std.specs.Prelude.{codes, All, nat_eq, if◌then◌else◌}
 use Rattle.std.specs.Str.{bytes_eq}
 use Rattle.std.proofs.lemmas.Bool.{and_parts, true≢false}
@@ -8,6 +8,7 @@ use Rattle.ix_io.specs.Shelf.{NamedFiles}
 use Rattle.ix_io.specs.Sink.{Appends}
 use Rattle.ix_extension.specs.Extensions.{ExtensionTree, view_extension}
 use Rattle.ix_sheet.specs.declared.sheet.Sheet.{Sheet}
+use Rattle.ix_sheet.specs.Datasheets.{IsSheetOf}
 use Rattle.ix_listing.proofs.OneExtension.{is_well_formed}
 use Rattle.ix_plan.specs.declared.design.Design.{Design}
 use Rattle.ix_standing.specs.Standing.{Stands}
@@ -16,14 +17,15 @@ use Rattle.rv_bench.specs.DrawnImage.{drawn_image}
 use Rattle.rv_bench.specs.Words.{IsWord, WordsLaw}
 use Rattle.rv_machine.specs.Promises.{RowsLaw, IsRunnable}
 use Rattle.ix_words.specs.declared.command.Command.{Command}
-use Rattle.ix_words.specs.declared.command.Command.TheVariants.{RunImage, Check, Certify, Schedule, Build, Sweep, Seq, Assemble, RunExtension, Bench, Wave}
+use Rattle.ix_words.specs.declared.command.Command.TheVariants.{RunImage, Check, Certify, Schedule, Build, Sweep, Seq, Assemble, RunExtension, Bench, Wave, RunInterrupted}
 use Rattle.ix_words.specs.Readings.{Reading, extension_read, sheet_read, number_read}
 use Rattle.ix_words.specs.CommandLine.{is_command, slots_of, behind, number_within, most_number, most_drawn, BenchCommand, bench_command, bench_of}
 use Rattle.ix_words.specs.WordsRead.{AreRead}
 use Rattle.ix_tool.specs.CommandOutput.{IsDesignSummary, IsLawfulSummary, IsDrawnRun, IsLawfulDrawnRun, IsBenchOutput, IsOutput, OutputAnswer, BenchAnswer}
 use Rattle.ix_tool.proofs.Due.{both, one}
 use Rattle.ix_tool.proofs.Headlines.{is_of}
-use Rattle.ix_tool.proofs.Taking.{run_read, extension_is_read, report_is_read, source_is_read, schedule_is_read, seq_read, pipeline_read, bench_read}
+use Rattle.ix_tool.proofs.Handlers.{handler_of}
+use Rattle.ix_tool.proofs.Taking.{run_read, extension_is_read, report_is_read, source_is_read, schedule_is_read, seq_read, pipeline_read, interrupted_read, bench_read}
 
 -- ---- the words of a drawn image
 same_word : (m n : ℕ) → ◌≡◌ {A = Option ℕ} (Some m) (Some n) → m ≡ n
@@ -42,21 +44,21 @@ at_address ws at word all e = here (nat_eq (at % 4) 0) e
     here false e = absurd (cc)
 
 -- the rows that a summary counts are lawful
-lawful_summary : RowsLaw → WordsLaw → (design : Design) (number count : ℕ) (text : List ℕ) → Stands design → IsDesignSummary design number count text → IsLawfulSummary design number count text
-lawful_summary rows words design number count text stands h =
+lawful_summary : RowsLaw → WordsLaw → (design : Design) (number count : ℕ) (text : List ℕ) → Stands design → design.sheet.shape.trap < 2 ^ 32 → IsDesignSummary design number count text → IsLawfulSummary design number count text
+lawful_summary rows words design number count text stands handler h =
     let image = drawn_image (view_extension design.extension) number count in
     let whole : All IsWord image = words stands.well_formed.0 (view_extension design.extension) number count stands.well_formed.1 in
-    let runnable : IsRunnable design image = record { stands = stands; words = λ at word e. at_address image at word whole e } in
-    record { rows = h.rows; headline = rows design image [] h.rows runnable h.are_rows; few = h.few; whole = h.whole; text_is = h.text_is }
+    let runnable : IsRunnable design image = record { stands = stands; handler = handler; words = λ at word e. at_address image at word whole e } in
+    record { rows = h.rows; headline = rows design image [] None h.rows runnable h.are_rows; few = h.few; whole = h.whole; text_is = h.text_is }
 
-lawful_drawn : RowsLaw → WordsLaw → (x : ExtensionTree) (sheet : Sheet) (number count : ℕ) (text : List ℕ) → IsDrawnRun x sheet number count text → IsLawfulDrawnRun x sheet number count text
-lawful_drawn rows words x sheet number count text h =
+lawful_drawn : RowsLaw → WordsLaw → (x : ExtensionTree) (bytes : List ℕ) (sheet : Sheet) (number count : ℕ) (text : List ℕ) → IsSheetOf bytes sheet → IsDrawnRun x sheet number count text → IsLawfulDrawnRun x sheet number count text
+lawful_drawn rows words x bytes sheet number count text read h =
     record {
       design = h.design;
       stands = h.stands;
       extension_is = h.extension_is;
       sheet_is = h.sheet_is;
-      runs = lawful_summary rows words h.design number count text h.stands h.runs;
+      runs = lawful_summary rows words h.design number count text h.stands (handler_of h.design bytes sheet h.sheet_is read) h.runs;
     }
 
 -- ---- the words of the command
@@ -87,6 +89,10 @@ four_no_bench (word ∷ rest) a b c command is e = ap (λ r. bench_of (word ∷ 
 six_no_bench : (words : List (List ℕ)) (a b c d n : List ℕ) (command : Command) → is_command command words ≡ true → behind words ≡ a ∷ b ∷ c ∷ d ∷ n ∷ [] → bench_of words ≡ None
 six_no_bench [] a b c d n command is e = absurd (true≢false (sym is))
 six_no_bench (word ∷ rest) a b c d n command is e = ap (λ r. bench_of (word ∷ r)) e
+
+seven_no_bench : (words : List (List ℕ)) (a b c d l n : List ℕ) (command : Command) → is_command command words ≡ true → behind words ≡ a ∷ b ∷ c ∷ d ∷ l ∷ n ∷ [] → bench_of words ≡ None
+seven_no_bench [] a b c d l n command is e = absurd (true≢false (sym is))
+seven_no_bench (word ∷ rest) a b c d l n command is e = ap (λ r. bench_of (word ∷ r)) e
 
 -- the drawn run of these values is that of others with the same parts
 run_of_parts : (x y : ExtensionTree) (s t : Sheet) (n m c k : ℕ) (text : List ℕ)
@@ -131,6 +137,9 @@ benched_of rows law files words before now RunExtension vs text asked is read ou
 benched_of rows law files words before now Wave vs text asked is read out a e =
     let r = pipeline_read files (behind words) vs read in
     absurd (both (bench_of words) asked e (six_no_bench words r.name r.other r.third r.fourth r.number Wave is r.words))
+benched_of rows law files words before now RunInterrupted vs text asked is read out a e =
+    let r = interrupted_read files (behind words) vs read in
+    absurd (both (bench_of words) asked e (seven_no_bench words r.name r.other r.third r.fourth r.fifth r.number RunInterrupted is r.words))
 benched_of rows law files words before now Bench vs text asked is read out a e =
     let r = bench_read files (behind words) vs read in
     let there : IsBenchOutput vs text = out in
@@ -148,7 +157,7 @@ benched_of rows law files words before now Bench vs text asked is read out a e =
       well_formed = is_well_formed r.bytes r.extension r.elaborates;
       sheet_file = r.sheet_file;
       sheet_read = r.sheet_is;
-      runs = lawful_drawn rows law r.extension r.sheet r.number r.count text runs;
+      runs = lawful_drawn rows law r.extension r.sheet_bytes r.sheet r.number r.count text r.sheet_is.sheet_is runs;
       written = a;
     })
 

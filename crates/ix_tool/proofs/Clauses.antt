@@ -5,10 +5,10 @@ use Rattle.ix_io.specs.Limits.{most_bytes}
 use Rattle.ix_io.specs.Shelf.{NamedFiles, told_file}
 use Rattle.ix_io.specs.Sink.{Appends}
 use Rattle.ix_words.specs.declared.status.Status.{Status}
-use Rattle.ix_words.specs.declared.status.Status.TheVariants.{Ok as ok_status, Usage, ReadFault, WriteFault, TooLong, Extension as extension_status, Image as image_status, Sheet as sheet_status, NoSchedule, Certificate, Memory, Source, Waits as waits_status}
+use Rattle.ix_words.specs.declared.status.Status.TheVariants.{Ok as ok_status, Usage, ReadFault, WriteFault, TooLong, Extension as extension_status, Image as image_status, Sheet as sheet_status, NoSchedule, Certificate, Memory, Source, Waits as waits_status, Lines as lines_status}
 use Rattle.ix_words.specs.declared.command.Command.{Command}
 use Rattle.ix_words.specs.declared.command.FileKind.{FileKind}
-use Rattle.ix_words.specs.declared.command.FileKind.TheVariants.{Image, Report, Extension, Sheet, Source as source_kind, Waits}
+use Rattle.ix_words.specs.declared.command.FileKind.TheVariants.{Image, Report, Extension, Sheet, Source as source_kind, Waits, Lines}
 use Rattle.ix_schedules.specs.declared.text.TextErr.{TextErr}
 use Rattle.ix_schedules.specs.declared.text.TextErr.TheVariants as T
 use Rattle.ix_schedules.specs.ScheduleText.{IsRefusedText as IsRefusedSchedule}
@@ -21,34 +21,35 @@ use Rattle.ix_tool.proofs.Due.{all_one, not_refused, told_status, own_status, co
 
 -- ---- statuses are apart
 -- a status that refuses a text is none of these
-no_text : (s : Status) → (sheet_status ≡ s → ⊥) → (image_status ≡ s → ⊥) → (Certificate ≡ s → ⊥) → (extension_status ≡ s → ⊥) → (Source ≡ s → ⊥) → (waits_status ≡ s → ⊥) → (kind : FileKind) → refusal_status kind ≡ s → ⊥
-no_text s d i r x o w Image e = i e
-no_text s d i r x o w Report e = r e
-no_text s d i r x o w Extension e = x e
-no_text s d i r x o w Sheet e = d e
-no_text s d i r x o w source_kind e = o e
-no_text s d i r x o w Waits e = w e
+no_text : (s : Status) → (sheet_status ≡ s → ⊥) → (image_status ≡ s → ⊥) → (Certificate ≡ s → ⊥) → (extension_status ≡ s → ⊥) → (Source ≡ s → ⊥) → (waits_status ≡ s → ⊥) → (lines_status ≡ s → ⊥) → (kind : FileKind) → refusal_status kind ≡ s → ⊥
+no_text s d i r x o w l Image e = i e
+no_text s d i r x o w l Report e = r e
+no_text s d i r x o w l Extension e = x e
+no_text s d i r x o w l Sheet e = d e
+no_text s d i r x o w l source_kind e = o e
+no_text s d i r x o w l Waits e = w e
+no_text s d i r x o w l Lines e = l e
 
 text_no_usage : (kind : FileKind) → refusal_status kind ≡ Usage → ⊥
-text_no_usage = no_text Usage (λ q. cc) (λ q. cc) (λ q. cc) (λ q. cc) (λ q. cc) (λ q. cc)
+text_no_usage = no_text Usage (λ q. cc) (λ q. cc) (λ q. cc) (λ q. cc) (λ q. cc) (λ q. cc) (λ q. cc)
 
 text_no_read_fault : (kind : FileKind) → refusal_status kind ≡ ReadFault → ⊥
-text_no_read_fault = no_text ReadFault (λ q. cc) (λ q. cc) (λ q. cc) (λ q. cc) (λ q. cc) (λ q. cc)
+text_no_read_fault = no_text ReadFault (λ q. cc) (λ q. cc) (λ q. cc) (λ q. cc) (λ q. cc) (λ q. cc) (λ q. cc)
 
 text_no_write_fault : (kind : FileKind) → refusal_status kind ≡ WriteFault → ⊥
-text_no_write_fault = no_text WriteFault (λ q. cc) (λ q. cc) (λ q. cc) (λ q. cc) (λ q. cc) (λ q. cc)
+text_no_write_fault = no_text WriteFault (λ q. cc) (λ q. cc) (λ q. cc) (λ q. cc) (λ q. cc) (λ q. cc) (λ q. cc)
 
 text_not_long : (kind : FileKind) → refusal_status kind ≡ TooLong → ⊥
-text_not_long = no_text TooLong (λ q. cc) (λ q. cc) (λ q. cc) (λ q. cc) (λ q. cc) (λ q. cc)
+text_not_long = no_text TooLong (λ q. cc) (λ q. cc) (λ q. cc) (λ q. cc) (λ q. cc) (λ q. cc) (λ q. cc)
 
 text_not_ok : (kind : FileKind) → refusal_status kind ≡ ok_status → ⊥
-text_not_ok = no_text ok_status (λ q. cc) (λ q. cc) (λ q. cc) (λ q. cc) (λ q. cc) (λ q. cc)
+text_not_ok = no_text ok_status (λ q. cc) (λ q. cc) (λ q. cc) (λ q. cc) (λ q. cc) (λ q. cc) (λ q. cc)
 
 text_no_memory : (kind : FileKind) → refusal_status kind ≡ Memory → ⊥
-text_no_memory = no_text Memory (λ q. cc) (λ q. cc) (λ q. cc) (λ q. cc) (λ q. cc) (λ q. cc)
+text_no_memory = no_text Memory (λ q. cc) (λ q. cc) (λ q. cc) (λ q. cc) (λ q. cc) (λ q. cc) (λ q. cc)
 
 text_no_schedule : (kind : FileKind) → refusal_status kind ≡ NoSchedule → ⊥
-text_no_schedule = no_text NoSchedule (λ q. cc) (λ q. cc) (λ q. cc) (λ q. cc) (λ q. cc) (λ q. cc)
+text_no_schedule = no_text NoSchedule (λ q. cc) (λ q. cc) (λ q. cc) (λ q. cc) (λ q. cc) (λ q. cc) (λ q. cc)
 
 -- the status of a file's refusal, by what is so of each
 of_refusal : (P : Status → Type 0) → P ReadFault → P TooLong → ((kind : FileKind) → P (refusal_status kind)) → (files : Option NamedFiles) (R : List ℕ → Type 0) (kind : FileKind) (name : List ℕ) (status : Status) (line : List ℕ) → IsRefusedFile files R kind name status line → P status
@@ -156,6 +157,7 @@ no_source_file files R Report name _ _ (bad_text bytes line file bad) e = cc
 no_source_file files R Extension name _ _ (bad_text bytes line file bad) e = cc
 no_source_file files R Sheet name _ _ (bad_text bytes line file bad) e = cc
 no_source_file files R Waits name _ _ (bad_text bytes line file bad) e = cc
+no_source_file files R Lines name _ _ (bad_text bytes line file bad) e = cc
 no_source_file files R source_kind name _ _ (bad_text bytes line file bad) e = bad
 
 source_answer_of : (files : Option NamedFiles) (R : List ℕ → Type 0) (words : List (List ℕ)) (before now : Option (List ℕ)) (status : Status) (bytes : List ℕ) → IsDue files R words status bytes → status ≡ Source → Appends before now bytes → SourceAnswer files words before now
@@ -280,6 +282,9 @@ module _ (files : Option NamedFiles) (counts counts_now : List ℕ → ℕ) (wor
 
   pub waits : result ≡ waits_status → TextAnswer files words waits_status before now
   waits e = let w = written (λ q. grind (arith, e, q)) (λ q. grind (arith, e, q)) in text_of_kind files (RoseIn counts counts_now) words Waits (λ q. cc) (λ q. cc) before now result w.0 w.1 e w.2
+
+  pub lines : result ≡ lines_status → TextAnswer files words lines_status before now
+  lines e = let w = written (λ q. grind (arith, e, q)) (λ q. grind (arith, e, q)) in text_of_kind files (RoseIn counts counts_now) words Lines (λ q. cc) (λ q. cc) before now result w.0 w.1 e w.2
 
   pub no_schedule : result ≡ NoSchedule → NoScheduleAnswer files words before now
   no_schedule e = let w = written (λ q. grind (arith, e, q)) (λ q. grind (arith, e, q)) in no_schedule_of files (RoseIn counts counts_now) words before now result w.0 w.1 e w.2

@@ -1,25 +1,26 @@
 -- What is due is one thing: at most one status for told files, but for faults of reading.
-use Rattle.std.proofs.Common.{◌≡◌, ◌≢◌, ℕ, ◌<◌, true, false, List, [], ◌∷◌, length, Option, Some, None, refl, ap, sym, ◌∙◌, subst, arith, ◌⊎◌, inl, inr}
+use Rattle.std.proofs.Common.{◌≡◌, ◌≢◌, ℕ, ◌<◌, List, [], ◌∷◌, length, Option, Some, None, refl, ap, sym, ◌∙◌, subst, arith, ◌⊎◌, inl, inr}
 use Rattle.std.specs.Prelude.{IfSome, unwrap_or}
 use Rattle.ix_io.specs.Limits.{most_bytes}
 use Rattle.ix_io.specs.Shelf.{NamedFiles, told_file, file_named}
 use Rattle.ix_cert.proofs.Verdicts.{faultless_not_refused}
 use Rattle.ix_words.specs.declared.status.Status.{Status}
 use Rattle.ix_words.specs.declared.status.Status.TheVariants.{Usage, ReadFault, Source, Extension as extension_status, NoSchedule}
-use Rattle.ix_words.specs.declared.command.Command.TheVariants.{RunImage, Check, Certify, Assemble, Seq, Schedule, Build, Sweep, RunExtension, Bench, Wave}
+use Rattle.ix_words.specs.declared.command.Command.TheVariants.{RunImage, Check, Certify, Assemble, Seq, Schedule, Build, Sweep, RunExtension, Bench, Wave, RunInterrupted}
 use Rattle.ix_words.specs.declared.command.Command.{Command}
 use Rattle.ix_words.specs.declared.command.RunForm.{RunForm}
 use Rattle.ix_words.specs.declared.command.RunForm.TheVariants.{Rows, Ports}
 use Rattle.ix_words.specs.declared.command.FileKind.{FileKind}
-use Rattle.ix_words.specs.declared.command.FileKind.TheVariants.{Image, Report, Extension, Sheet, Source as source_kind, Waits}
+use Rattle.ix_words.specs.declared.command.FileKind.TheVariants.{Image, Report, Extension, Sheet, Source as source_kind, Waits, Lines}
 use Rattle.ix_words.specs.declared.command.Slot.{Slot}
 use Rattle.ix_words.specs.declared.command.Slot.TheVariants.{Number, File}
-use Rattle.ix_words.specs.Readings.{Reading, number_read, image_read, report_read, extension_read, sheet_read, source_read, waits_read}
+use Rattle.ix_words.specs.Readings.{Reading, number_read, image_read, report_read, extension_read, sheet_read, source_read, waits_read, lines_read}
 use Rattle.ix_words.specs.CommandLine.{command_of, slots_of, behind, number_within}
 use Rattle.ix_words.specs.WordsRead.{IsRefusedText, IsReadAs, IsFile, IsRead, AreRead, IsRefusedFile, not_read, too_long, bad_text, IsFirstRefused}
-use Rattle.ix_tool.specs.CommandOutput.{IsSourceRefusal, IsToldAs, Schedules, IsScheduleRefusal, IsSweepRefusal, IsPipelineOutput, IsBenchOutput, IsOwnRefusal, IsOutput, IsAnswer, IsDue, due_usage, due_file, due_answer, NoneRises, NoFileRises}
+use Rattle.ix_tool.specs.CommandOutput.{IsSourceRefusal, IsToldAs, Schedules, IsScheduleRefusal, IsSweepRefusal, IsPipelineOutput, IsInterruptedOutput, IsBenchOutput, IsOwnRefusal, IsOutput, IsAnswer, IsDue, due_usage, due_file, due_answer, NoneRises, NoFileRises}
 use Rattle.ix_listing.proofs.OneExtension.{same_extension, extension_not_refused}
 use Rattle.rv_asm.proofs.WaitLemmas.{one_text, text_not_refused as waits_not_refused}
+use Rattle.rv_asm.proofs.LineLemmas.{one_text as one_lines_text, text_not_refused as lines_not_refused}
 use Rattle.rv_asm.proofs.ImageLemmas.{image_not_refused}
 use Rattle.rv_asm.proofs.Placing.{only_memory}
 use Rattle.rv_asm.specs.Sources.{assembled}
@@ -50,6 +51,7 @@ text_apart Image bytes line (extension_read x) r bad = r
 text_apart Image bytes line (sheet_read x) r bad = r
 text_apart Image bytes line (source_read x) r bad = r
 text_apart Image bytes line (waits_read x) r bad = r
+text_apart Image bytes line (lines_read x) r bad = r
 text_apart Report bytes line report_read r bad = faultless_not_refused bytes bad.0 r bad.1
 text_apart Report bytes line (image_read image) r bad = r
 text_apart Report bytes line (number_read n) r bad = r
@@ -57,6 +59,7 @@ text_apart Report bytes line (extension_read x) r bad = r
 text_apart Report bytes line (sheet_read x) r bad = r
 text_apart Report bytes line (source_read x) r bad = r
 text_apart Report bytes line (waits_read x) r bad = r
+text_apart Report bytes line (lines_read x) r bad = r
 text_apart Extension bytes line (extension_read x) r bad = extension_not_refused bytes x bad.0 r bad.1
 text_apart Extension bytes line (image_read image) r bad = r
 text_apart Extension bytes line (number_read n) r bad = r
@@ -64,6 +67,7 @@ text_apart Extension bytes line report_read r bad = r
 text_apart Extension bytes line (sheet_read x) r bad = r
 text_apart Extension bytes line (source_read x) r bad = r
 text_apart Extension bytes line (waits_read x) r bad = r
+text_apart Extension bytes line (lines_read x) r bad = r
 text_apart Sheet bytes line (sheet_read x) r bad = sheet_not_refused bytes x bad.0 r.sheet_is bad.1
 text_apart Sheet bytes line (image_read image) r bad = r
 text_apart Sheet bytes line (number_read n) r bad = r
@@ -71,6 +75,7 @@ text_apart Sheet bytes line report_read r bad = r
 text_apart Sheet bytes line (extension_read x) r bad = r
 text_apart Sheet bytes line (source_read x) r bad = r
 text_apart Sheet bytes line (waits_read x) r bad = r
+text_apart Sheet bytes line (lines_read x) r bad = r
 text_apart source_kind bytes line v r bad = bad
 text_apart Waits bytes line (waits_read waits) r bad = waits_not_refused bytes waits bad.0 r bad.1
 text_apart Waits bytes line (image_read x) r bad = r
@@ -79,6 +84,15 @@ text_apart Waits bytes line report_read r bad = r
 text_apart Waits bytes line (extension_read x) r bad = r
 text_apart Waits bytes line (sheet_read x) r bad = r
 text_apart Waits bytes line (source_read x) r bad = r
+text_apart Waits bytes line (lines_read x) r bad = r
+text_apart Lines bytes line (lines_read lines) r bad = lines_not_refused bytes lines bad.0 r bad.1
+text_apart Lines bytes line (image_read x) r bad = r
+text_apart Lines bytes line (number_read x) r bad = r
+text_apart Lines bytes line report_read r bad = r
+text_apart Lines bytes line (extension_read x) r bad = r
+text_apart Lines bytes line (sheet_read x) r bad = r
+text_apart Lines bytes line (source_read x) r bad = r
+text_apart Lines bytes line (waits_read x) r bad = r
 
 text_one : (kind : FileKind) (bytes : List ℕ) (v u : Reading) → IsReadAs kind bytes v → IsReadAs kind bytes u → v ≡ u
 text_one Image bytes (image_read i) (image_read j) r s = ap (λ x. image_read x) (r.words_are ∙ sym s.words_are)
@@ -88,12 +102,14 @@ text_one Image bytes (image_read i) (extension_read y) r s = absurd s
 text_one Image bytes (image_read i) (source_read y) r s = absurd s
 text_one Image bytes (image_read i) (sheet_read y) r s = absurd s
 text_one Image bytes (image_read i) (waits_read y) r s = absurd s
+text_one Image bytes (image_read i) (lines_read y) r s = absurd s
 text_one Image bytes (number_read n) u r s = absurd r
 text_one Image bytes report_read u r s = absurd r
 text_one Image bytes (extension_read x) u r s = absurd r
 text_one Image bytes (source_read x) u r s = absurd r
 text_one Image bytes (sheet_read x) u r s = absurd r
 text_one Image bytes (waits_read x) u r s = absurd r
+text_one Image bytes (lines_read x) u r s = absurd r
 text_one Report bytes report_read report_read r s = refl
 text_one Report bytes report_read (image_read i) r s = absurd s
 text_one Report bytes report_read (number_read n) r s = absurd s
@@ -101,12 +117,14 @@ text_one Report bytes report_read (extension_read y) r s = absurd s
 text_one Report bytes report_read (source_read y) r s = absurd s
 text_one Report bytes report_read (sheet_read y) r s = absurd s
 text_one Report bytes report_read (waits_read y) r s = absurd s
+text_one Report bytes report_read (lines_read y) r s = absurd s
 text_one Report bytes (number_read n) u r s = absurd r
 text_one Report bytes (image_read i) u r s = absurd r
 text_one Report bytes (extension_read x) u r s = absurd r
 text_one Report bytes (source_read x) u r s = absurd r
 text_one Report bytes (sheet_read x) u r s = absurd r
 text_one Report bytes (waits_read x) u r s = absurd r
+text_one Report bytes (lines_read x) u r s = absurd r
 text_one Extension bytes (extension_read x) (extension_read y) r s = ap (λ z. extension_read z) (same_extension bytes x y r s)
 text_one Extension bytes (extension_read x) (image_read i) r s = absurd s
 text_one Extension bytes (extension_read x) (number_read n) r s = absurd s
@@ -114,12 +132,14 @@ text_one Extension bytes (extension_read x) report_read r s = absurd s
 text_one Extension bytes (extension_read x) (source_read y) r s = absurd s
 text_one Extension bytes (extension_read x) (sheet_read y) r s = absurd s
 text_one Extension bytes (extension_read x) (waits_read y) r s = absurd s
+text_one Extension bytes (extension_read x) (lines_read y) r s = absurd s
 text_one Extension bytes (image_read i) u r s = absurd r
 text_one Extension bytes (number_read n) u r s = absurd r
 text_one Extension bytes report_read u r s = absurd r
 text_one Extension bytes (source_read x) u r s = absurd r
 text_one Extension bytes (sheet_read x) u r s = absurd r
 text_one Extension bytes (waits_read x) u r s = absurd r
+text_one Extension bytes (lines_read x) u r s = absurd r
 text_one source_kind bytes (source_read x) (source_read y) r s = ap (λ z. source_read z) (r ∙ sym s)
 text_one source_kind bytes (source_read x) (image_read i) r s = absurd s
 text_one source_kind bytes (source_read x) (number_read n) r s = absurd s
@@ -127,18 +147,21 @@ text_one source_kind bytes (source_read x) report_read r s = absurd s
 text_one source_kind bytes (source_read x) (extension_read y) r s = absurd s
 text_one source_kind bytes (source_read x) (sheet_read y) r s = absurd s
 text_one source_kind bytes (source_read x) (waits_read y) r s = absurd s
+text_one source_kind bytes (source_read x) (lines_read y) r s = absurd s
 text_one source_kind bytes (image_read i) u r s = absurd r
 text_one source_kind bytes (number_read n) u r s = absurd r
 text_one source_kind bytes report_read u r s = absurd r
 text_one source_kind bytes (extension_read x) u r s = absurd r
 text_one source_kind bytes (sheet_read x) u r s = absurd r
 text_one source_kind bytes (waits_read x) u r s = absurd r
+text_one source_kind bytes (lines_read x) u r s = absurd r
 text_one Sheet bytes (sheet_read x) (sheet_read y) r s = ap (λ z. sheet_read z) (one_sheet bytes x y r s)
 text_one Sheet bytes (sheet_read x) (image_read i) r s = absurd s
 text_one Sheet bytes (sheet_read x) (number_read n) r s = absurd s
 text_one Sheet bytes (sheet_read x) report_read r s = absurd s
 text_one Sheet bytes (sheet_read x) (extension_read y) r s = absurd s
 text_one Sheet bytes (sheet_read x) (waits_read y) r s = absurd s
+text_one Sheet bytes (sheet_read x) (lines_read y) r s = absurd s
 text_one Sheet bytes (sheet_read x) (source_read y) r s = absurd s
 text_one Sheet bytes (image_read i) u r s = absurd r
 text_one Sheet bytes (number_read n) u r s = absurd r
@@ -146,6 +169,7 @@ text_one Sheet bytes report_read u r s = absurd r
 text_one Sheet bytes (extension_read x) u r s = absurd r
 text_one Sheet bytes (source_read x) u r s = absurd r
 text_one Sheet bytes (waits_read x) u r s = absurd r
+text_one Sheet bytes (lines_read x) u r s = absurd r
 text_one Waits bytes (waits_read x) (waits_read y) r s = ap (λ z. waits_read z) (one_text bytes x y r s)
 text_one Waits bytes (waits_read x) (image_read y) r s = absurd s
 text_one Waits bytes (waits_read x) (number_read y) r s = absurd s
@@ -153,12 +177,29 @@ text_one Waits bytes (waits_read x) report_read r s = absurd s
 text_one Waits bytes (waits_read x) (extension_read y) r s = absurd s
 text_one Waits bytes (waits_read x) (sheet_read y) r s = absurd s
 text_one Waits bytes (waits_read x) (source_read y) r s = absurd s
+text_one Waits bytes (waits_read x) (lines_read y) r s = absurd s
 text_one Waits bytes (image_read x) u r s = absurd r
 text_one Waits bytes (number_read x) u r s = absurd r
 text_one Waits bytes report_read u r s = absurd r
 text_one Waits bytes (extension_read x) u r s = absurd r
 text_one Waits bytes (sheet_read x) u r s = absurd r
 text_one Waits bytes (source_read x) u r s = absurd r
+text_one Waits bytes (lines_read x) u r s = absurd r
+text_one Lines bytes (lines_read x) (lines_read y) r s = ap (λ z. lines_read z) (one_lines_text bytes x y r s)
+text_one Lines bytes (lines_read x) (image_read y) r s = absurd s
+text_one Lines bytes (lines_read x) (number_read y) r s = absurd s
+text_one Lines bytes (lines_read x) report_read r s = absurd s
+text_one Lines bytes (lines_read x) (extension_read y) r s = absurd s
+text_one Lines bytes (lines_read x) (sheet_read y) r s = absurd s
+text_one Lines bytes (lines_read x) (source_read y) r s = absurd s
+text_one Lines bytes (lines_read x) (waits_read y) r s = absurd s
+text_one Lines bytes (image_read x) u r s = absurd r
+text_one Lines bytes (number_read x) u r s = absurd r
+text_one Lines bytes report_read u r s = absurd r
+text_one Lines bytes (extension_read x) u r s = absurd r
+text_one Lines bytes (sheet_read x) u r s = absurd r
+text_one Lines bytes (source_read x) u r s = absurd r
+text_one Lines bytes (waits_read x) u r s = absurd r
 
 -- ---- a told file has one text
 same_file : (files : Option NamedFiles) (name a b : List ℕ) → files ≢ None → IsFile files name a → IsFile files name b → a ≡ b
@@ -278,6 +319,13 @@ run_apart form x sheet others b e some out refused =
     subst (λ y. IsRefusedSchedule y out.runs.design.sheet e) (same.0 ∙ sym out.runs.extension_is) (subst (λ d. IsRefusedSchedule x d e) (same.1 ∙ sym out.runs.sheet_is) refused) in
     design_not_refused out.runs.design e some out.runs.stands there
 
+interrupted_apart : (x : ExtensionTree) (sheet : Datasheet) (others : List Reading) (b : List ℕ) (e : TextErr) → e ≢ T.Memory → IsInterruptedOutput (extension_read x ∷ sheet_read sheet ∷ others) b → IsRefusedSchedule x sheet e → ⊥
+interrupted_apart x sheet others b e some out refused =
+    let same : (x ≡ out.extension) × (sheet ≡ out.sheet) = (let v = out.values_are in cc, let v = out.values_are in cc) in
+    let there : IsRefusedSchedule (view_extension out.runs.design.extension) out.runs.design.sheet e =
+    subst (λ y. IsRefusedSchedule y out.runs.design.sheet e) (same.0 ∙ sym out.runs.extension_is) (subst (λ d. IsRefusedSchedule x d e) (same.1 ∙ sym out.runs.sheet_is) refused) in
+    design_not_refused out.runs.design e some out.runs.stands there
+
 bench_apart : (x : ExtensionTree) (sheet : Datasheet) (others : List Reading) (b : List ℕ) (e : TextErr) → e ≢ T.Memory → IsBenchOutput (extension_read x ∷ sheet_read sheet ∷ others) b → IsRefusedSchedule x sheet e → ⊥
 bench_apart x sheet others b e some out refused =
     let same : (x ≡ out.extension) × (sheet ≡ out.sheet) = (let v = out.values_are in cc, let v = out.values_are in cc) in
@@ -292,6 +340,7 @@ sheet_apart Build x sheet [] b e h some out refused = modules_not_refused x shee
 sheet_apart Build x sheet (v ∷ vs) b e h some out refused = out
 sheet_apart RunExtension x sheet others b e h some out refused = run_apart Rows x sheet others b e some out refused
 sheet_apart Wave x sheet others b e h some out refused = run_apart Ports x sheet others b e some out refused
+sheet_apart RunInterrupted x sheet others b e h some out refused = interrupted_apart x sheet others b e some out refused
 sheet_apart Bench x sheet others b e h some out refused = bench_apart x sheet others b e some out refused
 sheet_apart RunImage x sheet others b e h some out refused = h
 sheet_apart Check x sheet others b e h some out refused = h

@@ -8,7 +8,7 @@ use Rattle.ix_io.specs.Shelf.{NamedFiles, told_file}
 use Rattle.ix_io.specs.Sink.{Appends}
 use Rattle.ix_cert.proofs.Verdicts.{faultless_certified}
 use Rattle.ix_words.specs.declared.command.Command.{Command}
-use Rattle.ix_words.specs.declared.command.Command.TheVariants.{RunImage, Check, Certify, Schedule, Build, Sweep, Seq, Assemble, RunExtension, Bench, Wave}
+use Rattle.ix_words.specs.declared.command.Command.TheVariants.{RunImage, Check, Certify, Schedule, Build, Sweep, Seq, Assemble, RunExtension, Bench, Wave, RunInterrupted}
 use Rattle.ix_words.specs.Readings.{Reading, extension_read, source_read}
 use Rattle.ix_listing.specs.Listing.{listing_text}
 use Rattle.rv_text.specs.RunText.{run_text}
@@ -17,11 +17,12 @@ use Rattle.ix_words.specs.CommandLine.{word_of, command_of, commands, first_comm
 use Rattle.rv_asm.specs.ImageText.{IsImageText}
 use Rattle.rv_machine.specs.Promises.{TextLaw}
 use Rattle.ix_tool.proofs.ImageWords.{words_of_text}
+use Rattle.ix_tool.proofs.Handlers.{at_sixteen}
 use Rattle.ix_words.specs.WordsRead.{IsFile, AreRead}
 use Rattle.ix_tool.specs.CommandOutput.{IsRunOutput, IsLawfulPlainRun, IsOutput, OutputAnswer, RunAnswer, ListedAnswer, CertifiedAnswer, SteppedAnswer, AssembledAnswer, ScheduledAnswer, image_of_run, told_of}
 use Rattle.ix_schedules.specs.ScheduleText.{IsScheduleText}
 use Rattle.ix_tool.proofs.Due.{both, one}
-use Rattle.ix_tool.proofs.Taking.{run_read, report_is_read, extension_is_read, source_is_read, schedule_is_read, seq_read, pipeline_read, bench_read}
+use Rattle.ix_tool.proofs.Taking.{run_read, report_is_read, extension_is_read, source_is_read, schedule_is_read, seq_read, pipeline_read, interrupted_read, bench_read}
 
 -- ---- the words of a command
 found_at : (c : Command) (rest : List Command) (words : List (List ℕ)) (command : Command) (b : Bool) → is_command c words ≡ b → (if b then Some c else first_command rest words) ≡ Some command → (first_command rest words ≡ Some command → is_command command words ≡ true) → is_command command words ≡ true
@@ -67,7 +68,7 @@ four_no_other : (words : List (List ℕ)) (a b c : List ℕ) → is_command Seq 
 four_no_other [] a b c is e = absurd (true≢false (sym is))
 four_no_other (word ∷ rest) a b c is e = (ap (λ r. run_of (word ∷ r)) e, ap (λ r. extension_of (word ∷ r)) e, ap (λ r. report_of (word ∷ r)) e)
 
--- and five or six are none of all these
+-- and five, six or seven are none of all these
 pub record AreNoOther (words : List (List ℕ)) : Type 0 where
   pub run : run_of words ≡ None
   pub extension : extension_of words ≡ None
@@ -116,6 +117,25 @@ pipeline_no_other files words vs command is read =
     let r = pipeline_read files (behind words) vs read in
     six_no_other words r.name r.other r.third r.fourth r.number command is r.words
 
+seven_no_other : (words : List (List ℕ)) (a b c d e f : List ℕ) → is_command RunInterrupted words ≡ true → behind words ≡ a ∷ b ∷ c ∷ d ∷ e ∷ f ∷ [] → AreNoOther words
+seven_no_other [] a b c d e f is h = absurd (true≢false (sym is))
+seven_no_other (word ∷ rest) a b c d e f is h =
+    record {
+      run = ap (λ r. run_of (word ∷ r)) h;
+      extension = ap (λ r. extension_of (word ∷ r)) h;
+      report = ap (λ r. report_of (word ∷ r)) h;
+      seq = ap (λ r. seq_of (word ∷ r)) h;
+      source = ap (λ r. source_of (word ∷ r)) h;
+      schedule = ap (λ r. schedule_of (word ∷ r)) h;
+      build = ap (λ r. build_of (word ∷ r)) h;
+      sweep = ap (λ r. sweep_of (word ∷ r)) h;
+    }
+
+pub interrupted_no_other : (files : Option NamedFiles) (words : List (List ℕ)) (vs : List Reading) → is_command RunInterrupted words ≡ true → AreRead files (slots_of RunInterrupted) (behind words) vs → AreNoOther words
+interrupted_no_other files words vs is read =
+    let r = interrupted_read files (behind words) vs read in
+    seven_no_other words r.name r.other r.third r.fourth r.fifth r.number is r.words
+
 -- fewer words are no sequential run
 one_no_seq : (words : List (List ℕ)) (name : List ℕ) (command : Command) → is_command command words ≡ true → behind words ≡ name ∷ [] → seq_of words ≡ None
 one_no_seq [] name command is e = absurd (true≢false (sym is))
@@ -155,7 +175,7 @@ plain_lawful law program image cycles text read h =
     record {
       design = h.design;
       plain = h.plain;
-      runs = law h.design image [] cycles text (record { stands = h.plain.stands; words = words_of_text program image read }) h.runs;
+      runs = law h.design image [] None cycles text (record { stands = h.plain.stands; handler = at_sixteen h.design.sheet.shape h.plain.shape.trap_is; words = words_of_text program image read }) h.runs;
     }
 
 headline_of : TextLaw → (files : Option NamedFiles) (words : List (List ℕ)) (before now : Option (List ℕ)) (command : Command) (vs : List Reading) (text : List ℕ) → is_command command words ≡ true → AreRead files (slots_of command) (behind words) vs → IsOutput command vs text → Appends before now text
@@ -183,6 +203,7 @@ headline_of law files words before now Seq vs text is read out a told =
     absurd (told (ap (λ o. image_of_run files o) (four_no_other words r.name r.other r.number is r.words).0))
 headline_of law files words before now RunExtension vs text is read out a told = absurd (told (ap (λ o. image_of_run files o) (pipeline_no_other files words vs RunExtension is read).run))
 headline_of law files words before now Wave vs text is read out a told = absurd (told (ap (λ o. image_of_run files o) (pipeline_no_other files words vs Wave is read).run))
+headline_of law files words before now RunInterrupted vs text is read out a told = absurd (told (ap (λ o. image_of_run files o) (interrupted_no_other files words vs is read).run))
 headline_of law files words before now Bench vs text is read out a told = absurd (told (ap (λ o. image_of_run files o) (bench_no_other files words vs is read).run))
 headline_of law files words before now RunImage vs text is read out a told =
     let r = run_read files (behind words) vs read in
@@ -241,6 +262,7 @@ certified_of files words before now Seq vs text report is read out a e =
     absurd (both (report_of words) report e (four_no_other words r.name r.other r.number is r.words).2)
 certified_of files words before now RunExtension vs text report is read out a e = absurd (both (report_of words) report e (pipeline_no_other files words vs RunExtension is read).report)
 certified_of files words before now Wave vs text report is read out a e = absurd (both (report_of words) report e (pipeline_no_other files words vs Wave is read).report)
+certified_of files words before now RunInterrupted vs text report is read out a e = absurd (both (report_of words) report e (interrupted_no_other files words vs is read).report)
 certified_of files words before now Bench vs text report is read out a e = absurd (both (report_of words) report e (bench_no_other files words vs is read).report)
 certified_of files words before now Certify vs text report is read out a e =
     let r = report_is_read files (behind words) vs read in
@@ -297,6 +319,7 @@ listed_of files words before now Seq vs text name is read out a e =
     absurd (both (extension_of words) name e (four_no_other words r.name r.other r.number is r.words).1)
 listed_of files words before now RunExtension vs text name is read out a e = absurd (both (extension_of words) name e (pipeline_no_other files words vs RunExtension is read).extension)
 listed_of files words before now Wave vs text name is read out a e = absurd (both (extension_of words) name e (pipeline_no_other files words vs Wave is read).extension)
+listed_of files words before now RunInterrupted vs text name is read out a e = absurd (both (extension_of words) name e (interrupted_no_other files words vs is read).extension)
 listed_of files words before now Bench vs text name is read out a e = absurd (both (extension_of words) name e (bench_no_other files words vs is read).extension)
 listed_of files words before now Check vs text name is read out a e =
     let r = extension_is_read files (behind words) vs read in
@@ -348,6 +371,7 @@ stepped_of files words before now Sweep vs text asked is read out a e =
     absurd (both (seq_of words) asked e (two_no_seq words r.name r.other Sweep is r.words))
 stepped_of files words before now RunExtension vs text asked is read out a e = absurd (both (seq_of words) asked e (pipeline_no_other files words vs RunExtension is read).seq)
 stepped_of files words before now Wave vs text asked is read out a e = absurd (both (seq_of words) asked e (pipeline_no_other files words vs Wave is read).seq)
+stepped_of files words before now RunInterrupted vs text asked is read out a e = absurd (both (seq_of words) asked e (interrupted_no_other files words vs is read).seq)
 stepped_of files words before now Bench vs text asked is read out a e = absurd (both (seq_of words) asked e (bench_no_other files words vs is read).seq)
 stepped_of files words before now Seq vs text asked is read out a e =
     let r = seq_read files (behind words) vs read in
@@ -422,6 +446,7 @@ assembled_of files words before now Seq vs text asked is read out a e =
     absurd (both (source_of words) asked e (three_no_asm words r.name r.other r.number Seq is r.words))
 assembled_of files words before now RunExtension vs text asked is read out a e = absurd (both (source_of words) asked e (pipeline_no_other files words vs RunExtension is read).source)
 assembled_of files words before now Wave vs text asked is read out a e = absurd (both (source_of words) asked e (pipeline_no_other files words vs Wave is read).source)
+assembled_of files words before now RunInterrupted vs text asked is read out a e = absurd (both (source_of words) asked e (interrupted_no_other files words vs is read).source)
 assembled_of files words before now Bench vs text asked is read out a e = absurd (both (source_of words) asked e (bench_no_other files words vs is read).source)
 assembled_of files words before now Assemble vs text asked is read out a e =
     let r = source_is_read files (behind words) vs read in
@@ -494,6 +519,7 @@ scheduled_of files words before now Sweep vs text asked is read out a e =
     absurd (both (schedule_of words) asked e (pair_no_schedule Sweep refl words r.name r.other is r.words))
 scheduled_of files words before now RunExtension vs text asked is read out a e = absurd (both (schedule_of words) asked e (pipeline_no_other files words vs RunExtension is read).schedule)
 scheduled_of files words before now Wave vs text asked is read out a e = absurd (both (schedule_of words) asked e (pipeline_no_other files words vs Wave is read).schedule)
+scheduled_of files words before now RunInterrupted vs text asked is read out a e = absurd (both (schedule_of words) asked e (interrupted_no_other files words vs is read).schedule)
 scheduled_of files words before now Bench vs text asked is read out a e = absurd (both (schedule_of words) asked e (bench_no_other files words vs is read).schedule)
 scheduled_of files words before now Schedule vs text asked is read out a e =
     let r = schedule_is_read files (behind words) vs read in

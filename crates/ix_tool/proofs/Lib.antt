@@ -1,4 +1,5 @@
 mod Answering
+mod Handlers
 mod SheetValues
 pub mod OneSheet
 pub mod Due
@@ -11,6 +12,7 @@ pub mod SweepsShown
 mod ImageWords
 mod PipelineValues
 mod PipelinesShown
+mod InterruptedShown
 mod BenchValues
 mod Summaries
 mod BenchesShown

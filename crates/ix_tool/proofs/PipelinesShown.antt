@@ -4,14 +4,13 @@ use Rattle.std.specs.Prelude.{codes}
 use Rattle.std.specs.Str.{bytes_eq}
 use Rattle.std.proofs.lemmas.Bool.{and_parts, true≢false}
 use Rattle.ix_io.specs.Shelf.{NamedFiles}
-use Rattle.ix_io.specs.Sink.{Appends}
 use Rattle.ix_extension.specs.Extensions.{ExtensionTree}
 use Rattle.ix_sheet.specs.declared.sheet.Sheet.{Sheet}
 use Rattle.ix_listing.proofs.OneExtension.{is_well_formed}
 use Rattle.ix_words.specs.declared.command.Command.{Command}
-use Rattle.ix_words.specs.declared.command.Command.TheVariants.{RunImage, Check, Certify, Schedule, Build, Sweep, Seq, Assemble, RunExtension, Bench, Wave}
+use Rattle.ix_words.specs.declared.command.Command.TheVariants.{RunImage, Check, Certify, Schedule, Build, Sweep, Seq, Assemble, RunExtension, Bench, Wave, RunInterrupted}
 use Rattle.ix_words.specs.declared.command.RunForm.{RunForm}
-use Rattle.ix_words.specs.declared.command.RunForm.TheVariants.{Rows, Ports}
+use Rattle.ix_words.specs.declared.command.RunForm.TheVariants.{Rows, Interrupted, Ports}
 use Rattle.ix_words.specs.Readings.{Reading, extension_read, sheet_read, image_read, waits_read, number_read}
 use Rattle.ix_words.specs.CommandLine.{word_of, is_command, slots_of, behind, number_within, PipelineCommand, pipeline_command, run_by, pipeline_of, wave_of}
 use Rattle.ix_elab.specs.Elaborating.{Elaborates}
@@ -19,14 +18,15 @@ use Rattle.ix_extension.specs.WellFormed.{IsOf}
 use Rattle.ix_tree.specs.TypedTrees.{TypedTextTree}
 use Rattle.rv_asm.specs.ImageText.{IsImageText}
 use Rattle.rv_asm.specs.WaitsText.{IsWaitsText}
-use Rattle.rv_machine.specs.Promises.{TextLaw}
+use Rattle.rv_machine.specs.Promises.{IsRunnable, TextLaw}
 use Rattle.rv_wave.specs.Waves.{WaveLaw}
 use Rattle.ix_words.specs.WordsRead.{AreRead, IsFile, IsSheetRead}
-use Rattle.ix_tool.specs.CommandOutput.{command_in, IsExtensionRun, IsLawfulRun, IsLawfulWaveRun, IsPipelineOutput, IsOutput, OutputAnswer, PipelineAnswer, WaveAnswer}
+use Rattle.ix_tool.specs.CommandOutput.{command_in, HasLines, IsExtensionRun, IsPipelineOutput, IsOutput, OutputAnswer, PipelineAnswer, WaveAnswer}
 use Rattle.ix_tool.proofs.ImageWords.{words_of_text}
+use Rattle.ix_tool.proofs.Handlers.{handler_of}
 use Rattle.ix_tool.proofs.Due.{both, one}
 use Rattle.ix_tool.proofs.Headlines.{is_of, not_its_word}
-use Rattle.ix_tool.proofs.Taking.{run_read, extension_is_read, report_is_read, source_is_read, schedule_is_read, seq_read, pipeline_read, bench_read}
+use Rattle.ix_tool.proofs.Taking.{run_read, extension_is_read, report_is_read, source_is_read, schedule_is_read, seq_read, pipeline_read, interrupted_read, bench_read}
 
 -- ---- the words
 abbrev asked_by : List ℕ → List ℕ → List ℕ → List ℕ → ℕ → PipelineCommand
@@ -40,7 +40,7 @@ run_words_are by (word ∷ rest) a b c d e n command is h w k =
     ap (λ r. run_by (word_of by) (word ∷ r)) h ∙ ap (λ m. pipeline_command (bytes_eq word (word_of by)) a b c d m) w ∙ ap (λ p. pipeline_command p a b c d (Some n)) first in
     one (run_by (word_of by) (word ∷ rest)) (asked_by a b c d n) command named k
 
--- fewer words are no such run
+-- fewer words are no such run, nor are more
 two_no_run : (by : List ℕ) (words : List (List ℕ)) (a : List ℕ) (command : Command) → is_command command words ≡ true → behind words ≡ a ∷ [] → run_by by words ≡ None
 two_no_run by [] a command is e = absurd (true≢false (sym is))
 two_no_run by (word ∷ rest) a command is e = ap (λ r. run_by by (word ∷ r)) e
@@ -56,6 +56,10 @@ four_no_run by (word ∷ rest) a b c command is e = ap (λ r. run_by by (word �
 five_no_run : (by : List ℕ) (words : List (List ℕ)) (a b c d : List ℕ) (command : Command) → is_command command words ≡ true → behind words ≡ a ∷ b ∷ c ∷ d ∷ [] → run_by by words ≡ None
 five_no_run by [] a b c d command is e = absurd (true≢false (sym is))
 five_no_run by (word ∷ rest) a b c d command is e = ap (λ r. run_by by (word ∷ r)) e
+
+seven_no_run : (by : List ℕ) (words : List (List ℕ)) (a b c d e f : List ℕ) (command : Command) → is_command command words ≡ true → behind words ≡ a ∷ b ∷ c ∷ d ∷ e ∷ f ∷ [] → run_by by words ≡ None
+seven_no_run by [] a b c d e f command is h = absurd (true≢false (sym is))
+seven_no_run by (word ∷ rest) a b c d e f command is h = ap (λ r. run_by by (word ∷ r)) h
 
 -- nor are as many behind another word
 none_run : (t : Bool) (a b c d : List ℕ) (o : Option ℕ) → t ≡ false → pipeline_command t a b c d o ≡ None
@@ -89,20 +93,20 @@ record IsRunRead (form : RunForm) (files : Option NamedFiles) (command : Pipelin
   image_is : IsImageText program image
   waits_file : IsFile files command.waits waits_bytes
   waits_are : IsWaitsText waits_bytes waits
-  runs : IsExtensionRun form extension sheet image waits command.cycles text
+  runs : IsExtensionRun form extension sheet image waits None command.cycles text
 
 -- the run of these values is that of others with the same parts
 run_of_parts : (form : RunForm) (x y : ExtensionTree) (s t : Sheet) (i j w v : List ℕ) (n m : ℕ) (text : List ℕ)
     → extension_read x ∷ sheet_read s ∷ image_read i ∷ waits_read w ∷ number_read n ∷ [] ≡ extension_read y ∷ sheet_read t ∷ image_read j ∷ waits_read v ∷ number_read m ∷ []
-    → IsExtensionRun form y t j v m text → IsExtensionRun form x s i w n text
+    → IsExtensionRun form y t j v None m text → IsExtensionRun form x s i w None n text
 run_of_parts form x y s t i j w v n m text e h =
     let a : x ≡ y = cc in
     let b : s ≡ t = cc in
     let c : i ≡ j = cc in
     let d : w ≡ v = cc in
     let f : n ≡ m = cc in
-    subst (λ z. IsExtensionRun form z s i w n text) (sym a)
-    (subst (λ z. IsExtensionRun form y z i w n text) (sym b) (subst (λ z. IsExtensionRun form y t z w n text) (sym c) (subst (λ z. IsExtensionRun form y t j z n text) (sym d) (subst (λ z. IsExtensionRun form y t j v z text) (sym f) h))))
+    subst (λ z. IsExtensionRun form z s i w None n text) (sym a)
+    (subst (λ z. IsExtensionRun form y z i w None n text) (sym b) (subst (λ z. IsExtensionRun form y t z w None n text) (sym c) (subst (λ z. IsExtensionRun form y t j z None n text) (sym d) (subst (λ z. IsExtensionRun form y t j v None z text) (sym f) h))))
 
 run_read_of : (form : RunForm) (files : Option NamedFiles) (words : List (List ℕ)) (vs : List Reading) (text : List ℕ) (asked : PipelineCommand) → is_command (command_in form) words ≡ true → AreRead files (slots_of RunExtension) (behind words) vs → IsPipelineOutput form vs text
     → run_by (word_of (command_in form)) words ≡ Some asked → IsRunRead form files asked text
@@ -130,51 +134,60 @@ run_read_of form files words vs text asked is read there e =
       runs = run_of_parts form r.extension there.extension r.sheet there.sheet r.image there.image r.waits there.waits r.cycles there.cycles text (sym r.values ∙ there.values_are) there.runs;
     })
 
-found_of : (form : RunForm) (files : Option NamedFiles) (words : List (List ℕ)) (command : Command) (vs : List Reading) (text : List ℕ) (asked : PipelineCommand) → is_command command words ≡ true → AreRead files (slots_of command) (behind words) vs → IsOutput command vs text
+found_of : (form : RunForm) → HasLines form None → (files : Option NamedFiles) (words : List (List ℕ)) (command : Command) (vs : List Reading) (text : List ℕ) (asked : PipelineCommand) → is_command command words ≡ true → AreRead files (slots_of command) (behind words) vs → IsOutput command vs text
     → run_by (word_of (command_in form)) words ≡ Some asked → IsRunRead form files asked text
-found_of form files words RunImage vs text asked is read out e =
+found_of form without files words RunImage vs text asked is read out e =
     let r = run_read files (behind words) vs read in
     absurd (both (run_by (word_of (command_in form)) words) asked e (three_no_run (word_of (command_in form)) words r.name r.number RunImage is r.words))
-found_of form files words Check vs text asked is read out e =
+found_of form without files words Check vs text asked is read out e =
     let r = extension_is_read files (behind words) vs read in
     absurd (both (run_by (word_of (command_in form)) words) asked e (two_no_run (word_of (command_in form)) words r.name Check is r.words))
-found_of form files words Certify vs text asked is read out e =
+found_of form without files words Certify vs text asked is read out e =
     let r = report_is_read files (behind words) vs read in
     absurd (both (run_by (word_of (command_in form)) words) asked e (two_no_run (word_of (command_in form)) words r.name Certify is r.words))
-found_of form files words Seq vs text asked is read out e =
+found_of form without files words Seq vs text asked is read out e =
     let r = seq_read files (behind words) vs read in
     absurd (both (run_by (word_of (command_in form)) words) asked e (four_no_run (word_of (command_in form)) words r.name r.other r.number Seq is r.words))
-found_of form files words Assemble vs text asked is read out e =
+found_of form without files words Assemble vs text asked is read out e =
     let r = source_is_read files (behind words) vs read in
     absurd (both (run_by (word_of (command_in form)) words) asked e (three_no_run (word_of (command_in form)) words r.name r.other Assemble is r.words))
-found_of form files words Schedule vs text asked is read out e =
+found_of form without files words Schedule vs text asked is read out e =
     let r = schedule_is_read files (behind words) vs read in
     absurd (both (run_by (word_of (command_in form)) words) asked e (three_no_run (word_of (command_in form)) words r.name r.other Schedule is r.words))
-found_of form files words Build vs text asked is read out e =
+found_of form without files words Build vs text asked is read out e =
     let r = schedule_is_read files (behind words) vs read in
     absurd (both (run_by (word_of (command_in form)) words) asked e (three_no_run (word_of (command_in form)) words r.name r.other Build is r.words))
-found_of form files words Sweep vs text asked is read out e =
+found_of form without files words Sweep vs text asked is read out e =
     let r = schedule_is_read files (behind words) vs read in
     absurd (both (run_by (word_of (command_in form)) words) asked e (three_no_run (word_of (command_in form)) words r.name r.other Sweep is r.words))
-found_of form files words Bench vs text asked is read out e =
+found_of form without files words Bench vs text asked is read out e =
     let r = bench_read files (behind words) vs read in
     absurd (both (run_by (word_of (command_in form)) words) asked e (five_no_run (word_of (command_in form)) words r.name r.other r.third r.fourth Bench is r.words))
-found_of Rows files words RunExtension vs text asked is read out e = run_read_of Rows files words vs text asked is read out e
-found_of Ports files words RunExtension vs text asked is read out e =
+found_of Rows without files words RunExtension vs text asked is read out e = run_read_of Rows files words vs text asked is read out e
+found_of Ports without files words RunExtension vs text asked is read out e =
     let r = pipeline_read files (behind words) vs read in
     absurd (both (run_by (codes "wave") words) asked e (six_no_run (codes "wave") RunExtension refl words r.name r.other r.third r.fourth r.number is r.words))
-found_of Rows files words Wave vs text asked is read out e =
+found_of Interrupted without files words RunExtension vs text asked is read out e = absurd without
+found_of Interrupted without files words Wave vs text asked is read out e = absurd without
+found_of Rows without files words Wave vs text asked is read out e =
     let r = pipeline_read files (behind words) vs read in
     absurd (both (run_by (codes "run") words) asked e (six_no_run (codes "run") Wave refl words r.name r.other r.third r.fourth r.number is r.words))
-found_of Ports files words Wave vs text asked is read out e = run_read_of Ports files words vs text asked is read out e
+found_of Ports without files words Wave vs text asked is read out e = run_read_of Ports files words vs text asked is read out e
+found_of form without files words RunInterrupted vs text asked is read out e =
+    let r = interrupted_read files (behind words) vs read in
+    absurd (both (run_by (word_of (command_in form)) words) asked e (seven_no_run (word_of (command_in form)) words r.name r.other r.third r.fourth r.fifth r.number RunInterrupted is r.words))
 
-found : (form : RunForm) (files : Option NamedFiles) (words : List (List ℕ)) (before now : Option (List ℕ)) → (o : OutputAnswer files words before now) → (asked : PipelineCommand) → run_by (word_of (command_in form)) words ≡ Some asked → IsRunRead form files asked o.text
-found form files words before now o asked e = found_of form files words o.command o.values o.text asked (is_of words o.command o.command_is) o.read o.output e
+found : (form : RunForm) → HasLines form None → (files : Option NamedFiles) (words : List (List ℕ)) (before now : Option (List ℕ)) → (o : OutputAnswer files words before now) → (asked : PipelineCommand) → run_by (word_of (command_in form)) words ≡ Some asked → IsRunRead form files asked o.text
+found form without files words before now o asked e = found_of form without files words o.command o.values o.text asked (is_of words o.command o.command_is) o.read o.output e
+
+-- it can be run
+runnable : {form : RunForm} {files : Option NamedFiles} {command : PipelineCommand} {text : List ℕ} → (r : IsRunRead form files command text) → IsRunnable r.runs.design r.image
+runnable r = record { stands = r.runs.stands; handler = handler_of r.runs.design r.sheet_bytes r.sheet r.runs.sheet_is r.sheet_is.sheet_is; words = words_of_text r.program r.image r.image_is }
 
 -- ---- its rows are lawful
 pub pipelined : TextLaw → (files : Option NamedFiles) (words : List (List ℕ)) (before now : Option (List ℕ)) → OutputAnswer files words before now → (asked : PipelineCommand) → pipeline_of words ≡ Some asked → PipelineAnswer files asked before now
 pipelined law files words before now o asked e =
-    let r = found Rows files words before now o asked e in
+    let r = found Rows tt files words before now o asked e in
     record {
       bytes = r.bytes;
       extension = r.extension;
@@ -199,14 +212,14 @@ pipelined law files words before now o asked e =
         stands = r.runs.stands;
         extension_is = r.runs.extension_is;
         sheet_is = r.runs.sheet_is;
-        runs = law r.runs.design r.image r.waits asked.cycles o.text (record { stands = r.runs.stands; words = words_of_text r.program r.image r.image_is }) r.runs.runs;
+        runs = law r.runs.design r.image r.waits None asked.cycles o.text (runnable r) r.runs.runs;
       };
       written = o.written;
     }
 
 pub waved : WaveLaw → (files : Option NamedFiles) (words : List (List ℕ)) (before now : Option (List ℕ)) → OutputAnswer files words before now → (asked : PipelineCommand) → wave_of words ≡ Some asked → WaveAnswer files asked before now
 waved law files words before now o asked e =
-    let r = found Ports files words before now o asked e in
+    let r = found Ports tt files words before now o asked e in
     record {
       bytes = r.bytes;
       extension = r.extension;
@@ -231,7 +244,7 @@ waved law files words before now o asked e =
         stands = r.runs.stands;
         extension_is = r.runs.extension_is;
         sheet_is = r.runs.sheet_is;
-        runs = law r.runs.design r.image r.waits asked.cycles o.text (record { stands = r.runs.stands; words = words_of_text r.program r.image r.image_is }) r.runs.runs;
+        runs = law r.runs.design r.image r.waits asked.cycles o.text (runnable r) r.runs.runs;
       };
       written = o.written;
     }

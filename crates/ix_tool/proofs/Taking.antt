@@ -6,17 +6,18 @@ use Rattle.std.proofs.lemmas.Bool.{leb-true}
 use Rattle.ix_io.specs.Shelf.{NamedFiles}
 use Rattle.ix_cert.specs.Certificates.{IsFaultless}
 use Rattle.ix_words.specs.declared.command.Command.{Command}
-use Rattle.ix_words.specs.declared.command.Command.TheVariants.{RunImage, Check, Certify, Schedule, Build, Sweep, Seq, Assemble, RunExtension, Bench, Wave}
-use Rattle.ix_words.specs.declared.command.FileKind.TheVariants.{Image, Report, Extension, Sheet, Source as source_kind, Waits}
-use Rattle.ix_words.specs.Readings.{Reading, number_read, image_read, report_read, extension_read, sheet_read, source_read, waits_read}
+use Rattle.ix_words.specs.declared.command.Command.TheVariants.{RunImage, Check, Certify, Schedule, Build, Sweep, Seq, Assemble, RunExtension, Bench, Wave, RunInterrupted}
+use Rattle.ix_words.specs.declared.command.FileKind.TheVariants.{Image, Report, Extension, Sheet, Source as source_kind, Waits, Lines}
+use Rattle.ix_words.specs.Readings.{Reading, number_read, image_read, report_read, extension_read, sheet_read, source_read, waits_read, lines_read}
 use Rattle.rv_asm.specs.ImageText.{IsImageText}
 use Rattle.rv_asm.specs.WaitsText.{IsWaitsText}
+use Rattle.rv_asm.specs.LinesText.{IsLinesText}
 use Rattle.ix_extension.specs.Extensions.{ExtensionTree}
 use Rattle.ix_elab.specs.Elaborating.{Elaborates}
 use Rattle.ix_listing.proofs.OneExtension.{is_well_formed}
 use Rattle.ix_words.specs.CommandLine.{slots_of, number_of, at_most, number_within, most_number, most_drawn}
 use Rattle.ix_words.specs.WordsRead.{IsReadAs, IsFile, AreRead, IsSheetRead}
-use Rattle.ix_tool.specs.CommandOutput.{TakesSheet, TakesPipeline, TakesBench, Takes}
+use Rattle.ix_tool.specs.CommandOutput.{TakesSheet, TakesPipeline, TakesInterrupted, TakesBench, Takes}
 use Rattle.ix_sheet.specs.declared.sheet.Sheet.{Sheet as Datasheet}
 use Rattle.ix_schedules.proofs.Named.{names_are}
 
@@ -29,6 +30,7 @@ image_of bytes (extension_read x) r = absurd r
 image_of bytes (source_read x) r = absurd r
 image_of bytes (sheet_read x) r = absurd r
 image_of bytes (waits_read x) r = absurd r
+image_of bytes (lines_read x) r = absurd r
 
 report_in : (bytes : List ℕ) (v : Reading) → IsReadAs Report bytes v → (v ≡ report_read) × IsFaultless bytes
 report_in bytes report_read r = (refl, r)
@@ -38,6 +40,7 @@ report_in bytes (extension_read x) r = absurd r
 report_in bytes (source_read x) r = absurd r
 report_in bytes (sheet_read x) r = absurd r
 report_in bytes (waits_read x) r = absurd r
+report_in bytes (lines_read x) r = absurd r
 
 extension_in : (bytes : List ℕ) (v : Reading) → IsReadAs Extension bytes v → (x : ExtensionTree) × (v ≡ extension_read x) × Elaborates bytes x
 extension_in bytes (extension_read x) r = (x, refl, r)
@@ -47,6 +50,7 @@ extension_in bytes report_read r = absurd r
 extension_in bytes (source_read x) r = absurd r
 extension_in bytes (sheet_read x) r = absurd r
 extension_in bytes (waits_read x) r = absurd r
+extension_in bytes (lines_read x) r = absurd r
 
 source_in : (bytes : List ℕ) (v : Reading) → IsReadAs source_kind bytes v → v ≡ source_read bytes
 source_in bytes (source_read text) r = ap (λ t. source_read t) r
@@ -56,6 +60,7 @@ source_in bytes report_read r = absurd r
 source_in bytes (extension_read x) r = absurd r
 source_in bytes (sheet_read x) r = absurd r
 source_in bytes (waits_read x) r = absurd r
+source_in bytes (lines_read x) r = absurd r
 
 sheet_in : (bytes : List ℕ) (v : Reading) → IsReadAs Sheet bytes v → (sheet : Datasheet) × (v ≡ sheet_read sheet) × IsSheetRead bytes sheet
 sheet_in bytes (sheet_read sheet) r = (sheet, refl, r)
@@ -65,6 +70,7 @@ sheet_in bytes report_read r = absurd r
 sheet_in bytes (extension_read x) r = absurd r
 sheet_in bytes (source_read x) r = absurd r
 sheet_in bytes (waits_read x) r = absurd r
+sheet_in bytes (lines_read x) r = absurd r
 
 waits_in : (bytes : List ℕ) (v : Reading) → IsReadAs Waits bytes v → (waits : List ℕ) × (v ≡ waits_read waits) × IsWaitsText bytes waits
 waits_in bytes (waits_read waits) r = (waits, refl, r)
@@ -74,6 +80,17 @@ waits_in bytes report_read r = absurd r
 waits_in bytes (extension_read x) r = absurd r
 waits_in bytes (sheet_read x) r = absurd r
 waits_in bytes (source_read x) r = absurd r
+waits_in bytes (lines_read x) r = absurd r
+
+lines_in : (bytes : List ℕ) (v : Reading) → IsReadAs Lines bytes v → (lines : List ℕ) × (v ≡ lines_read lines) × IsLinesText bytes lines
+lines_in bytes (lines_read lines) r = (lines, refl, r)
+lines_in bytes (image_read x) r = absurd r
+lines_in bytes (number_read x) r = absurd r
+lines_in bytes report_read r = absurd r
+lines_in bytes (extension_read x) r = absurd r
+lines_in bytes (sheet_read x) r = absurd r
+lines_in bytes (source_read x) r = absurd r
+lines_in bytes (waits_read x) r = absurd r
 
 pub record IsRunRead (files : Option NamedFiles) (rest : List (List ℕ)) (vs : List Reading) : Type 0 where
   pub name : List ℕ
@@ -343,6 +360,99 @@ pipeline_takes files rest vs h =
     let r = pipeline_read files rest vs h in
     subst TakesPipeline (sym r.values) (is_well_formed r.bytes r.extension r.elaborates, names_are r.bytes r.extension r.elaborates, r.sheet_is.valid)
 
+pub record IsInterruptedRead (files : Option NamedFiles) (rest : List (List ℕ)) (vs : List Reading) : Type 0 where
+  pub name : List ℕ
+  pub other : List ℕ
+  pub third : List ℕ
+  pub fourth : List ℕ
+  pub fifth : List ℕ
+  pub number : List ℕ
+  pub bytes : List ℕ
+  pub extension : ExtensionTree
+  pub sheet_bytes : List ℕ
+  pub sheet : Datasheet
+  pub program : List ℕ
+  pub image : List ℕ
+  pub waits_bytes : List ℕ
+  pub waits : List ℕ
+  pub lines_bytes : List ℕ
+  pub lines : List ℕ
+  pub cycles : ℕ
+  pub words : rest ≡ name ∷ other ∷ third ∷ fourth ∷ fifth ∷ number ∷ []
+  pub values : vs ≡ extension_read extension ∷ sheet_read sheet ∷ image_read image ∷ waits_read waits ∷ lines_read lines ∷ number_read cycles ∷ []
+  pub file : IsFile files name bytes
+  pub elaborates : Elaborates bytes extension
+  pub sheet_file : IsFile files other sheet_bytes
+  pub sheet_is : IsSheetRead sheet_bytes sheet
+  pub program_file : IsFile files third program
+  pub text : IsImageText program image
+  pub waits_file : IsFile files fourth waits_bytes
+  pub waits_are : IsWaitsText waits_bytes waits
+  pub lines_file : IsFile files fifth lines_bytes
+  pub lines_are : IsLinesText lines_bytes lines
+  pub within : number_within 200000 number ≡ Some cycles
+
+pub interrupted_read : (files : Option NamedFiles) (rest : List (List ℕ)) (vs : List Reading) → AreRead files (slots_of RunInterrupted) rest vs → IsInterruptedRead files rest vs
+interrupted_read files [] vs h = absurd h
+interrupted_read files (a ∷ rest) [] h = absurd h
+interrupted_read files (a ∷ []) (v ∷ vs) h = absurd h.1
+interrupted_read files (a ∷ b ∷ rest) (v ∷ []) h = absurd h.1
+interrupted_read files (a ∷ b ∷ []) (v ∷ u ∷ vs) h = absurd h.1.1
+interrupted_read files (a ∷ b ∷ c ∷ rest) (v ∷ u ∷ []) h = absurd h.1.1
+interrupted_read files (a ∷ b ∷ c ∷ []) (v ∷ u ∷ w ∷ vs) h = absurd h.1.1.1
+interrupted_read files (a ∷ b ∷ c ∷ d ∷ rest) (v ∷ u ∷ w ∷ []) h = absurd h.1.1.1
+interrupted_read files (a ∷ b ∷ c ∷ d ∷ []) (v ∷ u ∷ w ∷ z ∷ vs) h = absurd h.1.1.1.1
+interrupted_read files (a ∷ b ∷ c ∷ d ∷ e ∷ rest) (v ∷ u ∷ w ∷ z ∷ []) h = absurd h.1.1.1.1
+interrupted_read files (a ∷ b ∷ c ∷ d ∷ e ∷ []) (v ∷ u ∷ w ∷ z ∷ y ∷ vs) h = absurd h.1.1.1.1.1
+interrupted_read files (a ∷ b ∷ c ∷ d ∷ e ∷ f ∷ rest) (v ∷ u ∷ w ∷ z ∷ y ∷ []) h = absurd h.1.1.1.1.1
+interrupted_read files (a ∷ b ∷ c ∷ d ∷ e ∷ f ∷ g ∷ rest) (v ∷ u ∷ w ∷ z ∷ y ∷ t ∷ vs) h = absurd h.1.1.1.1.1.1
+interrupted_read files (a ∷ b ∷ c ∷ d ∷ e ∷ f ∷ []) (v ∷ u ∷ w ∷ z ∷ y ∷ t ∷ q ∷ vs) h = absurd h.1.1.1.1.1.1
+interrupted_read files (a ∷ b ∷ c ∷ d ∷ e ∷ f ∷ []) (v ∷ u ∷ w ∷ z ∷ y ∷ t ∷ []) h =
+    let x = extension_in h.0.0 v h.0.2 in
+    let s = sheet_in h.1.0.0 u h.1.0.2 in
+    let i = image_of h.1.1.0.0 w h.1.1.0.2 in
+    let m = waits_in h.1.1.1.0.0 z h.1.1.1.0.2 in
+    let l = lines_in h.1.1.1.1.0.0 y h.1.1.1.1.0.2 in
+    record {
+      name = a;
+      other = b;
+      third = c;
+      fourth = d;
+      fifth = e;
+      number = f;
+      bytes = h.0.0;
+      extension = x.0;
+      sheet_bytes = h.1.0.0;
+      sheet = s.0;
+      program = h.1.1.0.0;
+      image = i.0;
+      waits_bytes = h.1.1.1.0.0;
+      waits = m.0;
+      lines_bytes = h.1.1.1.1.0.0;
+      lines = l.0;
+      cycles = h.1.1.1.1.1.0.0;
+      words = refl;
+      values = ap (λ r. r ∷ u ∷ w ∷ z ∷ y ∷ t ∷ []) x.1 ∙ ap (λ r. extension_read x.0 ∷ r ∷ w ∷ z ∷ y ∷ t ∷ []) s.1 ∙ ap (λ r. extension_read x.0 ∷ sheet_read s.0 ∷ r ∷ z ∷ y ∷ t ∷ []) i.1
+          ∙ ap (λ r. extension_read x.0 ∷ sheet_read s.0 ∷ image_read i.0 ∷ r ∷ y ∷ t ∷ []) m.1 ∙ ap (λ r. extension_read x.0 ∷ sheet_read s.0 ∷ image_read i.0 ∷ waits_read m.0 ∷ r ∷ t ∷ []) l.1
+          ∙ ap (λ r. extension_read x.0 ∷ sheet_read s.0 ∷ image_read i.0 ∷ waits_read m.0 ∷ lines_read l.0 ∷ r ∷ []) h.1.1.1.1.1.0.2;
+      file = h.0.1;
+      elaborates = x.2;
+      sheet_file = h.1.0.1;
+      sheet_is = s.2;
+      program_file = h.1.1.0.1;
+      text = i.2;
+      waits_file = h.1.1.1.0.1;
+      waits_are = m.2;
+      lines_file = h.1.1.1.1.0.1;
+      lines_are = l.2;
+      within = h.1.1.1.1.1.0.1;
+    }
+
+interrupted_takes : (files : Option NamedFiles) (rest : List (List ℕ)) (vs : List Reading) → AreRead files (slots_of RunInterrupted) rest vs → TakesInterrupted vs
+interrupted_takes files rest vs h =
+    let r = interrupted_read files rest vs h in
+    subst TakesInterrupted (sym r.values) (is_well_formed r.bytes r.extension r.elaborates, names_are r.bytes r.extension r.elaborates, r.sheet_is.valid)
+
 -- a number in its range is at most the greatest
 same_number : (m n : ℕ) → ◌≡◌ {A = Option ℕ} (Some m) (Some n) → m ≡ n
 same_number m n e = cc
@@ -436,3 +546,4 @@ takes files Sweep rest vs h = sheet_takes files rest vs h
 takes files RunExtension rest vs h = pipeline_takes files rest vs h
 takes files Bench rest vs h = bench_takes files rest vs h
 takes files Wave rest vs h = pipeline_takes files rest vs h
+takes files RunInterrupted rest vs h = interrupted_takes files rest vs h

@@ -1,17 +1,18 @@
 -- What a command answers and writes, from its words and the bytes of its files (this project's choice).
 use Rattle.std.specs.Prelude.{◌≡◌, ◌≢◌, IfSome, ℕ, ◌+◌, ◌<◌, ◌≤◌, List, [], ◌∷◌, ◌++◌, length, Option, Some, None, codes, decimal, ◌⊎◌}
 use Rattle.ix_words.specs.declared.status.Status.{Status}
-use Rattle.ix_words.specs.declared.status.Status.TheVariants.{Ok as ok_status, Usage, ReadFault, WriteFault, TooLong, Extension as extension_status, NoSchedule, Memory, Source}
+use Rattle.ix_words.specs.declared.status.Status.TheVariants.{Ok as ok_status, Usage, ReadFault, WriteFault, Extension as extension_status, NoSchedule, Memory, Source}
 use Rattle.ix_words.specs.declared.command.Command.{Command}
-use Rattle.ix_words.specs.declared.command.Command.TheVariants.{RunImage, Check, Certify, Schedule, Build, Sweep, Seq, Assemble, RunExtension, Bench, Wave}
+use Rattle.ix_words.specs.declared.command.Command.TheVariants.{RunImage, Check, Certify, Schedule, Build, Sweep, Seq, Assemble, RunExtension, Bench, Wave, RunInterrupted}
 use Rattle.ix_words.specs.declared.command.RunForm.{RunForm}
-use Rattle.ix_words.specs.declared.command.RunForm.TheVariants.{Rows, Ports}
+use Rattle.ix_words.specs.declared.command.RunForm.TheVariants.{Rows, Interrupted, Ports}
 use Rattle.ix_words.specs.declared.command.FileKind.{FileKind}
 use Rattle.ix_words.specs.declared.command.Slot.{Slot}
 use Rattle.ix_words.specs.declared.command.Slot.TheVariants.{Number, File}
 use Rattle.rv_plain.specs.Plain.{IsPlain}
 use Rattle.rv_trace.specs.declared.row.Row.{Row}
 use Rattle.rv_trace.specs.Trace.{newest}
+use Rattle.rv_engine.specs.Settings.{setting}
 use Rattle.rv_lawful.specs.Headline.{Headline}
 use Rattle.rv_machine.specs.Running.{AreRows}
 use Rattle.rv_machine.specs.DesignText.{IsDesignText}
@@ -23,6 +24,7 @@ use Rattle.rv_text.specs.RunText.{run_text}
 use Rattle.rv_asm.specs.ImageText.{IsImageText, image_text}
 use Rattle.rv_asm.specs.Sources.{Assembles, IsRefusedAs}
 use Rattle.rv_asm.specs.WaitsText.{IsWaitsText}
+use Rattle.rv_asm.specs.LinesText.{IsLinesText}
 use Rattle.rv_asm.specs.declared.source.AsmErr.{AsmErr}
 use Rattle.rv_asm.specs.declared.source.AsmErr.TheVariants as A
 use Rattle.ix_extension.specs.Extensions.{ExtensionTree, view_extension}
@@ -32,8 +34,8 @@ use Rattle.ix_extension.specs.WellFormed.{IsOf}
 use Rattle.ix_tree.specs.TypedTrees.{TypedTextTree}
 use Rattle.ix_elab.specs.Elaborating.{Elaborates}
 use Rattle.ix_listing.specs.Listing.{listing_text}
-use Rattle.ix_words.specs.Readings.{Reading, number_read, image_read, report_read, extension_read, sheet_read, source_read, waits_read}
-use Rattle.ix_words.specs.CommandLine.{RunCommand, SeqCommand, AsmCommand, ScheduleCommand, BuildCommand, SweepCommand, PipelineCommand, BenchCommand, most_drawn, run_of, report_of, command_of, slots_of, behind}
+use Rattle.ix_words.specs.Readings.{Reading, number_read, image_read, report_read, extension_read, sheet_read, source_read, waits_read, lines_read}
+use Rattle.ix_words.specs.CommandLine.{RunCommand, SeqCommand, AsmCommand, ScheduleCommand, BuildCommand, SweepCommand, PipelineCommand, InterruptedCommand, BenchCommand, most_drawn, run_of, report_of, command_of, slots_of, behind}
 use Rattle.ix_sheet.specs.declared.sheet.Sheet.{Sheet as Datasheet}
 use Rattle.ix_sheet.specs.Sheets.{IsValidSheet}
 use Rattle.ix_schedules.specs.declared.text.TextErr.{TextErr}
@@ -52,44 +54,56 @@ use Rattle.ix_io.specs.Sink.{Appends, AppendsFront}
 use Rattle.ix_words.specs.WordsRead.{file_line, IsSheetRead, IsRefusedText, refusal_status, IsFile, AreRead, IsFirstRefused, RoseIn, IsFileOf}
 
 -- ---- the texts of outputs and of refusals
--- the text of a run on the core of three stages: that of an extension without sections, over a memory that never waits
+-- the text of a run on the core of three stages: that of an extension without sections, over a memory that never waits, without an interrupt line
 pub record IsRunOutput (image : List ℕ) (cycles : ℕ) (text : List ℕ) : Type 0 where
   pub design : Design
   pub plain : IsPlain design
-  pub runs : IsDesignText (record { design = design; image = image; waits = [] }) cycles text
+  pub runs : IsDesignText (setting design image [] None) cycles text
 
 -- what that text shows: these rows are lawful, what they retire is a prefix of the run one instruction at a time, with its states and its stop, and they go on
 pub record IsLawfulPlainRun (image : List ℕ) (cycles : ℕ) (text : List ℕ) : Type 0 where
   pub design : Design
   pub plain : IsPlain design
-  pub runs : IsLawfulText design image [] cycles text
+  pub runs : IsLawfulText design image [] None cycles text
 
 -- the command that writes a run in this form
 abbrev pub command_in : RunForm → Command
 command_in Rows = RunExtension
+command_in Interrupted = RunInterrupted
 command_in Ports = Wave
 
--- the text of a run of the machine of a design in this form
-abbrev pub IsDesignOutput : RunForm → Design → List ℕ → List ℕ → ℕ → List ℕ → Type 0
-IsDesignOutput Rows design image waits cycles text = IsDesignText (record { design = design; image = image; waits = waits }) cycles text
-IsDesignOutput Ports design image waits cycles text = IsDesignWave design image waits cycles text
+-- a run in this form has an interrupt line exactly where these are the rows in which it is raised
+abbrev pub HasLines : RunForm → Option (List ℕ) → Type 0
+HasLines Rows None = Unit {0}
+HasLines Rows (Some lines) = ⊥
+HasLines Interrupted None = ⊥
+HasLines Interrupted (Some lines) = Unit {0}
+HasLines Ports None = Unit {0}
+HasLines Ports (Some lines) = ⊥
+
+-- the text of a run of the machine of a design in this form, with an interrupt line that is raised in these rows, where there is one; ports are shown of runs without one
+abbrev pub IsDesignOutput : RunForm → Design → List ℕ → List ℕ → Option (List ℕ) → ℕ → List ℕ → Type 0
+IsDesignOutput Rows design image waits lines cycles text = IsDesignText (setting design image waits lines) cycles text
+IsDesignOutput Interrupted design image waits lines cycles text = IsDesignText (setting design image waits lines) cycles text
+IsDesignOutput Ports design image waits lines cycles text = IsDesignWave design image waits cycles text
 
 -- the text of a run in this form on the core of a datasheet with an extension: a design stands for both, and the rows are those of its machine over this image, whose
--- memory has these waits
-pub record IsExtensionRun (form : RunForm) (x : ExtensionTree) (sheet : Datasheet) (image waits : List ℕ) (cycles : ℕ) (text : List ℕ) : Type 0 where
+-- memory has these waits, and whose interrupt line is raised in these rows, where there is one
+pub record IsExtensionRun (form : RunForm) (x : ExtensionTree) (sheet : Datasheet) (image waits : List ℕ) (lines : Option (List ℕ)) (cycles : ℕ) (text : List ℕ) : Type 0 where
   pub design : Design
   pub stands : Stands design
   pub extension_is : view_extension design.extension ≡ x
   pub sheet_is : design.sheet ≡ sheet
-  pub runs : IsDesignOutput form design image waits cycles text
+  pub runs : IsDesignOutput form design image waits lines cycles text
 
--- what the text of rows shows: these are lawful, what they retire is a prefix of the run one instruction at a time, with its states and its stop, and they go on
-pub record IsLawfulRun (x : ExtensionTree) (sheet : Datasheet) (image waits : List ℕ) (cycles : ℕ) (text : List ℕ) : Type 0 where
+-- what the text of rows shows: these are lawful, what they retire is a prefix of the run one instruction at a time, which goes to the handler where they say so, with its states
+-- and its stop, and they go on; where there is an interrupt line, an interrupt that is to be taken is taken
+pub record IsLawfulRun (x : ExtensionTree) (sheet : Datasheet) (image waits : List ℕ) (lines : Option (List ℕ)) (cycles : ℕ) (text : List ℕ) : Type 0 where
   pub design : Design
   pub stands : Stands design
   pub extension_is : view_extension design.extension ≡ x
   pub sheet_is : design.sheet ≡ sheet
-  pub runs : IsLawfulText design image waits cycles text
+  pub runs : IsLawfulText design image waits lines cycles text
 
 -- what a dump shows: its rows are such, and in each the ports of a module show the values of one run of its net, which the rows drive
 pub record IsLawfulWaveRun (x : ExtensionTree) (sheet : Datasheet) (image waits : List ℕ) (cycles : ℕ) (text : List ℕ) : Type 0 where
@@ -106,7 +120,7 @@ most_rows = 200000
 -- the summary of the run of a drawn image on the core and with the extension of a design: its rows are those of the design's machine over this image, whose memory never waits
 pub record IsDesignSummary (design : Design) (number count : ℕ) (text : List ℕ) : Type 0 where
   pub rows : List Row
-  pub are_rows : AreRows (record { design = design; image = drawn_image (view_extension design.extension) number count; waits = [] }) rows
+  pub are_rows : AreRows (setting design (drawn_image (view_extension design.extension) number count) [] None) rows
   pub few : length rows ≤ most_rows
   pub whole : (newest rows).stop ≡ None → length rows ≡ most_rows
   pub text_is : text ≡ summary_text (count + 2) rows
@@ -114,7 +128,7 @@ pub record IsDesignSummary (design : Design) (number count : ℕ) (text : List �
 -- what that summary shows: it counts rows which are lawful; what they retire is a prefix of the run one instruction at a time, with its states and its stop, and they go on
 pub record IsLawfulSummary (design : Design) (number count : ℕ) (text : List ℕ) : Type 0 where
   pub rows : List Row
-  pub headline : Headline design (drawn_image (view_extension design.extension) number count) [] rows
+  pub headline : Headline design (drawn_image (view_extension design.extension) number count) [] None rows
   pub few : length rows ≤ most_rows
   pub whole : (newest rows).stop ≡ None → length rows ≡ most_rows
   pub text_is : text ≡ summary_text (count + 2) rows
@@ -154,7 +168,18 @@ pub record IsPipelineOutput (form : RunForm) (values : List Reading) (text : Lis
   pub waits : List ℕ
   pub cycles : ℕ
   pub values_are : values ≡ extension_read extension ∷ sheet_read sheet ∷ image_read image ∷ waits_read waits ∷ number_read cycles ∷ []
-  pub runs : IsExtensionRun form extension sheet image waits cycles text
+  pub runs : IsExtensionRun form extension sheet image waits None cycles text
+
+-- the values are an extension, a datasheet, an image, the waits of a memory, the rows in which an interrupt line is raised and a count of cycles, and the text is that of their run
+pub record IsInterruptedOutput (values : List Reading) (text : List ℕ) : Type 0 where
+  pub extension : ExtensionTree
+  pub sheet : Datasheet
+  pub image : List ℕ
+  pub waits : List ℕ
+  pub lines : List ℕ
+  pub cycles : ℕ
+  pub values_are : values ≡ extension_read extension ∷ sheet_read sheet ∷ image_read image ∷ waits_read waits ∷ lines_read lines ∷ number_read cycles ∷ []
+  pub runs : IsExtensionRun Interrupted extension sheet image waits (Some lines) cycles text
 
 -- the values are an extension, a datasheet and two numbers, and the text is the summary of their drawn run
 pub record IsBenchOutput (values : List Reading) (text : List ℕ) : Type 0 where
@@ -179,6 +204,7 @@ IsOutput Sweep (extension_read x ∷ sheet_read sheet ∷ []) text = IsSweepText
 IsOutput RunExtension values text = IsPipelineOutput Rows values text
 IsOutput Bench values text = IsBenchOutput values text
 IsOutput Wave values text = IsPipelineOutput Ports values text
+IsOutput RunInterrupted values text = IsInterruptedOutput values text
 IsOutput command values text = ⊥
 
 -- a refusal of a source with the extension before it
@@ -206,6 +232,7 @@ Schedules Build = Unit {0}
 Schedules RunExtension = Unit {0}
 Schedules Bench = Unit {0}
 Schedules Wave = Unit {0}
+Schedules RunInterrupted = Unit {0}
 Schedules command = ⊥
 
 -- a refusal of the first behaviour of an extension that is not scheduled on the core of the datasheet
@@ -269,6 +296,22 @@ abbrev pub TakesPipeline : List Reading → Type 0
 TakesPipeline (extension_read x ∷ sheet_read sheet ∷ image_read image ∷ waits_read waits ∷ number_read cycles ∷ []) = TakesSheet (extension_read x ∷ sheet_read sheet ∷ [])
 TakesPipeline values = ⊥
 
+-- or these with the rows in which an interrupt line is raised before the count
+abbrev pub TakesInterrupted : List Reading → Type 0
+TakesInterrupted (extension_read x ∷ sheet_read sheet ∷ image_read image ∷ waits_read waits ∷ lines_read lines ∷ number_read cycles ∷ []) = TakesSheet (extension_read x ∷ sheet_read sheet ∷ [])
+TakesInterrupted values = ⊥
+
+-- the values are those that a run in this form takes
+abbrev pub TakesRun : RunForm → List Reading → Type 0
+TakesRun Rows values = TakesPipeline values
+TakesRun Interrupted values = TakesInterrupted values
+TakesRun Ports values = TakesPipeline values
+
+-- the values of a run: an extension, a datasheet, an image, the waits of a memory, the rows in which the interrupt line is raised, where there is one, and a count of cycles
+abbrev pub run_values : ExtensionTree → Datasheet → List ℕ → List ℕ → Option (List ℕ) → ℕ → List Reading
+run_values x sheet image waits None cycles = extension_read x ∷ sheet_read sheet ∷ image_read image ∷ waits_read waits ∷ number_read cycles ∷ []
+run_values x sheet image waits (Some lines) cycles = extension_read x ∷ sheet_read sheet ∷ image_read image ∷ waits_read waits ∷ lines_read lines ∷ number_read cycles ∷ []
+
 -- or a number and a count of drawn words
 abbrev pub TakesBench : List Reading → Type 0
 TakesBench (extension_read x ∷ sheet_read sheet ∷ number_read number ∷ number_read count ∷ []) = TakesSheet (extension_read x ∷ sheet_read sheet ∷ []) × (count ≤ most_drawn)
@@ -287,6 +330,7 @@ Takes Sweep values = TakesSheet values
 Takes RunExtension values = TakesPipeline values
 Takes Bench values = TakesBench values
 Takes Wave values = TakesPipeline values
+Takes RunInterrupted values = TakesInterrupted values
 Takes command values = ⊥
 
 -- what a command with these values did
@@ -551,7 +595,36 @@ pub record PipelineAnswer (files : Option NamedFiles) (command : PipelineCommand
   pub image_read : IsImageText program image
   pub waits_file : IsFile files command.waits waits_bytes
   pub waits_read : IsWaitsText waits_bytes waits
-  pub runs : IsLawfulRun extension sheet image waits command.cycles text
+  pub runs : IsLawfulRun extension sheet image waits None command.cycles text
+  pub written : Appends before now text
+
+-- The files are the texts of this extension, which is well formed, of this datasheet, of this image, of these waits, and of the rows in which
+-- the interrupt line is raised. A design stands for the extension and the datasheet, and the text of rows of which the headline holds was
+-- written whole.
+pub record InterruptedAnswer (files : Option NamedFiles) (command : InterruptedCommand) (before now : Option (List ℕ)) : Type 0 where
+  pub bytes : List ℕ
+  pub extension : ExtensionTree
+  pub sheet_bytes : List ℕ
+  pub sheet : Datasheet
+  pub program : List ℕ
+  pub image : List ℕ
+  pub waits_bytes : List ℕ
+  pub waits : List ℕ
+  pub lines_bytes : List ℕ
+  pub lines : List ℕ
+  pub text : List ℕ
+  pub file : IsFile files command.extension bytes
+  pub elaborates : Elaborates bytes extension
+  pub well_formed : (typed : TypedTextTree) × IsOf typed extension
+  pub sheet_file : IsFile files command.sheet sheet_bytes
+  pub sheet_read : IsSheetRead sheet_bytes sheet
+  pub image_file : IsFile files command.image program
+  pub image_read : IsImageText program image
+  pub waits_file : IsFile files command.waits waits_bytes
+  pub waits_read : IsWaitsText waits_bytes waits
+  pub lines_file : IsFile files command.lines lines_bytes
+  pub lines_read : IsLinesText lines_bytes lines
+  pub runs : IsLawfulRun extension sheet image waits (Some lines) command.cycles text
   pub written : Appends before now text
 
 -- The files are the texts of this extension, which is well formed, of this datasheet, of this image, and of these waits. A design

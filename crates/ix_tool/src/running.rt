@@ -1,4 +1,5 @@
-ghost use Rattle.std.specs.Prelude.{◌≡◌, ℕ, List, ◌∷◌, [], map, ◌⊎◌, OnOk, Err};
+ghost use Rattle.std.specs.Prelude.{◌≡◌, ℕ, List, ◌∷◌, map, ◌⊎◌, OnOk, Err};
+ghost use Rattle.std.specs.Option.{option_copied};
 ghost use Rattle.ix_io.specs.Faults.{Rose};
 ghost use Rattle.ix_io.specs.Sink.{Appends, AppendsFront};
 ghost use Rattle.ix_extension.specs.Extensions.{view_extension};
@@ -6,8 +7,8 @@ ghost use Rattle.ix_extension.specs.WellFormed.{IsWellFormed};
 ghost use Rattle.ix_sheet.specs.Sheets.{IsValidSheet};
 ghost use Rattle.ix_standing.specs.Standing.{Stands};
 ghost use Rattle.ix_schedules.specs.Scheduling.{AreNamed};
-ghost use Rattle.ix_words.specs.Readings.{extension_read, sheet_read, image_read, waits_read, number_read, reading_of};
-ghost use Rattle.ix_tool.specs.CommandOutput.{command_in, Answered, IsDesignOutput, TakesPipeline, Writes};
+ghost use Rattle.ix_words.specs.Readings.{extension_read, sheet_read, reading_of};
+ghost use Rattle.ix_tool.specs.CommandOutput.{command_in, run_values, Answered, HasLines, IsDesignOutput, TakesRun, Writes};
 
 use crate::tool::finish;
 use ix_design::build;
@@ -22,27 +23,30 @@ use ix_words::value::Value;
 use rv_isa::Image;
 use rv_pipe::write_design_run;
 use rv_text::RunErr;
-use rv_waits::Waits;
+use rv_waits::{Lines, Waits};
 use rv_wave::write_design_wave;
 use std::alloc::Global;
 
-/// Writes the run of an image on the core and with the extension of a design in this form.
+/// Writes the run of an image on the core and with the extension of a design in this form, over a memory with these waits and with this interrupt line.
 fn write_in<S: Sink>(
     alloc: Global,
     form: RunForm,
     design: &Design,
     image: &Image,
     waits: &Waits,
+    lines: Option<&Lines>,
     cycles: u32,
     sink: &mut S,
 ) -> Result<(), RunErr>
     requires { Stands design.now }
-    ensures whole { OnOk result ((text : List ℕ) × IsDesignOutput form design.now image.now waits.now cycles text × Appends (S.written sink.old) (S.written sink.new) text) }
-    ensures fault { result ≡ Err RunErr.Fault → Rose (S.faults sink.old) (S.faults sink.new) × ((text : List ℕ) × IsDesignOutput form design.now image.now waits.now cycles text × AppendsFront (S.written sink.old) (S.written sink.new) text) }
+    ensures whole { OnOk result ((text : List ℕ) × IsDesignOutput form design.now image.now waits.now (option_copied lines.entry) cycles text × Appends (S.written sink.old) (S.written sink.new) text) }
+    ensures fault { result ≡ Err RunErr.Fault → Rose (S.faults sink.old) (S.faults sink.new) × ((text : List ℕ) × IsDesignOutput form design.now image.now waits.now (option_copied lines.entry) cycles text × AppendsFront (S.written sink.old) (S.written sink.new) text) }
     ensures memory { result ≡ Err RunErr.Memory → S.written sink.new ≡ S.written sink.old }
 {
     match form {
-        RunForm::Rows => write_design_run(alloc, design, image, waits, cycles, sink),
+        RunForm::Rows | RunForm::Interrupted => {
+            write_design_run(alloc, design, image, waits, lines, cycles, sink)
+        }
         RunForm::Ports => write_design_wave(alloc, design, image, waits, cycles, sink),
     }
 }
@@ -54,14 +58,15 @@ pub(crate) fn run_design<S: Sink>(
     design: &Design,
     image: &Image,
     waits: &Waits,
+    lines: Option<&Lines>,
     cycles: u32,
     sink: &mut S,
 ) -> Status
     requires { Stands design.now }
     ensures { ((result ≡ Status.Memory) × (S.written sink.new ≡ S.written sink.old))
-        ⊎ ((text : List ℕ) × IsDesignOutput form design.now image.now waits.now cycles text × Writes Status.Ok text (S.written sink.old) (S.written sink.new) (S.faults sink.old) (S.faults sink.new) result) }
+        ⊎ ((text : List ℕ) × IsDesignOutput form design.now image.now waits.now (option_copied lines.entry) cycles text × Writes Status.Ok text (S.written sink.old) (S.written sink.new) (S.faults sink.old) (S.faults sink.new) result) }
 {
-    match write_in(alloc, form, design, image, waits, cycles, sink) {
+    match write_in(alloc, form, design, image, waits, lines, cycles, sink) {
         Ok(()) => Status::Ok,
         Err(RunErr::Memory) => Status::Memory,
         Err(RunErr::Fault) => Status::WriteFault,
@@ -76,13 +81,15 @@ fn run_extension<S: Sink>(
     sheet: Sheet,
     image: &Image,
     waits: &Waits,
+    lines: Option<&Lines>,
     cycles: u32,
     sink: &mut S,
 ) -> Status
     requires well_formed { IsWellFormed extension }
     requires named { AreNamed (view_extension extension) }
     requires sheet { IsValidSheet sheet }
-    ensures { Answered (command_in form) (extension_read (view_extension extension) ∷ sheet_read sheet ∷ image_read image.now ∷ waits_read waits.now ∷ number_read cycles ∷ []) (S.written sink.old) (S.written sink.new) (S.faults sink.old) (S.faults sink.new) result }
+    requires lines { HasLines form (option_copied lines) }
+    ensures { Answered (command_in form) (run_values (view_extension extension) sheet image.now waits.now (option_copied lines.entry) cycles) (S.written sink.old) (S.written sink.new) (S.faults sink.old) (S.faults sink.new) result }
 {
     match build(alloc, &extension, &sheet) {
         Ok(built) => {
@@ -92,7 +99,7 @@ fn run_extension<S: Sink>(
                 plans: built.plans,
                 nets: built.nets,
             };
-            run_design(alloc, form, &design, image, waits, cycles, sink)
+            run_design(alloc, form, &design, image, waits, lines, cycles, sink)
         }
         Err(error) => match refusal_text(alloc, &extension, &sheet, error) {
             TextErr::TooManyOps(line) => finish(sink, Status::Extension, line.as_slice()),
@@ -111,7 +118,7 @@ fn run_on_sheet<S: Sink>(
     values: &[Value],
     sink: &mut S,
 ) -> Status
-    requires { TakesPipeline (extension_read (view_extension extension) ∷ sheet_read sheet ∷ map reading_of values.now) }
+    requires { TakesRun form (extension_read (view_extension extension) ∷ sheet_read sheet ∷ map reading_of values.now) }
     ensures { Answered (command_in form) (extension_read (view_extension extension) ∷ sheet_read sheet ∷ map reading_of values.now) (S.written sink.old) (S.written sink.new) (S.faults sink.old) (S.faults sink.new) result }
 {
     match values {
@@ -119,7 +126,25 @@ fn run_on_sheet<S: Sink>(
             Value::Image(image),
             Value::Waits(waits),
             Value::Number(cycles),
-        ] => { run_extension(alloc, form, extension, sheet, image, waits, *cycles, sink) }
+        ] => run_extension(
+            alloc, form, extension, sheet, image, waits, None, *cycles, sink,
+        ),
+        [
+            Value::Image(image),
+            Value::Waits(waits),
+            Value::Lines(lines),
+            Value::Number(cycles),
+        ] => run_extension(
+            alloc,
+            form,
+            extension,
+            sheet,
+            image,
+            waits,
+            Some(lines),
+            *cycles,
+            sink,
+        ),
         _ => unreachable!(),
     }
 }
@@ -132,7 +157,7 @@ fn run_with<S: Sink>(
     values: Vec<Value>,
     sink: &mut S,
 ) -> Status
-    requires { TakesPipeline (extension_read (view_extension extension) ∷ map reading_of values.items) }
+    requires { TakesRun form (extension_read (view_extension extension) ∷ map reading_of values.items) }
     ensures { Answered (command_in form) (extension_read (view_extension extension) ∷ map reading_of values.items) (S.written sink.old) (S.written sink.new) (S.faults sink.old) (S.faults sink.new) result }
 {
     let mut values = values;
@@ -149,7 +174,7 @@ pub(crate) fn answer_run<S: Sink>(
     values: Vec<Value>,
     sink: &mut S,
 ) -> Status
-    requires { TakesPipeline (map reading_of values.items) }
+    requires { TakesRun form (map reading_of values.items) }
     ensures { Answered (command_in form) (map reading_of values.items) (S.written sink.old) (S.written sink.new) (S.faults sink.old) (S.faults sink.new) result }
 {
     let mut values = values;

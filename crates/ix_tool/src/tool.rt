@@ -1,14 +1,14 @@
 ghost use Rattle.std.specs.Prelude.{◌≡◌, ◌≢◌, ℕ, List, map, Some, None, ◌⊎◌};
 ghost use Rattle.ix_words.specs.declared.status.Status.{Status};
 ghost use Rattle.ix_words.specs.declared.command.Command.{Command as TheCommand};
-ghost use Rattle.ix_words.specs.CommandLine.{SeqCommand, AsmCommand, ScheduleCommand, BuildCommand, SweepCommand, PipelineCommand, BenchCommand, command_of as specified_command_of, extension_of, report_of, seq_of, source_of, schedule_of, build_of, sweep_of, pipeline_of, bench_of, wave_of, bytes_of};
+ghost use Rattle.ix_words.specs.CommandLine.{SeqCommand, AsmCommand, ScheduleCommand, BuildCommand, SweepCommand, PipelineCommand, InterruptedCommand, BenchCommand, command_of as specified_command_of, extension_of, report_of, seq_of, source_of, schedule_of, build_of, sweep_of, pipeline_of, interrupted_of, bench_of, wave_of, bytes_of};
 ghost use Rattle.ix_extension.specs.Extensions.{view_extension};
 ghost use Rattle.ix_extension.specs.WellFormed.{IsWellFormed};
 ghost use Rattle.ix_listing.specs.Listing.{listing_text};
 ghost use Rattle.rv_text.specs.RunText.{run_text};
 ghost use Rattle.ix_words.specs.Readings.{Reading, reading_of};
 ghost use Rattle.ix_words.specs.WordsRead.{RoseIn};
-ghost use Rattle.ix_tool.specs.CommandOutput.{IsRunOutput, Writes, Takes, Answered, Outcome, NoneRises, IsDue, UsageAnswer, ReadFaultAnswer, WriteFaultAnswer, TooLongAnswer, TextAnswer, OutputAnswer, RunAnswer, ListedAnswer, CertifiedAnswer, SteppedAnswer, AssembledAnswer, SourceAnswer, ScheduledAnswer, ModulesAnswer, SweptAnswer, NoScheduleAnswer, ExtensionAnswer, PipelineAnswer, BenchAnswer, WaveAnswer, IsStatusOr, Premises, Completes, told_of};
+ghost use Rattle.ix_tool.specs.CommandOutput.{IsRunOutput, Writes, Takes, Answered, Outcome, NoneRises, IsDue, UsageAnswer, ReadFaultAnswer, WriteFaultAnswer, TooLongAnswer, TextAnswer, OutputAnswer, RunAnswer, ListedAnswer, CertifiedAnswer, SteppedAnswer, AssembledAnswer, SourceAnswer, ScheduledAnswer, ModulesAnswer, SweptAnswer, NoScheduleAnswer, ExtensionAnswer, PipelineAnswer, InterruptedAnswer, BenchAnswer, WaveAnswer, IsStatusOr, Premises, Completes, told_of};
 
 use crate::assembling::assemble_source;
 use crate::benching::answer_bench;
@@ -59,7 +59,18 @@ fn run_image<S: Sink>(alloc: Global, image: &Image, cycles: u32, sink: &mut S) -
 {
     let waits = Waits::new(alloc);
     match plain_design(alloc) {
-        Ok(design) => run_design(alloc, RunForm::Rows, &design, image, &waits, cycles, sink),
+        Ok(design) => {
+            run_design(
+                alloc,
+                RunForm::Rows,
+                &design,
+                image,
+                &waits,
+                None,
+                cycles,
+                sink,
+            )
+        }
         Err(_) => Status::Memory,
     }
 }
@@ -142,6 +153,7 @@ fn answer_read<S: Sink>(alloc: Global, command: Command, values: &[Value], sink:
     requires reads { command ≢ Command.RunExtension }
     requires draws_nothing { command ≢ Command.Bench }
     requires shows_no_ports { command ≢ Command.Wave }
+    requires has_no_line { command ≢ Command.RunInterrupted }
     requires takes { Takes command (map reading_of values.now) }
     ensures { Answered command (map reading_of values.now) (S.written sink.old) (S.written sink.new) (S.faults sink.old) (S.faults sink.new) result }
 {
@@ -169,6 +181,7 @@ fn answer<S: Sink>(alloc: Global, command: Command, values: Vec<Value>, sink: &m
 {
     match command {
         Command::RunExtension => answer_run(alloc, RunForm::Rows, values, sink),
+        Command::RunInterrupted => answer_run(alloc, RunForm::Interrupted, values, sink),
         Command::Wave => answer_run(alloc, RunForm::Ports, values, sink),
         Command::Bench => answer_bench(alloc, values, sink),
         _ => answer_read(alloc, command, values.as_slice(), sink),
@@ -202,7 +215,8 @@ fn run_words<F: Shelf, S: Sink>(
 /// fault. `seq EXT IMAGE STEPS` writes the run of an image one instruction at a time, at most 200,000 of them, on a core with an extension. `asm EXT SOURCE` writes the image of a source with the instructions of an extension.
 /// `schedule EXT SHEET` writes the report of an extension's behaviours on the core of a datasheet, `build EXT SHEET` the Verilog text of their modules, `sweep EXT SHEET` the least period of each of them with the
 /// reports that show it. `run EXT SHEET IMAGE WAITS CYCLES` writes the trace
-/// and the state of a run on the core of a datasheet with an extension, over a memory with a list of waits of at most 65,536 numbers. `bench EXT SHEET NUMBER COUNT` draws an image
+/// and the state of a run on the core of a datasheet with an extension, over a memory with a list of waits of at most 65,536 numbers, and `run EXT SHEET IMAGE WAITS LINES CYCLES` that of one with an interrupt line,
+/// which is raised in at most 4,096 rows. `bench EXT SHEET NUMBER COUNT` draws an image
 /// of at most 10,000 words from a number, runs it there for at most 200,000 cycles, and writes how many words, rows, retirements and outstanding writes there were, and the stop. `wave EXT SHEET IMAGE WAITS CYCLES` writes what the ports of the modules show in each row of the run that `run` writes with these words, as a value change dump. The files are read whole and judged one after another, in the order of the words. A refusal writes its one line
 /// alone, but that a behaviour without a schedule is named and then reported; want of memory writes nothing, and comes before the first cycle.
 pub fn run_tool<F: Shelf, S: Sink>(
@@ -254,6 +268,13 @@ pub fn run_tool<F: Shelf, S: Sink>(
     ensures pipelined { result ≡ Status.Ok → (command : PipelineCommand) → pipeline_of (bytes_of words.now) ≡ Some command
         → PipelineAnswer (F.files shelf.old) command (S.written sink.old) (S.written sink.new) }
 
+    // A run with an interrupt line is that of a design that stands for the extension and the datasheet which the files are the texts of. The bytes that were written are the text
+    // of one list of rows over the image, whose memory has the waits, and whose line is raised in the rows that the last file lists. These are lawful, what they retire is a prefix
+    // of the run one instruction at a time with the extension, which goes to the handler where they say so, with its states and its stop, no more rows than the bound pass without
+    // a retirement, and an interrupt that is to be taken is taken.
+    ensures interrupted { result ≡ Status.Ok → (command : InterruptedCommand) → interrupted_of (bytes_of words.now) ≡ Some command
+        → InterruptedAnswer (F.files shelf.old) command (S.written sink.old) (S.written sink.new) }
+
     // A summary is that of rows over the drawn image, of a design that stands for the extension and the datasheet which the files are the texts of. These are lawful, what they
     // retire is a prefix of the run one instruction at a time with the extension, with its states and its stop, and no more rows than the bound pass without a retirement.
     ensures benched { result ≡ Status.Ok → (command : BenchCommand) → bench_of (bytes_of words.now) ≡ Some command
@@ -295,6 +316,8 @@ pub fn run_tool<F: Shelf, S: Sink>(
         → SourceAnswer (F.files shelf.old) (bytes_of words.now) (S.written sink.old) (S.written sink.new) }
     ensures waits { result ≡ Status.Waits
         → TextAnswer (F.files shelf.old) (bytes_of words.now) Status.Waits (S.written sink.old) (S.written sink.new) }
+    ensures lines { result ≡ Status.Lines
+        → TextAnswer (F.files shelf.old) (bytes_of words.now) Status.Lines (S.written sink.old) (S.written sink.new) }
     ensures memory { result ≡ Status.Memory → S.written sink.new ≡ S.written sink.old }
 
     // What is due of told files is answered, but for faults and want of memory; a refusal of the words yields to neither

@@ -1,5 +1,5 @@
 -- What the refusal of a file's text says.
-use Rattle.std.proofs.Common.{◌≡◌, ◌≢◌, ℕ, ◌<◌, true, List, [], ◌∷◌, ◌++◌, ◌∙◌, append_assoc, length, Option, inl, inr, refl, sym, subst, Result, Ok, Err}
+use Rattle.std.proofs.Common.{◌≡◌, ◌≢◌, ℕ, ◌<◌, List, [], ◌∷◌, ◌++◌, ◌∙◌, append_assoc, length, Option, refl, sym, subst, Result, Ok, Err}
 use Rattle.std.specs.Prelude.{IfSome, codes, string_bytes, String}
 use Rattle.std.specs.declared.alloc.Global.{Global}
 use Rattle.ix_io.specs.Limits.{most_bytes}
@@ -17,13 +17,12 @@ use Rattle.ix_elab.specs.Refusing.{IsCause}
 use Rattle.ix_listing.specs.RefusalLine.{refusal_line}
 use Rattle.ix_sheet.specs.declared.sheet.SheetErr.{SheetErr}
 use Rattle.ix_sheet.specs.declared.sheet.SheetErr.TheVariants.{Memory as sheet_memory}
-use Rattle.ix_sheet.specs.declared.sheet.Sheet.{Sheet as Datasheet}
 use Rattle.ix_sheet.specs.Datasheets.{IsRefusalOf}
 use Rattle.ix_words.specs.declared.command.Slot.TheVariants.{File}
 use Rattle.ix_words.specs.declared.value.Value.{Value}
 use Rattle.ix_words.specs.declared.value.Refusal.{Refusal}
 use Rattle.ix_words.specs.declared.value.Refusal.TheVariants as refusal
-use Rattle.ix_words.specs.WordsRead.{file_line, certificate_line, sheet_line, IsSheetRead, IsRefusedText, refusal_status, Refuses, Judged, IsFile, IsRefusedFile, not_read, too_long, bad_text, WordRead}
+use Rattle.ix_words.specs.WordsRead.{file_line, certificate_line, sheet_line, IsRefusedText, refusal_status, Refuses, Judged, IsFile, IsRefusedFile, not_read, too_long, bad_text, WordRead}
 
 -- the parts of a line, joined from the left or from the right
 pub line_joined : (number kind : List ℕ) → number ++ 32 ∷ (kind ++ 10 ∷ []) ≡ number ++ 32 ∷ [] ++ kind ++ 10 ∷ []

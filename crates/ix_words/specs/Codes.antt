@@ -1,7 +1,7 @@
 -- The exit status of each answer (this project's choice).
 use Rattle.std.specs.Prelude.{ℕ}
 use Rattle.ix_words.specs.declared.status.Status.{Status}
-use Rattle.ix_words.specs.declared.status.Status.TheVariants.{Ok, Usage, ReadFault, WriteFault, TooLong, Extension, Sheet, Image, NoSchedule, Certificate, Memory, Source, Waits}
+use Rattle.ix_words.specs.declared.status.Status.TheVariants.{Ok, Usage, ReadFault, WriteFault, TooLong, Extension, Sheet, Image, NoSchedule, Certificate, Memory, Source, Waits, Lines}
 
 -- the exit status of each answer
 abbrev pub code_of : Status → ℕ
@@ -18,3 +18,4 @@ code_of Certificate = 11
 code_of Memory = 12
 code_of Source = 13
 code_of Waits = 14
+code_of Lines = 15

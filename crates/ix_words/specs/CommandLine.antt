@@ -4,8 +4,8 @@ use Rattle.std.specs.Option.{option_and_then}
 use Rattle.std.specs.Str.{bytes_eq}
 use Rattle.std.specs.declared.alloc.Global.{Global}
 use Rattle.ix_words.specs.declared.command.Command.{Command}
-use Rattle.ix_words.specs.declared.command.Command.TheVariants.{RunImage, Check, Certify, Schedule, Build, Sweep, Seq, Assemble, RunExtension, Bench, Wave}
-use Rattle.ix_words.specs.declared.command.FileKind.TheVariants.{Image, Report, Extension, Sheet, Source, Waits}
+use Rattle.ix_words.specs.declared.command.Command.TheVariants.{RunImage, Check, Certify, Schedule, Build, Sweep, Seq, Assemble, RunExtension, Bench, Wave, RunInterrupted}
+use Rattle.ix_words.specs.declared.command.FileKind.TheVariants.{Image, Report, Extension, Sheet, Source, Waits, Lines}
 use Rattle.ix_words.specs.declared.command.Slot.{Slot}
 use Rattle.ix_words.specs.declared.command.Slot.TheVariants.{Number, File}
 
@@ -43,6 +43,7 @@ word_of Sweep = codes "sweep"
 word_of RunExtension = codes "run"
 word_of Bench = codes "bench"
 word_of Wave = codes "wave"
+word_of RunInterrupted = codes "run"
 
 -- the greatest number that an image is drawn from, and the greatest count of drawn words
 abbrev pub most_number : ℕ
@@ -64,10 +65,11 @@ slots_of Sweep = File Extension ∷ File Sheet ∷ []
 slots_of RunExtension = File Extension ∷ File Sheet ∷ File Image ∷ File Waits ∷ Number 200000 ∷ []
 slots_of Bench = File Extension ∷ File Sheet ∷ Number most_number ∷ Number most_drawn ∷ []
 slots_of Wave = File Extension ∷ File Sheet ∷ File Image ∷ File Waits ∷ Number 200000 ∷ []
+slots_of RunInterrupted = File Extension ∷ File Sheet ∷ File Image ∷ File Waits ∷ File Lines ∷ Number 200000 ∷ []
 
 -- the commands, in the order in which words are tried
 abbrev pub commands : List Command
-commands = RunImage ∷ Check ∷ Certify ∷ Seq ∷ Assemble ∷ Schedule ∷ Build ∷ Sweep ∷ RunExtension ∷ Bench ∷ Wave ∷ []
+commands = RunImage ∷ Check ∷ Certify ∷ Seq ∷ Assemble ∷ Schedule ∷ Build ∷ Sweep ∷ RunExtension ∷ Bench ∷ Wave ∷ RunInterrupted ∷ []
 
 -- ---- which command words are
 -- any word names a file; a number is at most the given one
@@ -237,6 +239,32 @@ pipeline_of words = run_by (codes "run") words
 -- the dump of such a run that these words ask for, if they do
 abbrev pub wave_of : List (List ℕ) → Option PipelineCommand
 wave_of words = run_by (codes "wave") words
+
+-- ---- run EXT SHEET IMAGE WAITS LINES CYCLES, with 0 to 200,000 cycles
+pub record InterruptedCommand : Type 0 where
+  pub extension : List ℕ
+  pub sheet : List ℕ
+  pub image : List ℕ
+  pub waits : List ℕ
+  pub lines : List ℕ
+  pub cycles : ℕ
+
+-- the run with an extension and an interrupt line that these files and this number are of, where the first word is that of one
+abbrev pub interrupted_command : Bool → List ℕ → List ℕ → List ℕ → List ℕ → List ℕ → Option ℕ → Option InterruptedCommand
+interrupted_command is_run extension sheet image waits lines None = None
+interrupted_command is_run extension sheet image waits lines (Some n) = if is_run then Some (record { extension = extension; sheet = sheet; image = image; waits = waits; lines = lines; cycles = n }) else None
+
+-- the run with an interrupt line that these words ask for, if they do
+abbrev pub interrupted_of : List (List ℕ) → Option InterruptedCommand
+interrupted_of [] = None
+interrupted_of (command ∷ []) = None
+interrupted_of (command ∷ extension ∷ []) = None
+interrupted_of (command ∷ extension ∷ sheet ∷ []) = None
+interrupted_of (command ∷ extension ∷ sheet ∷ image ∷ []) = None
+interrupted_of (command ∷ extension ∷ sheet ∷ image ∷ waits ∷ []) = None
+interrupted_of (command ∷ extension ∷ sheet ∷ image ∷ waits ∷ lines ∷ []) = None
+interrupted_of (command ∷ extension ∷ sheet ∷ image ∷ waits ∷ lines ∷ cycles ∷ []) = interrupted_command (bytes_eq command (codes "run")) extension sheet image waits lines (number_within 200000 cycles)
+interrupted_of (command ∷ extension ∷ sheet ∷ image ∷ waits ∷ lines ∷ cycles ∷ more ∷ rest) = None
 
 -- ---- bench EXT SHEET NUMBER COUNT, with a number of 32 bits and 0 to 10,000 drawn words
 pub record BenchCommand : Type 0 where

@@ -5,7 +5,8 @@ use Rattle.ix_sheet.specs.declared.sheet.Sheet.{Sheet}
 use Rattle.ix_words.specs.declared.value.Value.{Value}
 use Rattle.ix_words.specs.declared.value.Value.TheVariants as value
 
--- a number, the words of an image, a report in which no fault was found, an extension, a datasheet, the bytes of a source, or the waits of a memory
+-- a number, the words of an image, a report in which no fault was found, an extension, a datasheet, the bytes of a source, the waits of a memory, or the rows in which an
+-- interrupt line is raised
 pub data Reading : Type 0 where
   number_read : ℕ → Reading
   image_read : List ℕ → Reading
@@ -14,6 +15,7 @@ pub data Reading : Type 0 where
   sheet_read : Sheet → Reading
   source_read : List ℕ → Reading
   waits_read : List ℕ → Reading
+  lines_read : List ℕ → Reading
 
 -- what a value of the code is
 abbrev pub reading_of : Value → Reading
@@ -24,3 +26,4 @@ reading_of (value.Extension x) = extension_read (view_extension x)
 reading_of (value.Sheet sheet) = sheet_read sheet
 reading_of (value.Source bytes) = source_read bytes
 reading_of (value.Waits waits) = waits_read waits
+reading_of (value.Lines lines) = lines_read lines

@@ -1,9 +1,9 @@
 -- What the words behind the first stand for, and the first of them that is refused (this project's choice).
 use Rattle.std.specs.Prelude.{◌≡◌, IfSome, ℕ, ◌<◌, ◌≤◌, List, [], ◌∷◌, ◌++◌, length, Option, Some, codes, decimal, ◌⊎◌, string_bytes, Result, Ok, Err}
 use Rattle.ix_words.specs.declared.status.Status.{Status}
-use Rattle.ix_words.specs.declared.status.Status.TheVariants.{ReadFault, TooLong, Extension as extension_status, Sheet as sheet_status, Image as image_status, Certificate, Source, Waits as waits_status}
+use Rattle.ix_words.specs.declared.status.Status.TheVariants.{ReadFault, TooLong, Extension as extension_status, Sheet as sheet_status, Image as image_status, Certificate, Source, Waits as waits_status, Lines as lines_status}
 use Rattle.ix_words.specs.declared.command.FileKind.{FileKind}
-use Rattle.ix_words.specs.declared.command.FileKind.TheVariants.{Image, Report, Extension, Sheet, Source as source_kind, Waits}
+use Rattle.ix_words.specs.declared.command.FileKind.TheVariants.{Image, Report, Extension, Sheet, Source as source_kind, Waits, Lines}
 use Rattle.ix_words.specs.declared.command.Slot.{Slot}
 use Rattle.ix_words.specs.declared.command.Slot.TheVariants.{Number, File}
 use Rattle.ix_words.specs.declared.value.Value.{Value}
@@ -11,12 +11,13 @@ use Rattle.ix_words.specs.declared.value.Refusal.{Refusal}
 use Rattle.ix_words.specs.declared.value.Refusal.TheVariants as refusal
 use Rattle.rv_asm.specs.ImageText.{IsImageText, IsBadLine}
 use Rattle.rv_asm.specs.WaitsText.{IsWaitsText, IsBadWait}
+use Rattle.rv_asm.specs.LinesText.{IsLinesText, IsBadRow}
 use Rattle.ix_elab.specs.declared.error.FrontErr.{FrontErr}
 use Rattle.ix_elab.specs.Elaborating.{Elaborates}
 use Rattle.ix_elab.specs.Refusing.{IsRefused as IsRefusedExtension}
 use Rattle.ix_listing.specs.RefusalLine.{refusal_line}
-use Rattle.ix_words.specs.Readings.{Reading, number_read, image_read, report_read, extension_read, sheet_read, source_read, waits_read, reading_of}
-use Rattle.ix_words.specs.CommandLine.{behind, number_within}
+use Rattle.ix_words.specs.Readings.{Reading, number_read, image_read, report_read, extension_read, sheet_read, source_read, waits_read, lines_read, reading_of}
+use Rattle.ix_words.specs.CommandLine.{number_within}
 use Rattle.ix_sheet.specs.declared.sheet.Sheet.{Sheet as Datasheet}
 use Rattle.ix_sheet.specs.declared.sheet.SheetErr.{SheetErr}
 use Rattle.ix_sheet.specs.declared.sheet.SheetErr.TheVariants as S
@@ -41,6 +42,10 @@ image_line number = codes "refused Image " ++ decimal number ++ codes "\n"
 -- a refusal that names a number of a list of waits, from 0
 abbrev pub waits_line : ℕ → List ℕ
 waits_line number = codes "refused Waits " ++ decimal number ++ codes "\n"
+
+-- a refusal that names a number of a list of the rows in which an interrupt line is raised, from 0
+abbrev pub lines_line : ℕ → List ℕ
+lines_line number = codes "refused Lines " ++ decimal number ++ codes "\n"
 
 -- a refusal of a report, which names its line and what fails there
 abbrev pub certificate_line : CertErr → List ℕ
@@ -74,6 +79,7 @@ IsRefusedText Image bytes line = (number : ℕ) × IsBadLine bytes number × (li
 IsRefusedText Report bytes line = (e : CertErr) × IsRefusedReport bytes e × (line ≡ certificate_line e)
 IsRefusedText Extension bytes line = (e : FrontErr) × IsRefusedExtension bytes e × (line ≡ refusal_line e)
 IsRefusedText Waits bytes line = (number : ℕ) × IsBadWait bytes number × (line ≡ waits_line number)
+IsRefusedText Lines bytes line = (number : ℕ) × IsBadRow bytes number × (line ≡ lines_line number)
 IsRefusedText Sheet bytes line = (e : SheetErr) × IsRefusedSheet bytes e × (line ≡ sheet_line e)
 IsRefusedText source_kind bytes line = ⊥
 
@@ -83,6 +89,7 @@ refusal_status Image = image_status
 refusal_status Report = Certificate
 refusal_status Extension = extension_status
 refusal_status Waits = waits_status
+refusal_status Lines = lines_status
 refusal_status Sheet = sheet_status
 refusal_status source_kind = Source
 
@@ -96,6 +103,8 @@ IsReadAs Extension bytes (extension_read x) = Elaborates bytes x
 IsReadAs Extension bytes v = ⊥
 IsReadAs Waits bytes (waits_read waits) = IsWaitsText bytes waits
 IsReadAs Waits bytes v = ⊥
+IsReadAs Lines bytes (lines_read lines) = IsLinesText bytes lines
+IsReadAs Lines bytes v = ⊥
 IsReadAs Sheet bytes (sheet_read sheet) = IsSheetRead bytes sheet
 IsReadAs Sheet bytes v = ⊥
 IsReadAs source_kind bytes (source_read text) = text ≡ bytes

@@ -26,6 +26,8 @@ pub enum Command {
     Bench,
     /// `wave EXT SHEET IMAGE WAITS CYCLES`, with 0 to 200,000 cycles.
     Wave,
+    /// `run EXT SHEET IMAGE WAITS LINES CYCLES`, with 0 to 200,000 cycles.
+    RunInterrupted,
 }
 
 /// What is written of a run with an extension.
@@ -33,6 +35,8 @@ pub enum Command {
 pub enum RunForm {
     /// The lines of its rows, and the state behind them.
     Rows,
+    /// The same of a run with an interrupt line.
+    Interrupted,
     /// A value change dump of the ports of the modules.
     Ports,
 }
@@ -52,6 +56,8 @@ pub enum FileKind {
     Source,
     /// The waits of a memory.
     Waits,
+    /// The rows in which an interrupt line is raised.
+    Lines,
 }
 
 /// What may stand in a place behind the first word.
@@ -64,7 +70,7 @@ pub enum Slot {
 }
 
 /// The commands, in the order in which words are tried.
-const COMMANDS: [Command; 11] = [
+const COMMANDS: [Command; 12] = [
     Command::RunImage,
     Command::Check,
     Command::Certify,
@@ -76,6 +82,7 @@ const COMMANDS: [Command; 11] = [
     Command::RunExtension,
     Command::Bench,
     Command::Wave,
+    Command::RunInterrupted,
 ];
 
 /// What stands behind `run` for an image alone.
@@ -112,6 +119,16 @@ const RUN_EXTENSION: [Slot; 5] = [
     Slot::Number(200_000),
 ];
 
+/// What stands behind `run` for an image on a core with an extension and an interrupt line.
+const RUN_INTERRUPTED: [Slot; 6] = [
+    Slot::File(FileKind::Extension),
+    Slot::File(FileKind::Sheet),
+    Slot::File(FileKind::Image),
+    Slot::File(FileKind::Waits),
+    Slot::File(FileKind::Lines),
+    Slot::Number(200_000),
+];
+
 /// What stands behind `bench`.
 const BENCH: [Slot; 4] = [
     Slot::File(FileKind::Extension),
@@ -137,6 +154,7 @@ impl Command {
             Command::RunExtension => "run",
             Command::Bench => "bench",
             Command::Wave => "wave",
+            Command::RunInterrupted => "run",
         }
     }
 
@@ -156,6 +174,7 @@ impl Command {
             Command::RunExtension => &RUN_EXTENSION,
             Command::Bench => &BENCH,
             Command::Wave => &RUN_EXTENSION,
+            Command::RunInterrupted => &RUN_INTERRUPTED,
         }
     }
 }

@@ -30,6 +30,8 @@ pub enum Status {
     Source,
     /// A list of waits is refused.
     Waits,
+    /// A list of the rows in which an interrupt line is raised is refused.
+    Lines,
 }
 
 impl Status {
@@ -51,6 +53,7 @@ impl Status {
             Status::Memory => 12,
             Status::Source => 13,
             Status::Waits => 14,
+            Status::Lines => 15,
         }
     }
 }

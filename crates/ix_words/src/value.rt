@@ -4,10 +4,10 @@ ghost use Rattle.ix_io.specs.Limits.{most_bytes};
 ghost use Rattle.ix_cert.specs.declared.report.CertErr.TheVariants.{Memory};
 ghost use Rattle.ix_listing.specs.RefusalLine.{refusal_line};
 ghost use Rattle.ix_words.specs.CommandLine.{fits_slot, fits_slots, bytes_of};
-ghost use Rattle.ix_words.specs.WordsRead.{image_line, file_line, certificate_line, sheet_text, sheet_line, waits_line, Refuses, Judged, WordRead, WordsRefused, AreRead, RoseIn};
+ghost use Rattle.ix_words.specs.WordsRead.{image_line, file_line, certificate_line, sheet_text, sheet_line, waits_line, lines_line, Refuses, Judged, WordRead, WordsRefused, AreRead, RoseIn};
 ghost use Rattle.ix_words.specs.Readings.{reading_of};
 ghost use Rattle.ix_words.specs.declared.command.FileKind.{FileKind as Kind};
-ghost use Rattle.ix_words.specs.declared.command.FileKind.TheVariants.{Image as image_kind, Report as report_kind, Extension as extension_kind, Sheet as sheet_kind, Source as source_kind, Waits as waits_kind};
+ghost use Rattle.ix_words.specs.declared.command.FileKind.TheVariants.{Image as image_kind, Report as report_kind, Extension as extension_kind, Sheet as sheet_kind, Source as source_kind, Waits as waits_kind, Lines as lines_kind};
 
 use crate::command::{FileKind, Slot, number_within};
 use crate::status::Status;
@@ -18,9 +18,9 @@ use ix_io::{ReadErr, Shelf, read_all};
 use ix_listing::refusal;
 use ix_sheet::{Sheet, SheetErr, read_sheet};
 use ix_tree::Extension;
-use rv_asm::{TextErr, read_image, read_waits};
+use rv_asm::{TextErr, read_image, read_lines, read_waits};
 use rv_isa::Image;
-use rv_waits::Waits;
+use rv_waits::{Lines, Waits};
 use std::alloc::Global;
 
 /// What a word of a command stands for.
@@ -40,6 +40,8 @@ pub enum Value {
     Source(List<u8>),
     /// The waits of a memory.
     Waits(Waits),
+    /// The rows in which an interrupt line is raised.
+    Lines(Lines),
 }
 
 /// Why a word stands for nothing: the status and the line of the refusal.
@@ -76,6 +78,16 @@ fn waits_refusal(alloc: Global, number: u32) -> Refusal
 {
     match format!(in alloc; "refused Waits {number}\n") {
         Ok(line) => Refusal::Line(Status::Waits, line),
+        Err(_) => Refusal::Memory,
+    }
+}
+
+/// The refusal of a number of a list of the rows in which an interrupt line is raised.
+fn lines_refusal(alloc: Global, number: u32) -> Refusal
+    ensures { Refuses Status.Lines (lines_line number) result }
+{
+    match format!(in alloc; "refused Lines {number}\n") {
+        Ok(line) => Refusal::Line(Status::Lines, line),
         Err(_) => Refusal::Memory,
     }
 }
@@ -175,6 +187,16 @@ fn judge_waits(alloc: Global, bytes: &[u8]) -> Result<Value, Refusal>
     }
 }
 
+fn judge_lines(alloc: Global, bytes: &[u8]) -> Result<Value, Refusal>
+    ensures { Judged lines_kind bytes.now result }
+{
+    match read_lines(alloc, bytes) {
+        Ok(lines) => Ok(Value::Lines(lines)),
+        Err(TextErr::At(number)) => Err(lines_refusal(alloc, number)),
+        Err(TextErr::Memory) => Err(Refusal::Memory),
+    }
+}
+
 fn judge_sheet(alloc: Global, bytes: &[u8]) -> Result<Value, Refusal>
     ensures { Judged sheet_kind bytes.now result }
 {
@@ -206,6 +228,7 @@ fn judge(alloc: Global, kind: FileKind, bytes: &[u8]) -> Result<Value, Refusal>
         FileKind::Sheet => judge_sheet(alloc, bytes),
         FileKind::Source => judge_source(alloc, bytes),
         FileKind::Waits => judge_waits(alloc, bytes),
+        FileKind::Lines => judge_lines(alloc, bytes),
     }
 }
 

@@ -12,8 +12,8 @@ use ix_schedules::name_law;
 use ix_sheet::{Sheet, native_windows};
 use rv_core::shape_of;
 use rv_isa::Image;
-use rv_pipe::write_design_run;
-use rv_waits::Waits;
+use rv_pipe::{Machine, write_design_run};
+use rv_waits::{Lines, Waits};
 use std::alloc::Global;
 use std::test::Fail;
 
@@ -99,8 +99,24 @@ fn a_run_on_a_core_of_a_user(rt: HostRuntime) -> Result<(), Fail> {
     let image = Image::from_list(List::from_slice(alloc, &WORDS)?);
     let waits = Waits::new(alloc);
     let mut sink = MemSink::new(alloc, List::new(alloc), u32::MAX)?;
-    let written = write_design_run(alloc, &design, &image, &waits, 20, &mut sink);
+    let written = write_design_run(alloc, &design, &image, &waits, None, 20, &mut sink);
     assert!(rt; written.is_ok());
     assert_eq!(rt; str::from_utf8(sink.bytes()), Ok(RUN));
+    Ok(())
+}
+
+/// A line that is raised in the first row: the handler of that core, at address 64, is entered in it.
+#[test]
+fn a_machine_with_an_interrupt_line(rt: HostRuntime) -> Result<(), Fail> {
+    let alloc = rt.alloc();
+    let design = design_on_late(alloc)?;
+    let image = Image::from_list(List::from_slice(alloc, &WORDS)?);
+    let waits = Waits::new(alloc);
+    let mut lines = Lines::new(alloc);
+    lines.push(0)?;
+    let mut machine = Machine::with_lines(alloc, &design, &image, &waits, &lines, 1)?;
+    let row = machine.cycle();
+    assert_eq!(rt; row.taken, Some(0));
+    assert_eq!(rt; row.redirect, Some(64));
     Ok(())
 }

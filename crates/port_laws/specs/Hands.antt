@@ -224,7 +224,7 @@ pub record Hand : Type 0 where
   pub own : ℕ → List Bool
   pub loads : ℕ → Option Access
 
--- what drives its modules; the image, the waits, the accesses of the run and the jumps of always-blocks drive none
+-- what drives its modules; the image, the waits, the interrupt line, the accesses of the run and the jumps of always-blocks drive none
 abbrev pub by_hand : Hand → Drives
 by_hand h =
     record {
@@ -232,8 +232,10 @@ by_hand h =
           record {
             image = [];
             waits = [];
+            lines = None;
+            entries = None;
             shape = h.shape;
-            course = record { answer = λ p. slice_index_or h.answers p (Stopped Ebreak); pc = λ p. 0; accesses = λ p. false; blocks = h.blocks; own = h.own };
+            course = record { answer = λ p. slice_index_or h.answers p (Stopped Ebreak); pc = λ p. 0; enabled = λ p. false; accesses = λ p. false; blocks = h.blocks; own = h.own };
             asks = h.asks;
             units = first_units h.shape.stages h.plans;
             initial = initials h.registers;

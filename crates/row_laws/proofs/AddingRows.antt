@@ -38,7 +38,7 @@ use Rattle.row_laws.specs.Adding.{adding_image, adding_asks, adding_hand, adding
 use Rattle.rv_lawful.specs.Sight.{SpawnsNothing}
 use Rattle.row_laws.specs.Hands.{three, no_customs}
 use Rattle.row_laws.proofs.Agreement.{agrees}
-use Rattle.row_laws.proofs.Stages.{SpawnsNone, left_unretired, none_written, true_not_false, no_register, no_custom, same_cell, AllNamed, named, word_is, Free, free_outside, free_behind, done_below, no_own, goes_before, shows_none, shows_behind, shows_own, operand_first, shows_last, settles_at_ex, no_turn, none_settles, no_stop, some_left, none_retires, one_retires}
+use Rattle.row_laws.proofs.Stages.{SpawnsNone, left_unretired, none_written, untaken, true_not_false, no_register, no_custom, same_cell, AllNamed, named, word_is, Free, free_outside, free_behind, done_below, no_own, goes_before, shows_none, shows_behind, shows_own, operand_first, shows_last, settles_at_ex, no_turn, none_settles, no_stop, some_left, none_retires, one_retires}
 
 -- The run
 
@@ -71,31 +71,31 @@ last_answer : (stop : Option Stop) → answer_at bare adding_image (retirements 
 unfolding retirements
 last_answer stop = answer_3
 
-agrees_0 : AgreesWithRun bare adding [] row_0
+agrees_0 : AgreesWithRun bare adding adding [] row_0
 unfolding architecture decoupled is_written retirements is_flushed is_retired place shown native step run_with decoded_in attempted effect_of over blocks_effect commit_of first applied decoded base_row base_patterns fields_of format_of base_formats
 agrees_0 = agrees adding [] row_0 tt tt tt refl
 
-agrees_1 : AgreesWithRun bare adding (row_0 ∷ []) row_1
+agrees_1 : AgreesWithRun bare adding adding (row_0 ∷ []) row_1
 unfolding architecture decoupled is_written retirements is_flushed is_retired place shown native step run_with decoded_in attempted effect_of over blocks_effect commit_of first applied decoded base_row base_patterns fields_of format_of base_formats
 agrees_1 = agrees adding (row_0 ∷ []) row_1 tt tt tt refl
 
-agrees_2 : AgreesWithRun bare adding two_rows row_2
+agrees_2 : AgreesWithRun bare adding adding two_rows row_2
 unfolding architecture decoupled is_written retirements is_flushed is_retired place shown native step run_with decoded_in attempted effect_of over blocks_effect commit_of first applied decoded base_row base_patterns fields_of format_of base_formats
 agrees_2 = agrees adding two_rows row_2 (refl, (writes 0 5243027 1 5, answer_0, refl)) tt tt refl
 
-agrees_3 : AgreesWithRun bare adding three_rows row_3
+agrees_3 : AgreesWithRun bare adding adding three_rows row_3
 unfolding architecture decoupled is_written retirements is_flushed is_retired place shown native step run_with decoded_in attempted effect_of over blocks_effect commit_of first applied decoded base_row base_patterns fields_of format_of base_formats
 agrees_3 = agrees adding three_rows row_3 (refl, (writes 4 7340307 2 7, answer_1, refl)) tt tt refl
 
-agrees_4 : AgreesWithRun bare adding four_rows row_4
+agrees_4 : AgreesWithRun bare adding adding four_rows row_4
 unfolding architecture decoupled is_written retirements is_flushed is_retired place shown native step run_with decoded_in attempted effect_of over blocks_effect commit_of first applied decoded base_row base_patterns fields_of format_of base_formats
 agrees_4 = agrees adding four_rows row_4 tt tt tt refl
 
-agrees_5 : AgreesWithRun bare adding five_rows row_5
+agrees_5 : AgreesWithRun bare adding adding five_rows row_5
 unfolding architecture decoupled is_written retirements is_flushed is_retired place shown native step run_with decoded_in attempted effect_of over blocks_effect commit_of first applied decoded base_row base_patterns fields_of format_of base_formats
 agrees_5 = agrees adding five_rows row_5 (refl, (writes 8 2130355 3 12, answer_2, refl)) tt (last_answer (Some Ebreak), refl) refl
 
-pub adding_agrees : Agreeing bare adding adding_rows
+pub adding_agrees : Agreeing bare (λ places. adding) adding_rows
 adding_agrees = (agrees_5, (agrees_4, (agrees_3, (agrees_2, (agrees_1, (agrees_0, tt))))))
 
 -- what is written to the x register
@@ -230,7 +230,7 @@ lawful_0 = record {
   holds = shows;
   successors = none_settles adding_hand [] row_0 refl refl (λ stage c stands s. no_second c (subst (λ n. Stands adding row_0 n c) (at_ex [] row_0 stage c s) stands));
   units = none_written adding_hand [] row_0 refl refl;
-  untaken = refl;
+  takes = untaken adding_hand [] row_0 refl;
   stops = no_stop adding_hand [] row_0 refl (λ c stop stands s. no_second c stands) (some_left adding_hand row_0 0 five (omega arith) refl refl);
 } where
   no_second : (c : Cell) → Stands adding row_0 1 c → ⊥
@@ -263,7 +263,7 @@ lawful_1 = record {
   successors = no_turn adding_hand (row_0 ∷ []) row_1 refl refl (λ stage c stands s.
       (at_ex (row_0 ∷ []) row_1 stage c s, (seven, refl, goes_on c (subst (λ n. Stands adding row_1 n c) (at_ex (row_0 ∷ []) row_1 stage c s) stands))));
   units = none_written adding_hand (row_0 ∷ []) row_1 refl refl;
-  untaken = refl;
+  takes = untaken adding_hand (row_0 ∷ []) row_1 refl;
   stops = no_stop adding_hand (row_0 ∷ []) row_1 refl (λ c stop stands s. same_cell (λ d. StopsRun adding (row_0 ∷ []) row_1 1 d stop → ⊥) five c stands (λ r. runs_0 stop r.due) s)
       (some_left adding_hand row_1 0 seven (omega arith) refl refl);
 } where
@@ -302,7 +302,7 @@ lawful_2 = record {
   successors = no_turn adding_hand two_rows row_2 refl refl (λ stage c stands s.
       (at_ex two_rows row_2 stage c s, (sum None, refl, goes_on c (subst (λ n. Stands adding row_2 n c) (at_ex two_rows row_2 stage c s) stands))));
   units = none_written adding_hand two_rows row_2 refl refl;
-  untaken = refl;
+  takes = untaken adding_hand two_rows row_2 refl;
   stops = no_stop adding_hand two_rows row_2 refl (λ c stop stands s. same_cell (λ d. StopsRun adding two_rows row_2 1 d stop → ⊥) seven c stands (λ r. runs_1 stop r.due) s)
       (some_left adding_hand row_2 0 (sum None) (omega arith) refl refl);
 } where
@@ -370,7 +370,7 @@ lawful_3 = record {
   holds = shows;
   successors = none_settles adding_hand three_rows row_3 refl refl settles;
   units = none_written adding_hand three_rows row_3 refl refl;
-  untaken = refl;
+  takes = untaken adding_hand three_rows row_3 refl;
   stops = no_stop adding_hand three_rows row_3 refl (λ c stop stands s. same_cell (λ d. StopsRun adding three_rows row_3 1 d stop → ⊥) (sum (Some (Operand 2 1))) c stands (λ r. r.free (Operand 2 1) sum_waits) s)
       (some_left adding_hand row_3 0 (break (Some Behind)) (omega arith) refl refl);
 } where
@@ -410,7 +410,7 @@ lawful_4 = record {
   successors = no_turn adding_hand four_rows row_4 refl refl (λ stage c stands s.
       (at_ex four_rows row_4 stage c s, (break None, refl, goes_on c (subst (λ n. Stands adding row_4 n c) (at_ex four_rows row_4 stage c s) stands))));
   units = none_written adding_hand four_rows row_4 refl refl;
-  untaken = refl;
+  takes = untaken adding_hand four_rows row_4 refl;
   stops = no_stop adding_hand four_rows row_4 refl (λ c stop stands s. same_cell (λ d. StopsRun adding four_rows row_4 1 d stop → ⊥) (sum None) c stands (λ r. runs_2 stop r.due) s)
       (some_left adding_hand row_4 0 (break None) (omega arith) refl refl);
 } where
@@ -468,7 +468,7 @@ lawful_5 = record {
   holds = shows;
   successors = none_settles adding_hand five_rows row_5 refl refl settles;
   units = none_written adding_hand five_rows row_5 refl refl;
-  untaken = refl;
+  takes = untaken adding_hand five_rows row_5 refl;
   stops = record {
     cause = λ stop e. inl (1, break None, refl, subst (λ x. StopsRun adding five_rows row_5 1 (break None) x) (the stop e) break_stops);
     of_cell = λ stage c stop stands s. of_cell c stop (subst (λ n. Stands adding row_5 n c) s.executing stands) s.due;
@@ -494,5 +494,5 @@ lawful_5 = record {
   shows (suc (suc zero)) c s = same_cell (λ d. ShowsHold adding five_rows row_5 2 d) (sum None) c s (shows_out five_rows row_5 (sum None) refl sum_loads)
   shows (suc (suc (suc n))) c s = cc
 
-pub adding_lawful : Lawful adding adding_rows
+pub adding_lawful : Lawful (λ places. adding) adding_rows
 adding_lawful = (lawful_5, refl, (lawful_4, refl, (lawful_3, refl, (lawful_2, refl, (lawful_1, refl, (lawful_0, refl, tt))))))

@@ -4,7 +4,7 @@ use Rattle.rv_lawful.specs.Headline.{IsRecord, IsSpawnWrite, AgreesWithRun}
 use Rattle.rv_lawful.specs.Outstanding.{Written, outstanding, applied_state}
 use Rattle.rv_lawful.specs.Settings.{Setting}
 use Rattle.rv_seq.specs.Bare.{bare}
-use Rattle.rv_seq.specs.Runs.{run}
+use Rattle.rv_seq.specs.Runs.{run_with}
 use Rattle.rv_seq.specs.declared.answer.StepAnswer.TheVariants.{Stopped}
 use Rattle.rv_seq.specs.declared.commit.Commit.{Commit}
 use Rattle.rv_seq.specs.declared.commit.Stop.{Stop}
@@ -22,13 +22,13 @@ WritesThat k earlier None = Unit {0}
 WritesThat k earlier (Some w) = IsSpawnWrite k earlier w
 
 -- the stop is that of the run
-abbrev pub StopsThere : Setting → List Row → Option Stop → Type 0
-StopsThere k rows None = Unit {0}
-StopsThere k rows (Some s) = (k.course.answer (retirements rows) ≡ Stopped s) × (outstanding k rows ≡ [])
+abbrev pub StopsThere : Setting → Setting → List Row → Option Stop → Type 0
+StopsThere k next rows None = Unit {0}
+StopsThere k next rows (Some s) = (next.course.answer (retirements rows) ≡ Stopped s) × (outstanding k rows ≡ [])
 
-pub agrees : (k : Setting) (earlier : List Row) (row : Row) → RetiresNext k earlier row row.retired → WritesThat k earlier row.written → StopsThere k (row ∷ earlier) row.stop
-    → applied_state bare k (row ∷ earlier) ≡ run bare k.image (retirements (row ∷ earlier)) → AgreesWithRun bare k earlier row
-agrees k earlier row r w t state = record {
+pub agrees_by : (k next : Setting) (earlier : List Row) (row : Row) → RetiresNext k earlier row row.retired → WritesThat k earlier row.written → StopsThere k next (row ∷ earlier) row.stop
+    → applied_state bare next (row ∷ earlier) ≡ run_with bare next.image next.entries (retirements (row ∷ earlier)) → AgreesWithRun bare k next earlier row
+agrees_by k next earlier row r w t state = record {
   placed = λ s c e. (retires s c e).0;
   recorded = λ s c e. (retires s c e).1;
   written = λ v e. subst (WritesThat k earlier) e w;
@@ -39,5 +39,10 @@ agrees k earlier row r w t state = record {
   retires : (s : ℕ) (c : Commit) → row.retired ≡ Some (s, c) → (place (row ∷ earlier) s ≡ retirements earlier) × IsRecord k (retirements earlier) c
   retires s c e = subst (RetiresNext k earlier row) e r
 
-  stops : (s : Stop) → row.stop ≡ Some s → (k.course.answer (retirements (row ∷ earlier)) ≡ Stopped s) × (outstanding k (row ∷ earlier) ≡ [])
-  stops s e = subst (StopsThere k (row ∷ earlier)) e t
+  stops : (s : Stop) → row.stop ≡ Some s → (next.course.answer (retirements (row ∷ earlier)) ≡ Stopped s) × (outstanding k (row ∷ earlier) ≡ [])
+  stops s e = subst (StopsThere k next (row ∷ earlier)) e t
+
+-- where the row takes no interrupt
+pub agrees : (k : Setting) (earlier : List Row) (row : Row) → RetiresNext k earlier row row.retired → WritesThat k earlier row.written → StopsThere k k (row ∷ earlier) row.stop
+    → applied_state bare k (row ∷ earlier) ≡ run_with bare k.image k.entries (retirements (row ∷ earlier)) → AgreesWithRun bare k k earlier row
+agrees k earlier row r w t state = agrees_by k k earlier row r w t state

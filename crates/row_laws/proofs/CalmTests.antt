@@ -1,5 +1,5 @@
--- What cells owe on a core with any numbers, as tests, where no instruction spawns, writes the pc or a custom register late or goes on in the last stage, and the memory never
--- waits: cells that pass them show the right hold.
+-- What cells owe on a core with any numbers, as tests, where no instruction spawns, writes a custom register late or goes on in the last stage: cells that pass them show the right
+-- hold.
 use Rattle.std.proofs.Common.{◌≡◌, ℕ, zero, suc, ◌+◌, ◌<◌, ◌≤◌, List, [], ◌∷◌, Option, Some, None, Bool, true, false, refl, sym, ap, ◌∙◌, subst, arith, ◌⊎◌, inl, inr}
 use Rattle.std.specs.Prelude.{◌&&◌, ◌||◌, not, ◌==◌, nat_lt, is_some, slice_get, get_or}
 use Rattle.std.proofs.lemmas.Bool.Decides.{nat_tests}
@@ -13,7 +13,8 @@ use Rattle.rv_trace.specs.Trace.{has_serial, is_flushed, is_retired, place}
 use Rattle.rv_trace.specs.RowParts.{ComesFirst}
 use Rattle.rv_waits.specs.Waits.{wait_at}
 use Rattle.rv_lawful.specs.Settings.{Setting, stages_of, Stands, stood, tailed, accesses_before}
-use Rattle.rv_lawful.specs.LawfulTrace.{IsDueToStop, reads_of, WaitsForOperand, WaitsToDrain, WaitsForMemory, WaitsForModule, OwnHold, StopsRun, WaitsBehind, ShowsHold}
+use Rattle.rv_lawful.specs.Entering.{is_interrupted}
+use Rattle.rv_lawful.specs.LawfulTrace.{IsDueToStop, reads_of, WaitsForOperand, WaitsForJump, WaitsForEntry, WaitsToDrain, WaitsForMemory, WaitsForStore, WaitsForModule, OwnHold, StopsRun, WaitsBehind, ShowsHold}
 use Rattle.row_laws.proofs.Stages.{true_not_false, inside, same_cell, AllNamedBy, word_by, SpawnsNothingAt, never_boards, never_full, never_taken, left_unretired, never_waits, shows_none, shows_hold, shows_own}
 use Rattle.row_laws.proofs.Tests.{both_true, either, either_not, negated, known, or_left, or_right, and_both, same_number, less, not_less, all_below, below, stop_in, stop_there}
 
@@ -80,13 +81,11 @@ any_there f (Some d ∷ rest) (suc n) c s e = or_right (f 0 d) (any_cell (λ m. 
 
 -- Settings
 
--- no instruction spawns, writes the pc or a custom register late or goes on in the last stage, and the memory never waits
+-- no instruction spawns, writes a custom register late or goes on in the last stage
 pub record IsCalm (k : Setting) : Type 0 where
   pub spawns : SpawnsNothingAt k
-  pub late : (word : ℕ) → (k.asks word).late ≡ false
   pub tail : (word : ℕ) → (k.asks word).tail ≡ 0
   pub unlate : (word r : ℕ) → get_or (k.asks word).late_customs r false ≡ false
-  pub waits : k.waits ≡ []
 
 -- what is asked of the instruction of a serial, which has its word in this list
 abbrev pub asks_by : Setting → List ℕ → ℕ → Asks
@@ -144,6 +143,34 @@ operands_not k words earlier row stage c all e r j w =
     let here : all_below (operand_clear k words earlier row c) c.serial ≡ true = subst (λ b. operands_clear b k words earlier row c ≡ true) (equal stage k.shape.rd w.reading) e in
     operand_not k words earlier row stage c all r j (below (operand_clear k words earlier row c) c.serial j here w.older.lower) w
 
+-- Late
+
+-- the instruction of this serial is retired, or does not write the pc late
+abbrev pub jump_clear : Setting → List ℕ → List Row → ℕ → Bool
+jump_clear k words earlier j = is_retired earlier j || not (asks_by k words j).late
+
+-- none writes the pc late, where this is EX
+abbrev pub jumps_clear : Bool → Setting → List ℕ → List Row → Cell → Bool
+jumps_clear false k words earlier c = true
+jumps_clear true k words earlier c = all_below (jump_clear k words earlier) c.serial
+
+jumps_not : (k : Setting) (words : List ℕ) (earlier : List Row) (row : Row) (stage : ℕ) (c : Cell) → AllNamedBy k words (row ∷ earlier) → jumps_clear (stage == k.shape.ex) k words earlier c ≡ true → (j : ℕ) → WaitsForJump k earlier row stage c j → ⊥
+jumps_not k words earlier row stage c all e j w =
+    let here : all_below (jump_clear k words earlier) c.serial ≡ true = subst (λ b. jumps_clear b k words earlier c ≡ true) (equal stage k.shape.ex w.executing) e in
+    let late : (asks_by k words j).late ≡ true = sym (ap (λ n. (k.asks n).late) (word_by k words (row ∷ earlier) all j w.jumps.0 w.jumps.1)) ∙ w.jumps.2 in
+    let done = either (is_retired earlier j) (not (asks_by k words j).late) (below (jump_clear k words earlier) c.serial j here w.older.lower) w.unretired in
+    true_not_false (sym late ∙ negated (asks_by k words j).late done)
+
+-- the cell waits for no operand and for no jump
+abbrev pub early_clear : Setting → List ℕ → List Row → Row → ℕ → Cell → Bool
+early_clear k words earlier row stage c = operands_clear (stage == k.shape.rd) k words earlier row c && jumps_clear (stage == k.shape.ex) k words earlier c
+
+early_operand : (k : Setting) (words : List ℕ) (earlier : List Row) (row : Row) (stage : ℕ) (c : Cell) → AllNamedBy k words (row ∷ earlier) → early_clear k words earlier row stage c ≡ true → (r j : ℕ) → WaitsForOperand k earlier row stage c r j → ⊥
+early_operand k words earlier row stage c all e r j w = operands_not k words earlier row stage c all (both_true (operands_clear (stage == k.shape.rd) k words earlier row c) (jumps_clear (stage == k.shape.ex) k words earlier c) e).0 r j w
+
+early_jump : (k : Setting) (words : List ℕ) (earlier : List Row) (row : Row) (stage : ℕ) (c : Cell) → AllNamedBy k words (row ∷ earlier) → early_clear k words earlier row stage c ≡ true → (j : ℕ) → WaitsForJump k earlier row stage c j → ⊥
+early_jump k words earlier row stage c all e j w = jumps_not k words earlier row stage c all (both_true (operands_clear (stage == k.shape.rd) k words earlier row c) (jumps_clear (stage == k.shape.ex) k words earlier c) e).1 j w
+
 -- Drain
 
 abbrev pub is_gone : List Row → ℕ → Bool
@@ -164,12 +191,60 @@ drain_not k calm earlier row stage c e j w =
     let gone = either_not (is_some (due_stop k (row ∷ earlier) c)) (all_below (is_gone (row ∷ earlier)) c.serial) here (is_due_then k (row ∷ earlier) c w.due.0 w.due.1) in
     not_gone k calm earlier row stage c j (below (is_gone (row ∷ earlier)) c.serial j gone w.older.lower) w
 
--- The other holds
+-- Trap
 
-wait_not : (k : Setting) → IsCalm k → (earlier : List Row) (row : Row) (stage : ℕ) (c : Cell) (left : ℕ) → WaitsForMemory k earlier row stage c left → ⊥
-wait_not k calm earlier row stage c left w = no_rows left (stood k earlier c.serial) (w.still ∙ ap (λ l. wait_at l (accesses_before k.course (place (row ∷ earlier) c.serial))) calm.waits ∙ never_waits (accesses_before k.course (place (row ∷ earlier) c.serial))) w.some where
+-- no interrupt is to be taken, where this is EX
+abbrev pub trap_clear : Bool → Setting → List Row → Bool
+trap_clear false k earlier = true
+trap_clear true k earlier = not (is_interrupted k earlier)
+
+trap_not : (k : Setting) (earlier : List Row) (stage : ℕ) → trap_clear (stage == k.shape.ex) k earlier ≡ true → WaitsForEntry k earlier stage → ⊥
+trap_not k earlier stage e w =
+    let here : not (is_interrupted k earlier) ≡ true = subst (λ b. trap_clear b k earlier ≡ true) (equal stage k.shape.ex w.executing) e in
+    true_not_false (sym w.interrupted ∙ negated (is_interrupted k earlier) here)
+
+-- Wait
+
+-- for how many rows the access of the cell waits
+abbrev pub wait_of : Setting → List Row → Cell → ℕ
+wait_of k rows c = wait_at k.waits (accesses_before k.course (place rows c.serial))
+
+-- the cell does not access the memory, or has waited, where this is MEM and the memory has these waits
+abbrev pub wait_clear : Bool → List ℕ → Setting → List Row → Row → Cell → Bool
+wait_clear false waits k earlier row c = true
+wait_clear true [] k earlier row c = true
+wait_clear true (w ∷ ws) k earlier row c = not (k.course.accesses (place (row ∷ earlier) c.serial)) || not (nat_lt (stood k earlier c.serial) (wait_of k (row ∷ earlier) c))
+
+wait_not : (k : Setting) (earlier : List Row) (row : Row) (stage : ℕ) (c : Cell) (waits : List ℕ) → k.waits ≡ waits → wait_clear (stage == k.shape.mem) waits k earlier row c ≡ true → (left : ℕ) → WaitsForMemory k earlier row stage c left → ⊥
+wait_not k earlier row stage c [] none e left w = no_rows left (stood k earlier c.serial) (w.still ∙ ap (λ l. wait_at l (accesses_before k.course (place (row ∷ earlier) c.serial))) none ∙ never_waits (accesses_before k.course (place (row ∷ earlier) c.serial))) w.some where
   no_rows : (a b : ℕ) → a + b ≡ 0 → 0 < a → ⊥
   no_rows a b e lt = omega (arith, e, lt)
+wait_not k earlier row stage c (w ∷ ws) some e left waits = no_rows left (stood k earlier c.serial) (wait_of k (row ∷ earlier) c) waits.still waits.some (not_less (stood k earlier c.serial) (wait_of k (row ∷ earlier) c) done) where
+  no_rows : (a b n : ℕ) → a + b ≡ n → 0 < a → n ≤ b → ⊥
+  no_rows a b n e lt le = omega (arith, e, lt, le)
+
+  here : wait_clear true (w ∷ ws) k earlier row c ≡ true
+  here = subst (λ b. wait_clear b (w ∷ ws) k earlier row c ≡ true) (equal stage k.shape.mem waits.waiting) e
+
+  done : nat_lt (stood k earlier c.serial) (wait_of k (row ∷ earlier) c) ≡ false
+  done =
+      negated (nat_lt (stood k earlier c.serial) (wait_of k (row ∷ earlier) c))
+      (either_not (k.course.accesses (place (row ∷ earlier) c.serial)) (not (nat_lt (stood k earlier c.serial) (wait_of k (row ∷ earlier) c))) here waits.accesses)
+
+-- The other holds
+
+is_above : (m n : ℕ) → m < n → nat_lt m n ≡ true
+is_above m n lt = grind (arith, nat_tests)
+
+-- the cell does not load, or no store stands in a later stage
+abbrev pub store_clear : Setting → Row → ℕ → Cell → Bool
+store_clear k row stage c = not (k.asks c.word).loads || not (any_cell (λ n d. nat_lt stage n && (k.asks d.word).stores) (stages_of k row))
+
+store_not : (k : Setting) (earlier : List Row) (row : Row) (stage : ℕ) (c : Cell) → store_clear k row stage c ≡ true → (j : ℕ) → WaitsForStore k earlier row stage c j → ⊥
+store_not k earlier row stage c e j w =
+    let none = negated (any_cell (λ n d. nat_lt stage n && (k.asks d.word).stores) (stages_of k row)) (either_not (k.asks c.word).loads (not (any_cell (λ n d. nat_lt stage n && (k.asks d.word).stores) (stages_of k row))) e w.loads) in
+    let at = w.stands in
+    true_not_false (sym (any_there (λ n d. nat_lt stage n && (k.asks d.word).stores) (stages_of k row) at.0 at.1 at.3 (and_both (nat_lt stage at.0) (k.asks at.1.word).stores (is_above stage at.0 at.2) at.5)) ∙ none)
 
 tail_not : (k : Setting) → IsCalm k → (earlier : List Row) (row : Row) (stage : ℕ) (c : Cell) (left : ℕ) → WaitsForModule k earlier row stage c left → ⊥
 tail_not k calm earlier row stage c left w = no_rows left (tailed k earlier c.serial) (w.still ∙ calm.tail c.word) w.some where
@@ -178,19 +253,40 @@ tail_not k calm earlier row stage c left w = no_rows left (tailed k earlier c.se
 
 -- the cell has no hold of its own
 abbrev pub own_clear : Setting → List ℕ → List Row → Row → ℕ → Cell → Bool
-own_clear k words earlier row stage c = operands_clear (stage == k.shape.rd) k words earlier row c && (drain_clear (stage == k.shape.ex) k earlier row c && not (k.asks c.word).loads)
+own_clear k words earlier row stage c =
+    early_clear k words earlier row stage c
+    && (trap_clear (stage == k.shape.ex) k earlier && (drain_clear (stage == k.shape.ex) k earlier row c && (wait_clear (stage == k.shape.mem) k.waits k earlier row c && store_clear k row stage c)))
+
+-- the parts of that test
+record OwnParts (k : Setting) (words : List ℕ) (earlier : List Row) (row : Row) (stage : ℕ) (c : Cell) : Type 0 where
+  early : early_clear k words earlier row stage c ≡ true
+  trap : trap_clear (stage == k.shape.ex) k earlier ≡ true
+  drain : drain_clear (stage == k.shape.ex) k earlier row c ≡ true
+  wait : wait_clear (stage == k.shape.mem) k.waits k earlier row c ≡ true
+  store : store_clear k row stage c ≡ true
+
+own_parts : (k : Setting) (words : List ℕ) (earlier : List Row) (row : Row) (stage : ℕ) (c : Cell) → own_clear k words earlier row stage c ≡ true → OwnParts k words earlier row stage c
+own_parts k words earlier row stage c e = parts (early_clear k words earlier row stage c) (trap_clear (stage == k.shape.ex) k earlier) (drain_clear (stage == k.shape.ex) k earlier row c) (wait_clear (stage == k.shape.mem) k.waits k earlier row c) refl refl refl refl e where
+  parts : (a b d f : Bool) → early_clear k words earlier row stage c ≡ a → trap_clear (stage == k.shape.ex) k earlier ≡ b → drain_clear (stage == k.shape.ex) k earlier row c ≡ d → wait_clear (stage == k.shape.mem) k.waits k earlier row c ≡ f
+      → (a && (b && (d && (f && store_clear k row stage c)))) ≡ true → OwnParts k words earlier row stage c
+  parts a b d f p q r s g =
+      let x = both_true a (b && (d && (f && store_clear k row stage c))) g in
+      let y = both_true b (d && (f && store_clear k row stage c)) x.1 in
+      let z = both_true d (f && store_clear k row stage c) y.1 in
+      let w = both_true f (store_clear k row stage c) z.1 in
+      record { early = p ∙ x.0; trap = q ∙ y.0; drain = r ∙ z.0; wait = s ∙ w.0; store = w.1 }
 
 pub own_not : (k : Setting) (words : List ℕ) → IsCalm k → (earlier : List Row) (row : Row) (stage : ℕ) (c : Cell) → AllNamedBy k words (row ∷ earlier) → own_clear k words earlier row stage c ≡ true → (g : Hold) → OwnHold k earlier row stage c g → ⊥
-own_not k words calm earlier row stage c all e = none (both_true (operands_clear (stage == k.shape.rd) k words earlier row c) (drain_clear (stage == k.shape.ex) k earlier row c && not (k.asks c.word).loads) e) where
-  none : (operands_clear (stage == k.shape.rd) k words earlier row c ≡ true) × ((drain_clear (stage == k.shape.ex) k earlier row c && not (k.asks c.word).loads) ≡ true) → (g : Hold) → OwnHold k earlier row stage c g → ⊥
-  none p (Operand r j) o = operands_not k words earlier row stage c all p.0 r j o
+own_not k words calm earlier row stage c all e = none (own_parts k words earlier row stage c e) where
+  none : OwnParts k words earlier row stage c → (g : Hold) → OwnHold k earlier row stage c g → ⊥
+  none p (Operand r j) o = early_operand k words earlier row stage c all p.early r j o
   none p (Board t j) o = never_boards k calm.spawns earlier row stage c t j o
   none p (Custom r j) o = true_not_false (sym o.writes.2 ∙ calm.unlate o.writes.0 r)
-  none p (Late j) o = true_not_false (sym o.jumps.2 ∙ calm.late o.jumps.0)
-  none p Trap o = o
-  none p (Drain j) o = drain_not k calm earlier row stage c (both_true (drain_clear (stage == k.shape.ex) k earlier row c) (not (k.asks c.word).loads) p.1).0 j o
-  none p (Wait left) o = wait_not k calm earlier row stage c left o
-  none p (StoreAhead j) o = true_not_false (sym o.loads ∙ negated (k.asks c.word).loads (both_true (drain_clear (stage == k.shape.ex) k earlier row c) (not (k.asks c.word).loads) p.1).1)
+  none p (Late j) o = early_jump k words earlier row stage c all p.early j o
+  none p Trap o = trap_not k earlier stage p.trap o
+  none p (Drain j) o = drain_not k calm earlier row stage c p.drain j o
+  none p (Wait left) o = wait_not k earlier row stage c k.waits refl p.wait left o
+  none p (StoreAhead j) o = store_not k earlier row stage c p.store j o
   none p (Tail left) o = tail_not k calm earlier row stage c left o
   none p (UnitFull u) o = never_full k calm.spawns earlier row stage c u o
   none p (Port j) o = never_taken k calm.spawns earlier row stage c j o
@@ -327,7 +423,7 @@ shows_operand k words earlier row stage c r j all alive shown e = shows_own k ea
   first (Board t i) o = inl (omega arith)
   first (Custom s i) o = inl (omega arith)
   first (Late i) o = inl (omega arith)
-  first Trap o = absurd o
+  first Trap o = inl (omega arith)
   first (Drain i) o = inl (omega arith)
   first (Wait left) o = inl (omega arith)
   first (StoreAhead i) o = inl (omega arith)
@@ -356,30 +452,108 @@ drains_then k earlier row stage c j e =
     }
 
 abbrev pub drain_shown : Setting → List ℕ → List Row → Row → ℕ → Cell → ℕ → Bool
-drain_shown k words earlier row stage c j = drain_true k earlier row stage c j && (operands_clear (stage == k.shape.rd) k words earlier row c && all_below (is_gone (row ∷ earlier)) j)
+drain_shown k words earlier row stage c j = drain_true k earlier row stage c j && (early_clear k words earlier row stage c && (trap_clear (stage == k.shape.ex) k earlier && all_below (is_gone (row ∷ earlier)) j))
 
 shows_drain : (k : Setting) (words : List ℕ) → IsCalm k → (earlier : List Row) (row : Row) (stage : ℕ) (c : Cell) (j : ℕ) → AllNamedBy k words (row ∷ earlier) → has_serial row.flushed c.serial ≡ false → c.hold ≡ Some (Drain j) → drain_shown k words earlier row stage c j ≡ true
     → ShowsHold k earlier row stage c
 shows_drain k words calm earlier row stage c j all alive shown e = shows_own k earlier row stage c (Drain j) shown alive (drains_then k earlier row stage c j parts.0) first (inl (omega arith)) where
-  parts : (drain_true k earlier row stage c j ≡ true) × ((operands_clear (stage == k.shape.rd) k words earlier row c && all_below (is_gone (row ∷ earlier)) j) ≡ true)
-  parts = both_true (drain_true k earlier row stage c j) (operands_clear (stage == k.shape.rd) k words earlier row c && all_below (is_gone (row ∷ earlier)) j) e
+  parts : (drain_true k earlier row stage c j ≡ true) × ((early_clear k words earlier row stage c && (trap_clear (stage == k.shape.ex) k earlier && all_below (is_gone (row ∷ earlier)) j)) ≡ true)
+  parts = both_true (drain_true k earlier row stage c j) (early_clear k words earlier row stage c && (trap_clear (stage == k.shape.ex) k earlier && all_below (is_gone (row ∷ earlier)) j)) e
 
-  clears : (operands_clear (stage == k.shape.rd) k words earlier row c ≡ true) × (all_below (is_gone (row ∷ earlier)) j ≡ true)
-  clears = both_true (operands_clear (stage == k.shape.rd) k words earlier row c) (all_below (is_gone (row ∷ earlier)) j) parts.1
+  clears : (early_clear k words earlier row stage c ≡ true) × ((trap_clear (stage == k.shape.ex) k earlier && all_below (is_gone (row ∷ earlier)) j) ≡ true)
+  clears = both_true (early_clear k words earlier row stage c) (trap_clear (stage == k.shape.ex) k earlier && all_below (is_gone (row ∷ earlier)) j) parts.1
+
+  rest : (trap_clear (stage == k.shape.ex) k earlier ≡ true) × (all_below (is_gone (row ∷ earlier)) j ≡ true)
+  rest = both_true (trap_clear (stage == k.shape.ex) k earlier) (all_below (is_gone (row ∷ earlier)) j) clears.1
 
   first : (f : Hold) → OwnHold k earlier row stage c f → ComesFirst (Drain j) f
-  first (Operand s i) o = absurd (operands_not k words earlier row stage c all clears.0 s i o)
+  first (Operand s i) o = absurd (early_operand k words earlier row stage c all clears.0 s i o)
   first (Board t i) o = absurd (never_boards k calm.spawns earlier row stage c t i o)
   first (Custom s i) o = absurd (true_not_false (sym o.writes.2 ∙ calm.unlate o.writes.0 s))
-  first (Late i) o = absurd (true_not_false (sym o.jumps.2 ∙ calm.late o.jumps.0))
-  first Trap o = absurd o
+  first (Late i) o = absurd (early_jump k words earlier row stage c all clears.0 i o)
+  first Trap o = absurd (trap_not k earlier stage rest.0 o)
   first (Drain i) o = elim (known (nat_lt i j)) [
-    | inl x ↦ absurd (not_gone k calm earlier row stage c i (below (is_gone (row ∷ earlier)) j i clears.1 (less i j x)) o)
+    | inl x ↦ absurd (not_gone k calm earlier row stage c i (below (is_gone (row ∷ earlier)) j i rest.1 (less i j x)) o)
     | inr x ↦ inr (refl, inr (refl, not_less i j x))
   ]
   first (Wait left) o = inl (omega arith)
   first (StoreAhead i) o = inl (omega arith)
   first (Tail left) o = inl (omega arith)
+  first (UnitFull u) o = inl (omega arith)
+  first (Port i) o = inl (omega arith)
+  first Behind o = absurd o
+
+-- A cell that shows Trap
+
+abbrev pub trap_shown : Setting → List ℕ → List Row → Row → ℕ → Cell → Bool
+trap_shown k words earlier row stage c = (stage == k.shape.ex) && (is_interrupted k earlier && early_clear k words earlier row stage c)
+
+shows_trap : (k : Setting) (words : List ℕ) → IsCalm k → (earlier : List Row) (row : Row) (stage : ℕ) (c : Cell) → AllNamedBy k words (row ∷ earlier) → has_serial row.flushed c.serial ≡ false → c.hold ≡ Some Trap → trap_shown k words earlier row stage c ≡ true
+    → ShowsHold k earlier row stage c
+shows_trap k words calm earlier row stage c all alive shown e = shows_own k earlier row stage c Trap shown alive (record { executing = same_number stage k.shape.ex parts.0; interrupted = due.0 }) first (inl (omega arith)) where
+  parts : ((stage == k.shape.ex) ≡ true) × ((is_interrupted k earlier && early_clear k words earlier row stage c) ≡ true)
+  parts = both_true (stage == k.shape.ex) (is_interrupted k earlier && early_clear k words earlier row stage c) e
+
+  due : (is_interrupted k earlier ≡ true) × (early_clear k words earlier row stage c ≡ true)
+  due = both_true (is_interrupted k earlier) (early_clear k words earlier row stage c) parts.1
+
+  first : (f : Hold) → OwnHold k earlier row stage c f → ComesFirst Trap f
+  first (Operand s i) o = absurd (early_operand k words earlier row stage c all due.1 s i o)
+  first (Board t i) o = absurd (never_boards k calm.spawns earlier row stage c t i o)
+  first (Custom s i) o = absurd (true_not_false (sym o.writes.2 ∙ calm.unlate o.writes.0 s))
+  first (Late i) o = absurd (early_jump k words earlier row stage c all due.1 i o)
+  first Trap o = inr (refl, inr (refl, omega arith))
+  first (Drain i) o = inl (omega arith)
+  first (Wait left) o = inl (omega arith)
+  first (StoreAhead i) o = inl (omega arith)
+  first (Tail left) o = inl (omega arith)
+  first (UnitFull u) o = inl (omega arith)
+  first (Port i) o = inl (omega arith)
+  first Behind o = absurd o
+
+-- A cell that shows Wait
+
+-- the cell accesses the memory, and has still to wait for so many rows
+abbrev pub wait_true : Setting → List Row → Row → ℕ → Cell → ℕ → Bool
+wait_true k earlier row stage c left =
+    (stage == k.shape.mem) && (k.course.accesses (place (row ∷ earlier) c.serial) && ((left + stood k earlier c.serial == wait_of k (row ∷ earlier) c) && nat_lt 0 left))
+
+waits_for : (k : Setting) (earlier : List Row) (row : Row) (stage : ℕ) (c : Cell) (left : ℕ) → wait_true k earlier row stage c left ≡ true → WaitsForMemory k earlier row stage c left
+waits_for k earlier row stage c left e =
+    let a = both_true (stage == k.shape.mem) (k.course.accesses (place (row ∷ earlier) c.serial) && ((left + stood k earlier c.serial == wait_of k (row ∷ earlier) c) && nat_lt 0 left)) e in
+    let b = both_true (k.course.accesses (place (row ∷ earlier) c.serial)) ((left + stood k earlier c.serial == wait_of k (row ∷ earlier) c) && nat_lt 0 left) a.1 in
+    let d = both_true (left + stood k earlier c.serial == wait_of k (row ∷ earlier) c) (nat_lt 0 left) b.1 in
+    record { waiting = same_number stage k.shape.mem a.0; accesses = b.0; still = same_number (left + stood k earlier c.serial) (wait_of k (row ∷ earlier) c) d.0; some = less 0 left d.1 }
+
+-- no hold that comes before Wait is true of the cell
+abbrev pub wait_first : Setting → List ℕ → List Row → Row → ℕ → Cell → Bool
+wait_first k words earlier row stage c = early_clear k words earlier row stage c && (trap_clear (stage == k.shape.ex) k earlier && drain_clear (stage == k.shape.ex) k earlier row c)
+
+abbrev pub wait_shown : Setting → List ℕ → List Row → Row → ℕ → Cell → ℕ → Bool
+wait_shown k words earlier row stage c left = wait_true k earlier row stage c left && wait_first k words earlier row stage c
+
+shows_wait : (k : Setting) (words : List ℕ) → IsCalm k → (earlier : List Row) (row : Row) (stage : ℕ) (c : Cell) (left : ℕ) → AllNamedBy k words (row ∷ earlier) → has_serial row.flushed c.serial ≡ false → c.hold ≡ Some (Wait left) → wait_shown k words earlier row stage c left ≡ true
+    → ShowsHold k earlier row stage c
+shows_wait k words calm earlier row stage c left all alive shown e = shows_own k earlier row stage c (Wait left) shown alive (waits_for k earlier row stage c left parts.0) first (inl (omega arith)) where
+  parts : (wait_true k earlier row stage c left ≡ true) × (wait_first k words earlier row stage c ≡ true)
+  parts = both_true (wait_true k earlier row stage c left) (wait_first k words earlier row stage c) e
+
+  clears : (early_clear k words earlier row stage c ≡ true) × ((trap_clear (stage == k.shape.ex) k earlier && drain_clear (stage == k.shape.ex) k earlier row c) ≡ true)
+  clears = both_true (early_clear k words earlier row stage c) (trap_clear (stage == k.shape.ex) k earlier && drain_clear (stage == k.shape.ex) k earlier row c) parts.1
+
+  rest : (trap_clear (stage == k.shape.ex) k earlier ≡ true) × (drain_clear (stage == k.shape.ex) k earlier row c ≡ true)
+  rest = both_true (trap_clear (stage == k.shape.ex) k earlier) (drain_clear (stage == k.shape.ex) k earlier row c) clears.1
+
+  first : (f : Hold) → OwnHold k earlier row stage c f → ComesFirst (Wait left) f
+  first (Operand s i) o = absurd (early_operand k words earlier row stage c all clears.0 s i o)
+  first (Board t i) o = absurd (never_boards k calm.spawns earlier row stage c t i o)
+  first (Custom s i) o = absurd (true_not_false (sym o.writes.2 ∙ calm.unlate o.writes.0 s))
+  first (Late i) o = absurd (early_jump k words earlier row stage c all clears.0 i o)
+  first Trap o = absurd (trap_not k earlier stage rest.0 o)
+  first (Drain i) o = absurd (drain_not k calm earlier row stage c rest.1 i o)
+  first (Wait n) o = inr (refl, inr (refl, omega arith))
+  first (StoreAhead i) o = inl (omega arith)
+  first (Tail n) o = inl (omega arith)
   first (UnitFull u) o = inl (omega arith)
   first (Port i) o = inl (omega arith)
   first Behind o = absurd o
@@ -392,6 +566,8 @@ shows_right k words earlier row stage c None =
     has_serial row.flushed c.serial || (own_clear k words earlier row stage c && (stops_run (stage == k.shape.ex) k words earlier row stage c || goes k earlier row stage (slice_get (stages_of k row) (suc stage))))
 shows_right k words earlier row stage c (Some (Operand r j)) = not (has_serial row.flushed c.serial) && operand_shown k words earlier row stage c r j
 shows_right k words earlier row stage c (Some (Drain j)) = not (has_serial row.flushed c.serial) && drain_shown k words earlier row stage c j
+shows_right k words earlier row stage c (Some Trap) = not (has_serial row.flushed c.serial) && trap_shown k words earlier row stage c
+shows_right k words earlier row stage c (Some (Wait left)) = not (has_serial row.flushed c.serial) && wait_shown k words earlier row stage c left
 shows_right k words earlier row stage c (Some Behind) =
     not (has_serial row.flushed c.serial)
     && (own_clear k words earlier row stage c && (not_due (stage == k.shape.ex) k (row ∷ earlier) c && blocks k words earlier row stage (slice_get (stages_of k row) (suc stage))))
@@ -439,8 +615,12 @@ shows_then k words calm earlier row stage c all (Some (Drain j)) e t =
 shows_then k words calm earlier row stage c all (Some (Board u j)) e t = absurd (true_not_false (sym t))
 shows_then k words calm earlier row stage c all (Some (Custom r j)) e t = absurd (true_not_false (sym t))
 shows_then k words calm earlier row stage c all (Some (Late j)) e t = absurd (true_not_false (sym t))
-shows_then k words calm earlier row stage c all (Some Trap) e t = absurd (true_not_false (sym t))
-shows_then k words calm earlier row stage c all (Some (Wait n)) e t = absurd (true_not_false (sym t))
+shows_then k words calm earlier row stage c all (Some Trap) e t =
+    let p = both_true (not (has_serial row.flushed c.serial)) (trap_shown k words earlier row stage c) t in
+    shows_trap k words calm earlier row stage c all (negated (has_serial row.flushed c.serial) p.0) e p.1
+shows_then k words calm earlier row stage c all (Some (Wait n)) e t =
+    let p = both_true (not (has_serial row.flushed c.serial)) (wait_shown k words earlier row stage c n) t in
+    shows_wait k words calm earlier row stage c n all (negated (has_serial row.flushed c.serial) p.0) e p.1
 shows_then k words calm earlier row stage c all (Some (StoreAhead j)) e t = absurd (true_not_false (sym t))
 shows_then k words calm earlier row stage c all (Some (Tail n)) e t = absurd (true_not_false (sym t))
 shows_then k words calm earlier row stage c all (Some (UnitFull u)) e t = absurd (true_not_false (sym t))

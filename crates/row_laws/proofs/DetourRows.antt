@@ -14,7 +14,7 @@ use Rattle.rv_trace.specs.declared.row.Hold.{Hold}
 use Rattle.rv_trace.specs.declared.row.Row.{Row}
 use Rattle.row_laws.specs.Detour.{detour_hand, detour, leaping, passed, target, row_0, turn_row, row_1, row_2, last_row, row_3, two_rows, three_rows, detour_rows, IsUnlawful, unflushed, no_redirect, missing_stop}
 use Rattle.row_laws.specs.Hands.{going, none_flushed}
-use Rattle.row_laws.proofs.Stages.{SpawnsNone, none_written, true_not_false, no_custom, same_cell, free_outside, free_behind, done_below, no_own, shows_none, shows_last, none_settles, no_stop, some_left, none_retires, one_retires}
+use Rattle.row_laws.proofs.Stages.{SpawnsNone, none_written, untaken, true_not_false, no_custom, same_cell, free_outside, free_behind, done_below, no_own, shows_none, shows_last, none_settles, no_stop, some_left, none_retires, one_retires}
 
 at_front : ◌≡◌ {A = ℕ} 0 1 → ⊥
 at_front e = absurd (omega (arith, e))
@@ -46,7 +46,7 @@ lawful_0 = record {
   holds = shows;
   successors = none_settles detour_hand [] row_0 refl refl (λ stage c stands s. no_second c (subst (λ n. Stands detour row_0 n c) s.settling stands));
   units = none_written detour_hand [] row_0 refl refl;
-  untaken = refl;
+  takes = untaken detour_hand [] row_0 refl;
   stops = no_stop detour_hand [] row_0 refl (λ c stop stands s. no_second c stands) (some_left detour_hand row_0 0 leaping (omega arith) refl refl);
 } where
   no_second : (c : Cell) → Stands detour row_0 1 c → ⊥
@@ -90,13 +90,13 @@ lawful_1 = record {
   holds = shows;
   successors = record {
     flushes = λ stage c x. flushes stage c x;
-    named = λ stage c x. same_cell (λ d. ◌≡◌ {A = Option ℕ} (Some 8) (Some (successor detour two_rows d))) leaping c (second stage c x.settles.settling x.stands) (ap Some (sym (goes_on two_rows)));
-    alone = λ stage c stands s younger. absurd (younger 0 passed (above stage s.settling) refl);
-    flushed_only = λ s h. (1, leaping, 0, passed, right_mismatch, omega arith, refl, one s h);
-    named_only = λ a e. (1, leaping, refl, right_mismatch.settles, goes_on two_rows ∙ eight a e, inl right_mismatch);
+    named = λ quiet stage c x. same_cell (λ d. ◌≡◌ {A = Option ℕ} (Some 8) (Some (successor detour two_rows d))) leaping c (second stage c x.settles.settling x.stands) (ap Some (sym (goes_on two_rows)));
+    alone = λ quiet stage c stands s younger. absurd (younger 0 passed (above stage s.settling) refl);
+    flushed_only = λ s h. inl (1, leaping, 0, passed, right_mismatch, omega arith, refl, one s h);
+    named_only = λ a quiet e. (1, leaping, refl, right_mismatch.settles, goes_on two_rows ∙ eight a e, inl right_mismatch);
   };
   units = none_written detour_hand (row_0 ∷ []) row_1 refl refl;
-  untaken = refl;
+  takes = untaken detour_hand (row_0 ∷ []) row_1 refl;
   stops = no_stop detour_hand (row_0 ∷ []) row_1 refl (λ c stop stands s. same_cell (λ d. StopsRun detour (row_0 ∷ []) row_1 1 d stop → ⊥) leaping c stands (λ r. leaping_runs two_rows stop r.due) s)
       (some_left detour_hand row_1 1 leaping (omega arith) refl refl);
 } where
@@ -138,7 +138,7 @@ lawful_2 = record {
   holds = shows;
   successors = none_settles detour_hand two_rows row_2 refl refl (λ stage c stands s. no_second c (subst (λ n. Stands detour row_2 n c) s.settling stands));
   units = none_written detour_hand two_rows row_2 refl refl;
-  untaken = refl;
+  takes = untaken detour_hand two_rows row_2 refl;
   stops = no_stop detour_hand two_rows row_2 refl (λ c stop stands s. no_second c stands) (some_left detour_hand row_2 0 target (omega arith) refl refl);
 } where
   no_second : (c : Cell) → Stands detour row_2 1 c → ⊥
@@ -190,7 +190,7 @@ lawful_3 = record {
   holds = shows;
   successors = none_settles detour_hand three_rows row_3 refl refl settles;
   units = none_written detour_hand three_rows row_3 refl refl;
-  untaken = refl;
+  takes = untaken detour_hand three_rows row_3 refl;
   stops = record {
     cause = λ stop e. inl (1, target, refl, subst (λ x. StopsRun detour three_rows row_3 1 target x) (the stop e) (target_stops (Some Ebreak)));
     of_cell = λ stage c stop stands s. of_cell c stop (subst (λ n. Stands detour row_3 n c) s.executing stands) s.due;
@@ -216,7 +216,7 @@ lawful_3 = record {
   shows (suc (suc zero)) c s = cc
   shows (suc (suc (suc n))) c s = cc
 
-pub detour_lawful : Lawful detour detour_rows
+pub detour_lawful : Lawful (λ places. detour) detour_rows
 detour_lawful = (lawful_3, refl, (lawful_2, refl, (lawful_1, refl, (lawful_0, refl, tt))))
 
 -- Lists that are not lawful
@@ -225,7 +225,7 @@ pub unflushed_refused : IsUnlawful unflushed
 unflushed_refused h = true_not_false (sym (h.0.successors.flushes 1 leaping (mismatch none_flushed (Some 8) refl) 0 passed (omega arith) refl))
 
 pub no_redirect_refused : IsUnlawful no_redirect
-no_redirect_refused h = cc (h.0.successors.named 1 leaping (mismatch (Some 1 ∷ replicate 4 None) None refl))
+no_redirect_refused h = cc (h.0.successors.named refl 1 leaping (mismatch (Some 1 ∷ replicate 4 None) None refl))
 
 pub missing_stop_refused : IsUnlawful missing_stop
 missing_stop_refused h = cc (h.0.stops.of_cell 1 target Ebreak refl (target_stops None))

@@ -21,7 +21,7 @@ address_in (Some n) = n.1
 -- Over an instruction
 
 over_calm : (shape : Shape) → IsCalm (on_core shape over_hand)
-over_calm shape = record { spawns = λ word. record { x = refl; customs = λ r. no_custom r; unit = refl }; late = λ word. refl; tail = λ word. refl; unlate = λ word r. no_custom r; waits = refl }
+over_calm shape = record { spawns = λ word. record { x = refl; customs = λ r. no_custom r; unit = refl }; tail = λ word. refl; unlate = λ word r. no_custom r }
 
 -- the words that are fetched, by serials, where the jump is guessed
 abbrev over_words : List ℕ
@@ -31,21 +31,21 @@ over_judged_0 : Judged jumping over_words (over_0 ∷ [])
 unfolding fetch_address next_serial is_flushed is_retired place retirements units_after future_file
 over_judged_0 =
     next_row jumping over_words (over_calm three_predicting) [] over_0 (no_rows jumping over_words) refl
-    (record { form = record { behind = tt; ascending = tt }; moves = (refl, (refl, (refl, tt))); units = refl; untaken = refl; tests = refl; redirect = refl; stop = refl })
+    (record { form = record { behind = tt; ascending = tt }; moves = (refl, (refl, (refl, tt))); units = refl; taken = refl; tests = refl; redirect = refl; stop = refl })
 
 over_judged_1 : Judged jumping over_words (over_1 ∷ over_0 ∷ [])
 unfolding fetch_address next_serial is_flushed is_retired place retirements units_after future_file
 over_judged_1 =
     next_row jumping over_words (over_calm three_predicting) (over_0 ∷ []) over_1 over_judged_0 refl
-    (record { form = record { behind = tt; ascending = tt }; moves = (refl, (refl, (refl, tt))); units = refl; untaken = refl; tests = refl; redirect = refl; stop = refl })
+    (record { form = record { behind = tt; ascending = tt }; moves = (refl, (refl, (refl, tt))); units = refl; taken = refl; tests = refl; redirect = refl; stop = refl })
 
 over_judged_2 : Judged jumping over_words (over_2 ∷ over_1 ∷ over_0 ∷ [])
 unfolding fetch_address next_serial is_flushed is_retired place retirements units_after future_file
 over_judged_2 =
     next_row jumping over_words (over_calm three_predicting) (over_1 ∷ over_0 ∷ []) over_2 over_judged_1 refl
-    (record { form = record { behind = tt; ascending = tt }; moves = (refl, (refl, (refl, tt))); units = refl; untaken = refl; tests = refl; redirect = refl; stop = refl })
+    (record { form = record { behind = tt; ascending = tt }; moves = (refl, (refl, (refl, tt))); units = refl; taken = refl; tests = refl; redirect = refl; stop = refl })
 
-pub over_lawful : Lawful jumping over_rows
+pub over_lawful : Lawful (λ places. jumping) over_rows
 over_lawful = over_judged_2.lawful
 
 pub next_word_refused : IsUnlawfulOver next_word_fetched
@@ -61,13 +61,13 @@ plain_judged_0 : Judged (by_hand over_hand) plain_words (over_0 ∷ [])
 unfolding fetch_address next_serial is_flushed is_retired place retirements units_after future_file
 plain_judged_0 =
     next_row (by_hand over_hand) plain_words (over_calm three) [] over_0 (no_rows (by_hand over_hand) plain_words) refl
-    (record { form = record { behind = tt; ascending = tt }; moves = (refl, (refl, (refl, tt))); units = refl; untaken = refl; tests = refl; redirect = refl; stop = refl })
+    (record { form = record { behind = tt; ascending = tt }; moves = (refl, (refl, (refl, tt))); units = refl; taken = refl; tests = refl; redirect = refl; stop = refl })
 
 plain_judged_1 : Judged (by_hand over_hand) plain_words ((newest next_word_fetched) ∷ over_0 ∷ [])
 unfolding fetch_address next_serial is_flushed is_retired place retirements units_after future_file
 plain_judged_1 =
     next_row (by_hand over_hand) plain_words (over_calm three) (over_0 ∷ []) (newest next_word_fetched) plain_judged_0 refl
-    (record { form = record { behind = tt; ascending = tt }; moves = (refl, (refl, (refl, tt))); units = refl; untaken = refl; tests = refl; redirect = refl; stop = refl })
+    (record { form = record { behind = tt; ascending = tt }; moves = (refl, (refl, (refl, tt))); units = refl; taken = refl; tests = refl; redirect = refl; stop = refl })
 
 pub next_word_lawful : IsLawfulPlain next_word_fetched
 next_word_lawful = plain_judged_1.lawful
@@ -79,7 +79,7 @@ jump_fetched_refused h = let e : ◌≡◌ {A = ℕ} 8 4 = ap address_in h.0.mov
 -- Back to the first instruction
 
 back_calm : IsCalm looping
-back_calm = record { spawns = λ word. record { x = refl; customs = λ r. no_custom r; unit = refl }; late = λ word. refl; tail = λ word. refl; unlate = λ word r. no_custom r; waits = refl }
+back_calm = record { spawns = λ word. record { x = refl; customs = λ r. no_custom r; unit = refl }; tail = λ word. refl; unlate = λ word r. no_custom r }
 
 abbrev back_words : List ℕ
 back_words = 19 ∷ 19 ∷ 19 ∷ 1048691 ∷ []
@@ -88,33 +88,33 @@ back_judged_0 : Judged looping back_words (back_0 ∷ [])
 unfolding fetch_address next_serial is_flushed is_retired place retirements units_after future_file
 back_judged_0 =
     next_row looping back_words back_calm [] back_0 (no_rows looping back_words) refl
-    (record { form = record { behind = tt; ascending = tt }; moves = (refl, (refl, (refl, tt))); units = refl; untaken = refl; tests = refl; redirect = refl; stop = refl })
+    (record { form = record { behind = tt; ascending = tt }; moves = (refl, (refl, (refl, tt))); units = refl; taken = refl; tests = refl; redirect = refl; stop = refl })
 
 back_judged_1 : Judged looping back_words (back_1 ∷ back_0 ∷ [])
 unfolding fetch_address next_serial is_flushed is_retired place retirements units_after future_file
 back_judged_1 =
     next_row looping back_words back_calm (back_0 ∷ []) back_1 back_judged_0 refl
-    (record { form = record { behind = tt; ascending = tt }; moves = (refl, (refl, (refl, tt))); units = refl; untaken = refl; tests = refl; redirect = refl; stop = refl })
+    (record { form = record { behind = tt; ascending = tt }; moves = (refl, (refl, (refl, tt))); units = refl; taken = refl; tests = refl; redirect = refl; stop = refl })
 
 back_judged_2 : Judged looping back_words (back_2 ∷ back_two)
 unfolding fetch_address next_serial is_flushed is_retired place retirements units_after future_file
 back_judged_2 =
     next_row looping back_words back_calm back_two back_2 back_judged_1 refl
-    (record { form = record { behind = tt; ascending = tt }; moves = (refl, (refl, (refl, tt))); units = refl; untaken = refl; tests = refl; redirect = refl; stop = refl })
+    (record { form = record { behind = tt; ascending = tt }; moves = (refl, (refl, (refl, tt))); units = refl; taken = refl; tests = refl; redirect = refl; stop = refl })
 
 back_judged_3 : Judged looping back_words (back_3 ∷ back_2 ∷ back_two)
 unfolding fetch_address next_serial is_flushed is_retired place retirements units_after future_file
 back_judged_3 =
     next_row looping back_words back_calm (back_2 ∷ back_two) back_3 back_judged_2 refl
-    (record { form = record { behind = tt; ascending = tt }; moves = (refl, (refl, (refl, tt))); units = refl; untaken = refl; tests = refl; redirect = refl; stop = refl })
+    (record { form = record { behind = tt; ascending = tt }; moves = (refl, (refl, (refl, tt))); units = refl; taken = refl; tests = refl; redirect = refl; stop = refl })
 
 back_judged_4 : Judged looping back_words (back_4 ∷ back_3 ∷ back_2 ∷ back_two)
 unfolding fetch_address next_serial is_flushed is_retired place retirements units_after future_file
 back_judged_4 =
     next_row looping back_words back_calm (back_3 ∷ back_2 ∷ back_two) back_4 back_judged_3 refl
-    (record { form = record { behind = tt; ascending = tt }; moves = (refl, (refl, (refl, tt))); units = refl; untaken = refl; tests = refl; redirect = refl; stop = refl })
+    (record { form = record { behind = tt; ascending = tt }; moves = (refl, (refl, (refl, tt))); units = refl; taken = refl; tests = refl; redirect = refl; stop = refl })
 
-pub back_lawful : Lawful looping back_rows
+pub back_lawful : Lawful (λ places. looping) back_rows
 back_lawful = back_judged_4.lawful
 
 pub never_guessed_refused : IsUnlawfulBack never_guessed

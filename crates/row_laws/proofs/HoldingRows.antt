@@ -18,7 +18,7 @@ use Rattle.rv_lawful.specs.LawfulTrace.{Moves, fetch_address, next_serial, reads
 use Rattle.rv_lawful.specs.Sight.{SpawnsNothing}
 use Rattle.row_laws.specs.Hands.{quiet, going}
 use Rattle.row_laws.specs.Holding.{writing, holding_hand, holding, holding_asks, reading, writer, reader, sum, break, row_0, row_1, held_row, row_2, row_3, row_4, row_5, row_6, row_7, last_row, row_8, two_rows, five_rows, eight_rows, holding_rows, IsUnlawful, untrue_hold, later_hold, tail_one_more, tail_one_less, tail_left_out, custom_left_out, skipped_word, wrong_stop, missing_stop, untrue_trap, taken_unasked}
-use Rattle.row_laws.proofs.Stages.{SpawnsNone, left_unretired, none_written, true_not_false, no_register, no_custom, same_cell, Free, free_outside, free_behind, done_below, no_own, goes_before, shows_none, shows_behind, shows_own, custom_first, operand_first, shows_tail, shows_last, settles_at_ex, no_turn, none_settles, no_stop, some_left, none_retires, one_retires}
+use Rattle.row_laws.proofs.Stages.{SpawnsNone, left_unretired, none_written, untaken, true_not_false, no_register, no_custom, same_cell, Free, free_outside, free_behind, done_below, no_own, goes_before, shows_none, shows_behind, shows_own, custom_first, operand_first, shows_tail, shows_last, settles_at_ex, no_turn, none_settles, no_stop, some_left, none_retires, one_retires}
 
 at_front : ◌≡◌ {A = ℕ} 0 1 → ⊥
 at_front e = absurd (omega (arith, e))
@@ -83,7 +83,7 @@ lawful_0 = record {
   holds = shows;
   successors = none_settles holding_hand [] row_0 refl refl (λ stage c stands s. no_second c (subst (λ n. Stands holding row_0 n c) (at_ex [] row_0 stage c s) stands));
   units = none_written holding_hand [] row_0 refl refl;
-  untaken = refl;
+  takes = untaken holding_hand [] row_0 refl;
   stops = no_stop holding_hand [] row_0 refl (λ c stop stands s. no_second c stands) (some_left holding_hand row_0 0 (writer None) (omega arith) refl refl);
 } where
   no_second : (c : Cell) → Stands holding row_0 1 c → ⊥
@@ -112,7 +112,7 @@ lawful_1 = record {
   successors = no_turn holding_hand (row_0 ∷ []) row_1 refl refl (λ stage c stands s.
       (at_ex (row_0 ∷ []) row_1 stage c s, (reader None, refl, goes_on c (subst (λ n. Stands holding row_1 n c) (at_ex (row_0 ∷ []) row_1 stage c s) stands))));
   units = none_written holding_hand (row_0 ∷ []) row_1 refl refl;
-  untaken = refl;
+  takes = untaken holding_hand (row_0 ∷ []) row_1 refl;
   stops = no_stop holding_hand (row_0 ∷ []) row_1 refl (λ c stop stands s. stops c stop stands s) (some_left holding_hand row_1 0 (reader None) (omega arith) refl refl);
 } where
   goes_on : (c : Cell) → Stands holding row_1 1 c → 4 ≡ successor holding two_rows c
@@ -172,7 +172,7 @@ held_lawful earlier left moves unflushed unretired still some = record {
   holds = shows;
   successors = none_settles holding_hand earlier row refl refl (held_settles earlier row (reader (Some (Custom 0 0))) refl refl);
   units = none_written holding_hand earlier row refl refl;
-  untaken = refl;
+  takes = untaken holding_hand earlier row refl;
   stops = no_stop holding_hand earlier row refl (held_stops earlier row (reader (Some (Custom 0 0))) (Custom 0 0) refl waits) (some_left holding_hand row 0 (sum (Some Behind)) (omega arith) refl refl);
 } where
   row : Row
@@ -209,7 +209,7 @@ lawful_4 = record {
   holds = shows;
   successors = none_settles holding_hand four_rows row_4 refl refl (held_settles four_rows row_4 (reader (Some (Custom 0 0))) refl refl);
   units = none_written holding_hand four_rows row_4 refl refl;
-  untaken = refl;
+  takes = untaken holding_hand four_rows row_4 refl;
   stops = no_stop holding_hand four_rows row_4 refl (held_stops four_rows row_4 (reader (Some (Custom 0 0))) (Custom 0 0) refl waits) (some_left holding_hand row_4 0 (sum (Some Behind)) (omega arith) refl refl);
 } where
   waits : WaitsForCustom holding four_rows row_4 1 (reader (Some (Custom 0 0))) 0 0
@@ -242,7 +242,7 @@ lawful_5 = record {
   successors = no_turn holding_hand five_rows row_5 refl refl (λ stage c stands s.
       (at_ex five_rows row_5 stage c s, (sum None, refl, goes_on c (subst (λ n. Stands holding row_5 n c) (at_ex five_rows row_5 stage c s) stands))));
   units = none_written holding_hand five_rows row_5 refl refl;
-  untaken = refl;
+  takes = untaken holding_hand five_rows row_5 refl;
   stops = no_stop holding_hand five_rows row_5 refl (λ c stop stands s. same_cell (λ d. StopsRun holding five_rows row_5 1 d stop → ⊥) (reader None) c stands (λ r. reader_runs stop r.due) s)
       (some_left holding_hand row_5 0 (sum None) (omega arith) refl refl);
 } where
@@ -298,7 +298,7 @@ lawful_6 = record {
   holds = shows;
   successors = none_settles holding_hand six_rows row_6 refl refl (held_settles six_rows row_6 (sum (Some (Operand 2 1))) refl refl);
   units = none_written holding_hand six_rows row_6 refl refl;
-  untaken = refl;
+  takes = untaken holding_hand six_rows row_6 refl;
   stops = no_stop holding_hand six_rows row_6 refl (held_stops six_rows row_6 (sum (Some (Operand 2 1))) (Operand 2 1) refl sum_waits) (some_left holding_hand row_6 0 (break (Some Behind)) (omega arith) refl refl);
 } where
   shows : (stage : ℕ) (c : Cell) → Stands holding row_6 stage c → ShowsHold holding six_rows row_6 stage c
@@ -334,7 +334,7 @@ lawful_7 = record {
   successors = no_turn holding_hand seven_rows row_7 refl refl (λ stage c stands s.
       (at_ex seven_rows row_7 stage c s, (break None, refl, goes_on c (subst (λ n. Stands holding row_7 n c) (at_ex seven_rows row_7 stage c s) stands))));
   units = none_written holding_hand seven_rows row_7 refl refl;
-  untaken = refl;
+  takes = untaken holding_hand seven_rows row_7 refl;
   stops = no_stop holding_hand seven_rows row_7 refl (λ c stop stands s. same_cell (λ d. StopsRun holding seven_rows row_7 1 d stop → ⊥) (sum None) c stands (λ r. sum_runs stop r.due) s)
       (some_left holding_hand row_7 0 (break None) (omega arith) refl refl);
 } where
@@ -400,7 +400,7 @@ lawful_8 = record {
   holds = shows;
   successors = none_settles holding_hand eight_rows row_8 refl refl settles;
   units = none_written holding_hand eight_rows row_8 refl refl;
-  untaken = refl;
+  takes = untaken holding_hand eight_rows row_8 refl;
   stops = record {
     cause = λ stop e. inl (1, break None, refl, subst (λ x. StopsRun holding eight_rows row_8 1 (break None) x) (the stop e) (break_stops (Some Ebreak)));
     of_cell = λ stage c stop stands s. of_cell c stop (subst (λ n. Stands holding row_8 n c) s.executing stands) s.due;
@@ -426,7 +426,7 @@ lawful_8 = record {
   shows (suc (suc zero)) c s = same_cell (λ d. ShowsHold holding eight_rows row_8 2 d) (sum None) c s (shows_last holding_hand none_spawned eight_rows row_8 (sum None) refl refl (omega arith))
   shows (suc (suc (suc n))) c s = cc
 
-pub holding_lawful : Lawful holding holding_rows
+pub holding_lawful : Lawful (λ places. holding) holding_rows
 holding_lawful = (lawful_8, refl, (lawful_7, refl, (lawful_6, refl, (lawful_5, refl, (lawful_4, refl, (lawful_3, refl, (lawful_2, refl, (lawful_1, refl, (lawful_0, refl, tt)))))))))
 
 -- Lists that are not lawful
@@ -439,12 +439,12 @@ untrue_hold_refused h = elim ((h.0.holds 1 (reader (Some (Custom 0 0))) refl).sh
 
 pub untrue_trap_refused : IsUnlawful untrue_trap
 untrue_trap_refused h = elim ((h.0.holds 1 (reader (Some Trap)) refl).shown Trap refl) [
-  | inl w ↦ w
+  | inl w ↦ true_not_false (sym w.interrupted)
   | inr b ↦ cc (b.0)
 ]
 
 pub taken_unasked_refused : IsUnlawful taken_unasked
-taken_unasked_refused h = let none = h.0.untaken in cc none
+taken_unasked_refused h = true_not_false (sym (h.0.takes.taken 0 refl).interrupted)
 
 -- the reader has to wait in the third row
 must_wait : (row : Row) (tail : Option Hold) (hold : Option Hold) → Stands holding row 2 (writer tail) → has_serial row.flushed 0 ≡ false → WaitsForCustom holding two_rows row 1 (reader hold) 0 0
@@ -457,7 +457,7 @@ later_hold_refused h =
     elim ((h.0.holds 1 (reader (Some Behind)) refl).shown_first Behind (Custom 0 0) refl (inl wait)) [ inl x ↦ absurd (omega (arith, x)) | inr x ↦ let e = x.0 in absurd (omega (arith, e)) ]
 
 -- what Tail says in the third row
-must_tail : (left : ℕ) → Lawful holding (held_row (Tail left) ∷ two_rows) → left ≡ 2
+must_tail : (left : ℕ) → Lawful (λ places. holding) (held_row (Tail left) ∷ two_rows) → left ≡ 2
 unfolding tailed
 must_tail left h = elim ((h.0.holds 2 (writer (Some (Tail left))) refl).shown (Tail left) refl) [
   | inl w ↦ let e = w.still in omega (arith, e)

@@ -17,7 +17,7 @@ use Rattle.rv_lawful.specs.Outstanding.{Written, Decoupled, outstanding}
 use Rattle.rv_lawful.specs.LawfulTrace.{plain_fetch, fetch_address, Moves, IsDueToStop, StopsRun, ShowsHold, Settles, successor, IsMismatch, Successors, IsEmptyAfter, StopsRightly, Retires, WritesUnit, LawfulRow, Lawful}
 use Rattle.row_laws.specs.Hands.{Hand, by_hand, none_flushed}
 use Rattle.row_laws.specs.Spawning.{full_row}
-use Rattle.row_laws.proofs.Stages.{true_not_false, same_cell, AllNamed, Named, HasWord, named, settles_at_ex, none_retires, one_retires}
+use Rattle.row_laws.proofs.Stages.{true_not_false, untaken, same_cell, AllNamed, Named, HasWord, named, settles_at_ex, none_retires, one_retires}
 use Rattle.row_laws.proofs.Tests.{both_true, either, negated, known, same_number, IsSimple, is_due, stop_there, due_now, ex_free, and_both}
 use Rattle.row_laws.proofs.Judging.{inner, stops_now, front_hold, front_shows, is_held, ex_hold, ex_shows, last_hold, last_shows}
 
@@ -34,13 +34,13 @@ no_flush : (h : Hand) (earlier : List Row) (row : Row) → row.flushed ≡ none_
     → Successors (by_hand h) earlier row
 no_flush h earlier row f r right = record {
   flushes = λ stage c x below d lt stands. absurd (no_mismatch stage c x);
-  named = λ stage c x. absurd (no_mismatch stage c x);
-  alone = λ stage c stands settles younger. let one = right stage c stands settles in elim one.1 [
+  named = λ quiet stage c x. absurd (no_mismatch stage c x);
+  alone = λ quiet stage c stands settles younger. let one = right stage c stands settles in elim one.1 [
     | inl d ↦ absurd (younger 0 d.0 (above stage one.0) d.1)
     | inr e ↦ r ∙ sym (ap (λ b. if b then None else Some (successor (by_hand h) (row ∷ earlier) c)) e.1)
   ];
   flushed_only = λ s e. cc (ap (λ l. has_serial l s) f, e);
-  named_only = λ a e. cc (r, e);
+  named_only = λ a quiet e. cc (r, e);
 } where
   above : (stage : ℕ) → stage ≡ 1 → 0 < stage
   above stage e = omega (arith, e)
@@ -300,7 +300,7 @@ at_last h simple earlier a b (Some y) ret wr stop all t x s =
 
 -- lawful rows whose cells have the words of the image
 pub record Judged (h : Hand) (rows : List Row) : Type 0 where
-  pub lawful : Lawful (by_hand h) rows
+  pub lawful : Lawful (λ places. by_hand h) rows
   pub names : AllNamed h rows
 
 pub no_rows : (h : Hand) → Judged h []
@@ -349,7 +349,7 @@ one_row h simple earlier a b c ret wr stop judged going right stops = record { l
     holds = shows;
     successors = straight h simple earlier a b c ret wr stop all others.0;
     units = right.units;
-    untaken = refl;
+    takes = untaken h earlier row refl;
     stops = stops all (shows 1);
   }
 

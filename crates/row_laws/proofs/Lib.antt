@@ -15,3 +15,8 @@ mod CalmTests
 mod CalmRows
 mod ForwardingRows
 mod GuessingRows
+mod InterruptingRows
+mod InterruptingTwice
+mod InterruptingOthers
+mod InterruptingStates
+mod LateEntryRows

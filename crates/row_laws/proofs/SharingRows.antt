@@ -59,7 +59,7 @@ judged_5 false =
     stop_row (sharing_hand false) (simple false) (sharing_four false) None (break None) None None None Ebreak (judged_4 false) refl
     (record { moves = (refl, (refl, (refl, tt))); units = refl; names = refl; cells = refl }) refl refl
 
-pub sharing_lawful : (b : Bool) → Lawful (sharing b) (sharing_rows b)
+pub sharing_lawful : (b : Bool) → Lawful (λ places. sharing b) (sharing_rows b)
 sharing_lawful b = (judged_5 b).lawful
 
 names_3 : (b : Bool) → AllNamed (sharing_hand b) drains_first

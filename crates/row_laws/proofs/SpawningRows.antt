@@ -76,7 +76,7 @@ passing_8_judged =
     stop_row passing_hand (simple passing_hand.image passing_hand.units) passing_seven None (break 3 12 None) (Some (sum 2 8 None)) (Some (2, record_of 8 6456243 7 (Now 7))) None Ebreak passing_7_judged refl
     (record { moves = (refl, (refl, (refl, tt))); units = refl; names = refl; cells = refl }) refl refl
 
-pub passing_lawful : Lawful passing passing_rows
+pub passing_lawful : Lawful (λ places. passing) passing_rows
 passing_lawful = passing_8_judged.lawful
 
 -- The port
@@ -123,7 +123,7 @@ port_7_judged =
     end_row port_hand (simple port_hand.image port_hand.units) port_six None None (Some (write_of 2 8 (Now 6))) port_6_judged refl
     (record { moves = (refl, (refl, (refl, tt))); units = refl; names = refl; cells = refl }) refl
 
-pub port_lawful : Lawful port port_rows
+pub port_lawful : Lawful (λ places. port) port_rows
 port_lawful = port_7_judged.lawful
 
 -- The frozen unit
@@ -182,5 +182,5 @@ frozen_9_judged =
     stop_row frozen_hand (simple frozen_hand.image frozen_hand.units) frozen_eight None (break 4 16 None) None None (Some (write_of 3 0 Absent)) Ebreak frozen_8_judged refl
     (record { moves = (refl, (refl, (refl, tt))); units = refl; names = refl; cells = refl }) refl refl
 
-pub frozen_lawful : Lawful frozen frozen_rows
+pub frozen_lawful : Lawful (λ places. frozen) frozen_rows
 frozen_lawful = frozen_9_judged.lawful

@@ -18,6 +18,7 @@ use Rattle.ix_plan.specs.Units.{unit_written, next_units}
 use Rattle.rv_lawful.specs.Outstanding.{is_register, has_target, serial_written, entering, units_after}
 use Rattle.rv_lawful.specs.Sight.{SpawnsNothing}
 use Rattle.rv_lawful.specs.LawfulTrace.{IsWordOf, WaitsForOperand, WaitsForCustom, WaitsForJump, WaitsForWrite, IsUnwritten, WaitsToDrain, WaitsForMemory, WaitsForModule, WaitsForUnit, WaitsForPort, OwnHold, StopsRun, WaitsBehind, TrueHold, ShowsHold, IsSettlingStage, Settles, successor, IsMismatch, Successors, IsEmptyAfter, StopsRightly, Retires, WritesUnit, serial_in, reads_of, Lawful}
+use Rattle.rv_lawful.specs.Entering.{TakesRightly}
 use Rattle.row_laws.specs.Hands.{Hand, by_hand, no_customs, none_flushed}
 
 pub true_not_false : true ≡ false → ⊥
@@ -48,13 +49,20 @@ same_cell P x d e p = subst P (inside x d e) p
 
 -- The words of earlier cells
 
--- each cell of the row has the word of its serial in this list
+-- each cell of so many stages of the row has the word of its serial in this list
+abbrev pub NamedIn : ℕ → List ℕ → Row → Type 0
+NamedIn stages words row = (stage : ℕ) (c : Cell) → slice_get (take stages row.cells) stage ≡ Some (Some c) → c.word ≡ get_or words c.serial 0
+
+abbrev pub AllNamedIn : ℕ → List ℕ → List Row → Type 0
+AllNamedIn stages words [] = Unit {0}
+AllNamedIn stages words (row ∷ rows) = NamedIn stages words row × AllNamedIn stages words rows
+
+-- each cell of the core's stages
 abbrev pub NamedBy : Setting → List ℕ → Row → Type 0
-NamedBy k words row = (stage : ℕ) (c : Cell) → Stands k row stage c → c.word ≡ get_or words c.serial 0
+NamedBy k words row = NamedIn k.shape.stages words row
 
 abbrev pub AllNamedBy : Setting → List ℕ → List Row → Type 0
-AllNamedBy k words [] = Unit {0}
-AllNamedBy k words (row ∷ rows) = NamedBy k words row × AllNamedBy k words rows
+AllNamedBy k words rows = AllNamedIn k.shape.stages words rows
 
 -- that of the image, where the run goes straight on
 abbrev pub Named : Hand → Row → Type 0
@@ -181,7 +189,7 @@ no_own h none earlier row stage c free loads done (Operand r j) o = free.operand
 no_own h none earlier row stage c free loads done (Board t j) o = never_boards (by_hand h) none earlier row stage c t j o
 no_own h none earlier row stage c free loads done (Custom r j) o = free.custom r j o
 no_own h none earlier row stage c free loads done (Late j) o = free.late j o
-no_own h none earlier row stage c free loads done Trap o = o
+no_own h none earlier row stage c free loads done Trap o = true_not_false (sym o.interrupted)
 no_own h none earlier row stage c free loads done (Drain j) o = free.drain j o
 no_own h none earlier row stage c free loads done (Wait left) o = no_wait h earlier row stage c left o
 no_own h none earlier row stage c free loads done (StoreAhead j) o = true_not_false (sym o.loads ∙ loads)
@@ -245,7 +253,7 @@ shows_own k earlier row stage c g e alive own first last =
     (λ f t. elim t [ inl o ↦ first f o | inr b ↦ subst (λ x. ComesFirst g x) (sym b.0) last ])
 
 -- no cell shows no hold where one of its own is true
-pub idle : (k : Setting) (earlier : List Row) (row : Row) (stage : ℕ) (c : Cell) (g : Hold) → Lawful k (row ∷ earlier) → Stands k row stage c → c.hold ≡ None → has_serial row.flushed c.serial ≡ false → OwnHold k earlier row stage c g → ⊥
+pub idle : (k : Setting) (earlier : List Row) (row : Row) (stage : ℕ) (c : Cell) (g : Hold) → Lawful (λ places. k) (row ∷ earlier) → Stands k row stage c → c.hold ≡ None → has_serial row.flushed c.serial ≡ false → OwnHold k earlier row stage c g → ⊥
 idle k earlier row stage c g h stands e alive own = (h.0.holds stage c stands).free e alive (λ stop s. s.free g own) g (inl own)
 
 -- Custom with the least number comes first where no operand is missing
@@ -255,7 +263,7 @@ custom_first h none earlier row stage c free (Board t j) o = absurd (never_board
 custom_first h none earlier row stage c free (Custom zero j) o = inr (refl, inr (refl, omega arith))
 custom_first h none earlier row stage c free (Custom (suc r) j) o = inr (refl, inl (omega arith))
 custom_first h none earlier row stage c free (Late j) o = inl (omega arith)
-custom_first h none earlier row stage c free Trap o = absurd o
+custom_first h none earlier row stage c free Trap o = absurd (true_not_false (sym o.interrupted))
 custom_first h none earlier row stage c free (Drain j) o = inl (omega arith)
 custom_first h none earlier row stage c free (Wait left) o = inl (omega arith)
 custom_first h none earlier row stage c free (StoreAhead j) o = inl (omega arith)
@@ -271,7 +279,7 @@ late_first h none earlier row stage c still free (Operand r j) o = absurd (still
 late_first h none earlier row stage c still free (Board t j) o = absurd (never_boards (by_hand h) none earlier row stage c t j o)
 late_first h none earlier row stage c still free (Custom r j) o = absurd (free r j o)
 late_first h none earlier row stage c still free (Late j) o = inr (refl, inr (refl, omega arith))
-late_first h none earlier row stage c still free Trap o = absurd o
+late_first h none earlier row stage c still free Trap o = absurd (true_not_false (sym o.interrupted))
 late_first h none earlier row stage c still free (Drain j) o = inl (omega arith)
 late_first h none earlier row stage c still free (Wait left) o = inl (omega arith)
 late_first h none earlier row stage c still free (StoreAhead j) o = inl (omega arith)
@@ -287,7 +295,7 @@ operand_first h none earlier row stage c r j first (Operand s i) o = first s i o
 operand_first h none earlier row stage c r j first (Board t i) o = absurd (never_boards (by_hand h) none earlier row stage c t i o)
 operand_first h none earlier row stage c r j first (Custom s i) o = inl (omega arith)
 operand_first h none earlier row stage c r j first (Late i) o = inl (omega arith)
-operand_first h none earlier row stage c r j first Trap o = absurd o
+operand_first h none earlier row stage c r j first Trap o = absurd (true_not_false (sym o.interrupted))
 operand_first h none earlier row stage c r j first (Drain i) o = inl (omega arith)
 operand_first h none earlier row stage c r j first (Wait left) o = inl (omega arith)
 operand_first h none earlier row stage c r j first (StoreAhead i) o = inl (omega arith)
@@ -309,7 +317,7 @@ shows_tail h none earlier row c left e alive loads still some =
       first (Board t j) o = absurd (never_boards (by_hand h) none earlier row 2 c t j o)
       first (Custom r j) o = absurd (outside.custom r j o)
       first (Late j) o = absurd (outside.late j o)
-      first Trap o = absurd o
+      first Trap o = absurd (true_not_false (sym o.interrupted))
       first (Drain j) o = absurd (outside.drain j o)
       first (Wait n) o = absurd (no_wait h earlier row 2 c n o)
       first (StoreAhead j) o = absurd (true_not_false (sym o.loads ∙ loads))
@@ -343,6 +351,15 @@ no_unit_at h (row ∷ rows) e = ap (next_units (entering (by_hand h) row.retired
 pub none_written : (h : Hand) (rows : List Row) (row : Row) → h.units ≡ [] → row.written ≡ None → WritesUnit (by_hand h) rows row
 none_written h rows row e w = ap serial_written w ∙ sym (ap (λ u. serial_in (unit_written u)) (no_unit_at h rows e))
 
+-- Interrupts
+
+-- without an interrupt line none is taken
+pub untaken : (h : Hand) (earlier : List Row) (row : Row) → row.taken ≡ None → TakesRightly (by_hand h) earlier row
+untaken h earlier row e = record {
+  taken = λ at q. cc (e, q);
+  due = λ interrupted clear. absurd (true_not_false (sym interrupted));
+}
+
 -- Successors and stops
 
 -- a cell that writes the pc in time settles at EX
@@ -355,10 +372,10 @@ pub no_turn : (h : Hand) (earlier : List Row) (row : Row) → row.flushed ≡ no
     → Successors (by_hand h) earlier row
 no_turn h earlier row f r right = record {
   flushes = λ stage c x below d lt stands. absurd (no_mismatch stage c x);
-  named = λ stage c x. absurd (no_mismatch stage c x);
-  alone = λ stage c stands settles younger. let one = right stage c stands settles in absurd (younger 0 one.1.0 (above stage one.0) one.1.1);
+  named = λ quiet stage c x. absurd (no_mismatch stage c x);
+  alone = λ quiet stage c stands settles younger. let one = right stage c stands settles in absurd (younger 0 one.1.0 (above stage one.0) one.1.1);
   flushed_only = λ s e. cc (ap (λ l. has_serial l s) f, e);
-  named_only = λ a e. cc (r, e);
+  named_only = λ a quiet e. cc (r, e);
 } where
   above : (stage : ℕ) → stage ≡ 1 → 0 < stage
   above stage e = omega (arith, e)

@@ -18,7 +18,7 @@ use Rattle.rv_lawful.specs.LawfulTrace.{fetch_address, next_serial, IsDueToStop,
 use Rattle.rv_lawful.specs.Sight.{SpawnsNothing}
 use Rattle.row_laws.specs.Hands.{quiet, going, no_customs, none_flushed}
 use Rattle.row_laws.specs.Turning.{turning_hand, turning, turning_asks, jump, passed, passed_too, target, row_0, row_1, row_2, turn_row, both, row_3, row_4, row_5, two_rows, three_rows, turning_rows, IsUnlawful, unflushed, one_unflushed, no_redirect, late_left_out}
-use Rattle.row_laws.proofs.Stages.{SpawnsNone, none_written, true_not_false, no_register, no_custom, same_cell, free_outside, free_behind, done_below, no_own, goes_before, shows_none, shows_behind, shows_own, late_first, shows_tail, shows_last, none_settles, no_stop, some_left, none_retires, one_retires}
+use Rattle.row_laws.proofs.Stages.{SpawnsNone, none_written, untaken, true_not_false, no_register, no_custom, same_cell, free_outside, free_behind, done_below, no_own, goes_before, shows_none, shows_behind, shows_own, late_first, shows_tail, shows_last, none_settles, no_stop, some_left, none_retires, one_retires}
 
 at_front : ◌≡◌ {A = ℕ} 0 1 → ⊥
 at_front e = absurd (omega (arith, e))
@@ -64,7 +64,7 @@ lawful_0 = record {
   holds = shows;
   successors = none_settles turning_hand [] row_0 refl refl settles;
   units = none_written turning_hand [] row_0 refl refl;
-  untaken = refl;
+  takes = untaken turning_hand [] row_0 refl;
   stops = no_stop turning_hand [] row_0 refl (λ c stop stands s. no_second c stands) (some_left turning_hand row_0 0 (jump None) (omega arith) refl refl);
 } where
   no_second : (c : Cell) → Stands turning row_0 1 c → ⊥
@@ -98,7 +98,7 @@ lawful_1 = record {
   holds = shows;
   successors = none_settles turning_hand (row_0 ∷ []) row_1 refl refl settles;
   units = none_written turning_hand (row_0 ∷ []) row_1 refl refl;
-  untaken = refl;
+  takes = untaken turning_hand (row_0 ∷ []) row_1 refl;
   stops = no_stop turning_hand (row_0 ∷ []) row_1 refl (λ c stop stands s. stops c stop stands s) (some_left turning_hand row_1 0 (passed None) (omega arith) refl refl);
 } where
   settles : (stage : ℕ) (c : Cell) → Stands turning row_1 stage c → Settles turning (row_0 ∷ []) row_1 stage c → ⊥
@@ -144,7 +144,7 @@ lawful_2 = record {
   holds = shows;
   successors = none_settles turning_hand two_rows row_2 refl refl settles;
   units = none_written turning_hand two_rows row_2 refl refl;
-  untaken = refl;
+  takes = untaken turning_hand two_rows row_2 refl;
   stops = no_stop turning_hand two_rows row_2 refl (λ c stop stands s. same_cell (λ d. StopsRun turning two_rows row_2 1 d stop → ⊥) (passed (Some (Late 0))) c stands (λ r. r.free (Late 0) wait) s)
       (some_left turning_hand row_2 0 (passed_too (Some Behind)) (omega arith) refl refl);
 } where
@@ -204,16 +204,16 @@ lawful_3 = record {
   holds = shows;
   successors = record {
     flushes = λ stage c x. flushes stage c x;
-    named = λ stage c x. named c (only_jump stage c x.stands x.settles).0;
-    alone = λ stage c stands s younger. absurd (younger 1 (passed None) (above stage (only_jump stage c stands s).1) refl);
+    named = λ quiet stage c x. named c (only_jump stage c x.stands x.settles).0;
+    alone = λ quiet stage c stands s younger. absurd (younger 1 (passed None) (above stage (only_jump stage c stands s).1) refl);
     flushed_only = λ s h. elim (one_or_two s h) [
-      | inl e ↦ (2, jump None, 1, passed None, right_mismatch, omega arith, refl, e)
-      | inr e ↦ (2, jump None, 0, passed_too None, right_mismatch, omega arith, refl, e)
+      | inl e ↦ inl (2, jump None, 1, passed None, right_mismatch, omega arith, refl, e)
+      | inr e ↦ inl (2, jump None, 0, passed_too None, right_mismatch, omega arith, refl, e)
     ];
-    named_only = λ a e. (2, jump None, refl, right_mismatch.settles, jump_goes_on (row_3 ∷ three_rows) ∙ twelve a e, inl right_mismatch);
+    named_only = λ a quiet e. (2, jump None, refl, right_mismatch.settles, jump_goes_on (row_3 ∷ three_rows) ∙ twelve a e, inl right_mismatch);
   };
   units = none_written turning_hand three_rows row_3 refl refl;
-  untaken = refl;
+  takes = untaken turning_hand three_rows row_3 refl;
   stops = record {
     cause = λ stop s. cc;
     of_cell = λ stage c stop stands s. absurd (stops c stop (subst (λ n. Stands turning row_3 n c) s.executing stands) (subst (λ n. StopsRun turning three_rows row_3 n c stop) s.executing s));
@@ -270,7 +270,7 @@ lawful_4 = record {
   holds = shows;
   successors = none_settles turning_hand four_rows row_4 refl refl settles;
   units = none_written turning_hand four_rows row_4 refl refl;
-  untaken = refl;
+  takes = untaken turning_hand four_rows row_4 refl;
   stops = no_stop turning_hand four_rows row_4 refl (λ c stop stands s. no_second c stands) (some_left turning_hand row_4 0 target (omega arith) refl refl);
 } where
   no_second : (c : Cell) → Stands turning row_4 1 c → ⊥
@@ -339,7 +339,7 @@ lawful_5 = record {
   holds = shows;
   successors = none_settles turning_hand five_rows row_5 refl refl settles;
   units = none_written turning_hand five_rows row_5 refl refl;
-  untaken = refl;
+  takes = untaken turning_hand five_rows row_5 refl;
   stops = record {
     cause = λ stop e. inl (1, target, refl, subst (λ x. StopsRun turning five_rows row_5 1 target x) (the stop e) target_stops);
     of_cell = λ stage c stop stands s. of_cell c stop (subst (λ n. Stands turning row_5 n c) s.executing stands) s.due;
@@ -366,7 +366,7 @@ lawful_5 = record {
   shows (suc (suc zero)) c s = cc
   shows (suc (suc (suc n))) c s = cc
 
-pub turning_lawful : Lawful turning turning_rows
+pub turning_lawful : Lawful (λ places. turning) turning_rows
 turning_lawful = (lawful_5, refl, (lawful_4, refl, (lawful_3, refl, (lawful_2, refl, (lawful_1, refl, (lawful_0, refl, tt))))))
 
 -- Lists that are not lawful
@@ -378,7 +378,7 @@ pub one_unflushed_refused : IsUnlawful one_unflushed
 one_unflushed_refused h = true_not_false (sym (h.0.successors.flushes 2 (jump None) (mismatch (Some 1 ∷ replicate 4 None) (Some 12) refl) 0 (passed_too None) (omega arith) refl))
 
 pub no_redirect_refused : IsUnlawful no_redirect
-no_redirect_refused h = cc (h.0.successors.named 2 (jump None) (mismatch both None refl))
+no_redirect_refused h = cc (h.0.successors.named refl 2 (jump None) (mismatch both None refl))
 
 pub late_left_out_refused : IsUnlawful late_left_out
 late_left_out_refused h =

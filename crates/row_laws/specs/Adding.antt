@@ -26,7 +26,7 @@ adding_asks word = asks_with three [] (λ n. None) (blank_outline three []) word
 
 -- the run of the image, with its words
 abbrev pub adding_hand : Hand
-adding_hand = record { image = adding_image; course = course_of bare adding_image; asks = adding_asks; units = []; initial = no_values; jump = no_jump }
+adding_hand = record { image = adding_image; course = course_of bare adding_image None; asks = adding_asks; units = []; initial = no_values; jump = no_jump }
 
 -- what its rows are judged against
 abbrev pub adding : Setting
@@ -98,7 +98,7 @@ adding_rows = row_5 ∷ five_rows
 
 -- what the rows retire is not the run's, nor are their states and stop
 abbrev pub IsOther : List Row → Type 0
-IsOther rows = Agreeing bare adding rows → ⊥
+IsOther rows = Agreeing bare (λ places. adding) rows → ⊥
 
 -- a write of a wrong value
 abbrev pub wrong_value : List Row

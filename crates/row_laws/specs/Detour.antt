@@ -22,7 +22,7 @@ detour_pc (suc p) = 8
 
 -- nop (00000013), twice; ebreak (00100073)
 abbrev pub detour_hand : Hand
-detour_hand = record { image = 19 ∷ 19 ∷ 1048691 ∷ []; course = record { answer = detour_answer; pc = detour_pc; accesses = λ p. false; blocks = no_blocks; own = none_own }; asks = λ word. quiet; units = []; initial = no_values; jump = no_jump }
+detour_hand = record { image = 19 ∷ 19 ∷ 1048691 ∷ []; course = record { answer = detour_answer; pc = detour_pc; enabled = λ p. false; accesses = λ p. false; blocks = no_blocks; own = none_own }; asks = λ word. quiet; units = []; initial = no_values; jump = no_jump }
 
 -- what its rows are judged against
 abbrev pub detour : Setting
@@ -78,7 +78,7 @@ detour_rows = row_3 ∷ three_rows
 
 -- the rows are not lawful
 abbrev pub IsUnlawful : List Row → Type 0
-IsUnlawful rows = Lawful detour rows → ⊥
+IsUnlawful rows = Lawful (λ places. detour) rows → ⊥
 
 -- the younger cell is not flushed
 abbrev pub unflushed : List Row

@@ -21,7 +21,7 @@ asks_on shape word = asks_with shape [] (λ n. None) (blank_outline shape []) wo
 
 -- the run of the image on such a core
 abbrev pub adding_on : Shape → Hand
-adding_on shape = record { image = adding_image; course = course_of bare adding_image; asks = asks_on shape; units = []; initial = no_values; jump = no_jump }
+adding_on shape = record { image = adding_image; course = course_of bare adding_image None; asks = asks_on shape; units = []; initial = no_values; jump = no_jump }
 
 -- Three stages: what leaves EX is written in the last stage, and forwarded there
 
@@ -67,7 +67,7 @@ short_rows = short_4 ∷ short_four
 
 -- the rows are not lawful
 abbrev pub IsUnlawfulShort : List Row → Type 0
-IsUnlawfulShort rows = Lawful short rows → ⊥
+IsUnlawfulShort rows = Lawful (λ places. short) rows → ⊥
 
 -- the third one waits for the second to retire, as on a core that never forwards
 abbrev pub never_forwarded : List Row
@@ -133,7 +133,7 @@ long_rows = long_7 ∷ long_6 ∷ long_5 ∷ long_4 ∷ long_four
 
 -- the rows are not lawful
 abbrev pub IsUnlawfulLong : List Row → Type 0
-IsUnlawfulLong rows = Lawful long rows → ⊥
+IsUnlawfulLong rows = Lawful (λ places. long) rows → ⊥
 
 -- the third one leaves RD in the row in which the second is at EX, the time of its write
 abbrev pub forwarded_early : List Row

@@ -43,7 +43,7 @@ over_pc (suc p) = 8
 
 -- nop, nop, ebreak
 abbrev pub over_hand : Hand
-over_hand = record { image = 19 ∷ 19 ∷ 1048691 ∷ []; course = record { answer = over_answer; pc = over_pc; accesses = λ p. false; blocks = no_blocks; own = none_own }; asks = λ word. quiet; units = []; initial = no_values; jump = over }
+over_hand = record { image = 19 ∷ 19 ∷ 1048691 ∷ []; course = record { answer = over_answer; pc = over_pc; enabled = λ p. false; accesses = λ p. false; blocks = no_blocks; own = none_own }; asks = λ word. quiet; units = []; initial = no_values; jump = over }
 
 -- what its rows are judged against
 abbrev pub jumping : Setting
@@ -67,7 +67,7 @@ over_rows = over_2 ∷ over_1 ∷ over_0 ∷ []
 
 -- the rows are not lawful
 abbrev pub IsUnlawfulOver : List Row → Type 0
-IsUnlawfulOver rows = Lawful jumping rows → ⊥
+IsUnlawfulOver rows = Lawful (λ places. jumping) rows → ⊥
 
 -- the next word is fetched, and flushed, as on a core that never predicts
 abbrev pub next_word_fetched : List Row
@@ -75,7 +75,7 @@ next_word_fetched = row_with (Some (nop 1 4)) (Some (nop 0 0)) None None (Some 1
 
 -- the rows are lawful on the core that does not predict
 abbrev pub IsLawfulPlain : List Row → Type 0
-IsLawfulPlain rows = Lawful (by_hand over_hand) rows
+IsLawfulPlain rows = Lawful (λ places. by_hand over_hand) rows
 
 -- nor are they there
 abbrev pub IsUnlawfulPlain : List Row → Type 0
@@ -130,7 +130,7 @@ abbrev pub back_hand : Hand
 back_hand =
     record {
       image = 19 ∷ 1048691 ∷ [];
-      course = record { answer = back_answer; pc = back_pc; accesses = λ p. false; blocks = back_blocks; own = none_own };
+      course = record { answer = back_answer; pc = back_pc; enabled = λ p. false; accesses = λ p. false; blocks = back_blocks; own = none_own };
       asks = λ word. back_asks;
       units = [];
       initial = one_left ∷ replicate 15 zero_bit;
@@ -175,7 +175,7 @@ back_rows = back_4 ∷ back_3 ∷ back_2 ∷ back_two
 
 -- the rows are not lawful
 abbrev pub IsUnlawfulBack : List Row → Type 0
-IsUnlawfulBack rows = Lawful looping rows → ⊥
+IsUnlawfulBack rows = Lawful (λ places. looping) rows → ⊥
 
 -- the next word is fetched, as on a core that never predicts
 abbrev pub never_guessed : List Row

@@ -40,12 +40,14 @@ three_predicting = record { stages = 3; rd = 1; ex = 1; mem = 2; forward = false
 abbrev pub five_forwarding : Shape
 five_forwarding = record { stages = 5; rd = 1; ex = 2; mem = 3; forward = true; predict = false; trap = 16; lawful = five_lawful }
 
--- what the rows of a core with these numbers are judged against, over a memory that never waits
+-- what the rows of a core with these numbers are judged against, over a memory that never waits, without an interrupt line
 abbrev pub on_core : Shape → Hand → Setting
 on_core shape h =
     record {
       image = h.image;
       waits = [];
+      lines = None;
+      entries = None;
       shape = shape;
       course = h.course;
       asks = h.asks;

@@ -55,7 +55,7 @@ holding_answer (suc (suc (suc p))) = Stopped Ebreak
 
 -- the run, with its words
 abbrev pub holding_hand : Hand
-holding_hand = record { image = 11 ∷ 299 ∷ 65579 ∷ 1048691 ∷ []; course = record { answer = holding_answer; pc = λ p. 4 * p; accesses = λ p. false; blocks = no_blocks; own = none_own }; asks = holding_asks; units = []; initial = no_values; jump = no_jump }
+holding_hand = record { image = 11 ∷ 299 ∷ 65579 ∷ 1048691 ∷ []; course = record { answer = holding_answer; pc = λ p. 4 * p; enabled = λ p. false; accesses = λ p. false; blocks = no_blocks; own = none_own }; asks = holding_asks; units = []; initial = no_values; jump = no_jump }
 
 -- what its rows are judged against
 abbrev pub holding : Setting
@@ -139,7 +139,7 @@ holding_rows = row_8 ∷ eight_rows
 
 -- the rows are not lawful
 abbrev pub IsUnlawful : List Row → Type 0
-IsUnlawful rows = Lawful holding rows → ⊥
+IsUnlawful rows = Lawful (λ places. holding) rows → ⊥
 
 -- a hold that is not true: the reader waits for the writer, which retired in the row before
 abbrev pub untrue_hold : List Row

@@ -7,3 +7,5 @@ pub mod Spawning
 pub mod Sharing
 pub mod Forwarding
 pub mod Guessing
+pub mod Interrupting
+pub mod LateEntry

@@ -76,7 +76,7 @@ abbrev pub sharing_hand : Bool → Hand
 sharing_hand b =
     record {
       image = 11 ∷ 1048691 ∷ [];
-      course = record { answer = sharing_answer b; pc = λ p. 4 * p; accesses = λ p. false; blocks = λ p. Some of_block ∷ replicate 15 None; own = λ p. b ∷ replicate 15 false };
+      course = record { answer = sharing_answer b; pc = λ p. 4 * p; enabled = λ p. false; accesses = λ p. false; blocks = λ p. Some of_block ∷ replicate 15 None; own = λ p. b ∷ replicate 15 false };
       asks = sharing_asks;
       units = (None ∷ []) ∷ [];
       initial = no_values;
@@ -142,7 +142,7 @@ sharing_rows b = row_4 ∷ sharing_four b
 
 -- the rows are not lawful
 abbrev pub IsUnlawful : Bool → List Row → Type 0
-IsUnlawful b rows = Lawful (sharing b) rows → ⊥
+IsUnlawful b rows = Lawful (λ places. sharing b) rows → ⊥
 
 -- the one that stops the run shows that it drains, though the register comes first
 abbrev pub drains_first : List Row

@@ -72,7 +72,7 @@ two_units m n = replicate m None ∷ replicate n None ∷ []
 
 -- a run of an image of the base set with these units
 abbrev pub spawning_hand : List ℕ → List Slots → Hand
-spawning_hand image units = record { image = image; course = course_of bare image; asks = spawning_asks; units = units; initial = no_values; jump = no_jump }
+spawning_hand image units = record { image = image; course = course_of bare image None; asks = spawning_asks; units = units; initial = no_values; jump = no_jump }
 
 -- Rows
 
@@ -213,11 +213,11 @@ passing_rows = passing_7 ∷ passing_seven
 
 -- the rows are not lawful
 abbrev pub IsUnlawful : List Row → Type 0
-IsUnlawful rows = Lawful passing rows → ⊥
+IsUnlawful rows = Lawful (λ places. passing) rows → ⊥
 
 -- what the rows retire, write or leave is not the run's
 abbrev pub IsOther : List Row → Type 0
-IsOther rows = Agreeing bare passing rows → ⊥
+IsOther rows = Agreeing bare (λ places. passing) rows → ⊥
 
 -- the sum goes on before x5 and x6 are written
 abbrev pub board_left_out : List Row
@@ -339,7 +339,7 @@ port_rows = port_6 ∷ port_six
 
 -- the rows are not lawful
 abbrev pub IsUnlawfulAtPort : List Row → Type 0
-IsUnlawfulAtPort rows = Lawful port rows → ⊥
+IsUnlawfulAtPort rows = Lawful (λ places. port) rows → ⊥
 
 -- both write in one row
 abbrev pub port_left_out : List Row
@@ -449,11 +449,11 @@ frozen_rows = frozen_8 ∷ frozen_eight
 
 -- the rows are not lawful
 abbrev pub IsUnlawfulFrozen : List Row → Type 0
-IsUnlawfulFrozen rows = Lawful frozen rows → ⊥
+IsUnlawfulFrozen rows = Lawful (λ places. frozen) rows → ⊥
 
 -- what the rows retire, write or leave is not the run's
 abbrev pub IsOtherFrozen : List Row → Type 0
-IsOtherFrozen rows = Agreeing bare frozen rows → ⊥
+IsOtherFrozen rows = Agreeing bare (λ places. frozen) rows → ⊥
 
 -- an instruction enters a frozen unit
 abbrev pub full_left_out : List Row

@@ -32,7 +32,7 @@ turning_pc (suc p) = 12
 
 -- nop (00000013); ebreak (00100073)
 abbrev pub turning_hand : Hand
-turning_hand = record { image = 91 ∷ 19 ∷ 19 ∷ 1048691 ∷ []; course = record { answer = turning_answer; pc = turning_pc; accesses = λ p. false; blocks = no_blocks; own = none_own }; asks = turning_asks; units = []; initial = no_values; jump = no_jump }
+turning_hand = record { image = 91 ∷ 19 ∷ 19 ∷ 1048691 ∷ []; course = record { answer = turning_answer; pc = turning_pc; enabled = λ p. false; accesses = λ p. false; blocks = no_blocks; own = none_own }; asks = turning_asks; units = []; initial = no_values; jump = no_jump }
 
 -- what its rows are judged against
 abbrev pub turning : Setting
@@ -104,7 +104,7 @@ turning_rows = row_5 ∷ row_4 ∷ row_3 ∷ three_rows
 
 -- the rows are not lawful
 abbrev pub IsUnlawful : List Row → Type 0
-IsUnlawful rows = Lawful turning rows → ⊥
+IsUnlawful rows = Lawful (λ places. turning) rows → ⊥
 
 -- the younger cells are not flushed
 abbrev pub unflushed : List Row

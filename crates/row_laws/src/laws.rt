@@ -1,4 +1,4 @@
-ghost use Rattle.std.specs.Prelude.{Bool};
+ghost use Rattle.std.specs.Prelude.{ℕ, Bool};
 ghost use Rattle.rv_lawful.specs.Headline.{Agreeing, IsSpawnWrite};
 ghost use Rattle.rv_lawful.specs.LawfulTrace.{Lawful};
 ghost use Rattle.rv_seq.specs.Bare.{bare};
@@ -8,6 +8,8 @@ ghost use Rattle.row_laws.specs.Detour as leap;
 ghost use Rattle.row_laws.specs.Forwarding as forward;
 ghost use Rattle.row_laws.specs.Guessing as guess;
 ghost use Rattle.row_laws.specs.Holding.{holding, holding_rows, IsUnlawful, untrue_hold, later_hold, tail_one_more, tail_one_less, tail_left_out, custom_left_out, idle_cell, skipped_word, wrong_stop, missing_stop, after_stop, cell_behind, untrue_trap, taken_unasked};
+ghost use Rattle.row_laws.specs.Interrupting as trap;
+ghost use Rattle.row_laws.specs.LateEntry as late;
 ghost use Rattle.row_laws.specs.Sharing as share;
 ghost use Rattle.row_laws.specs.Spawning as spawn;
 ghost use Rattle.row_laws.specs.Turning as turn;
@@ -15,7 +17,7 @@ ghost use Rattle.row_laws.specs.Turning as turn;
 /// The laws of rows, tried on a hand-made run whose first instruction is Tight and writes a custom register late: they hold of its rows, in which
 /// it is held by Tail and the next instruction by Custom, and of none in which one thing is changed.
 pub fn holding_run()
-    ensures rows { Lawful holding holding_rows }
+    ensures rows { Lawful (λ places. holding) holding_rows }
     ensures untrue_hold { IsUnlawful untrue_hold }
     ensures later_hold { IsUnlawful later_hold }
     ensures tail_one_more { IsUnlawful tail_one_more }
@@ -35,7 +37,7 @@ pub fn holding_run()
 /// The laws of rows, tried on a hand-made run whose first instruction is Tight and writes the pc late: they hold of its rows, in which
 /// the next instruction is held by Late and flushed with the one behind it, and of none in which one thing is changed.
 pub fn turning_run()
-    ensures rows { Lawful turn.turning turn.turning_rows }
+    ensures rows { Lawful (λ places. turn.turning) turn.turning_rows }
     ensures unflushed { turn.IsUnlawful turn.unflushed }
     ensures one_unflushed { turn.IsUnlawful turn.one_unflushed }
     ensures flushed_twice { turn.IsUnlawful turn.flushed_twice }
@@ -49,8 +51,8 @@ pub fn turning_run()
 /// The laws of rows and what they promise of the run, tried on the run of the base set that adds five and seven: its rows are lawful and the run's, and rows
 /// that retire another value, or in another order, or stop for another cause, are not the run's.
 pub fn adding_run()
-    ensures rows { Lawful adding adding_rows }
-    ensures agrees { Agreeing bare adding adding_rows }
+    ensures rows { Lawful (λ places. adding) adding_rows }
+    ensures agrees { Agreeing bare (λ places. adding) adding_rows }
     ensures wrong_value { IsOther wrong_value }
     ensures wrong_order { IsOther wrong_order }
     ensures other_stop { IsOther other_stop }
@@ -59,7 +61,7 @@ pub fn adding_run()
 /// The laws of rows, tried on a hand-made run whose first instruction goes on elsewhere in time: they hold of its rows, in which the instruction
 /// behind it is flushed from EX, and of none in which one thing is changed.
 pub fn detour_run()
-    ensures rows { Lawful leap.detour leap.detour_rows }
+    ensures rows { Lawful (λ places. leap.detour) leap.detour_rows }
     ensures unflushed { leap.IsUnlawful leap.unflushed }
     ensures other_redirect { leap.IsUnlawful leap.other_redirect }
     ensures no_redirect { leap.IsUnlawful leap.no_redirect }
@@ -72,8 +74,8 @@ pub fn detour_run()
 /// The laws of rows and what they promise of the run, tried on a run of the base set that takes two instructions as decoupled, of which the younger one
 /// is written first: its rows are lawful and the run's with the outstanding writes applied, and rows in which one thing is changed are not.
 pub fn passing_run()
-    ensures rows { Lawful spawn.passing spawn.passing_rows }
-    ensures agrees { Agreeing bare spawn.passing spawn.passing_rows }
+    ensures rows { Lawful (λ places. spawn.passing) spawn.passing_rows }
+    ensures agrees { Agreeing bare (λ places. spawn.passing) spawn.passing_rows }
     ensures owes_both { spawn.OwesBoth }
     ensures owes_one { spawn.OwesOne }
     ensures writes_one { spawn.WritesOne }
@@ -94,8 +96,8 @@ pub fn passing_run()
 /// The same on a run in which a unit writes while an instruction with a write of its own stands in the last stage, and which ends at the fetch: the
 /// instruction is held by Port, and the run does not stop before the last write.
 pub fn port_run()
-    ensures rows { Lawful spawn.port spawn.port_rows }
-    ensures agrees { Agreeing bare spawn.port spawn.port_rows }
+    ensures rows { Lawful (λ places. spawn.port) spawn.port_rows }
+    ensures agrees { Agreeing bare (λ places. spawn.port) spawn.port_rows }
     ensures port_left_out { spawn.IsUnlawfulAtPort spawn.port_left_out }
     ensures port_without_write { spawn.IsUnlawfulAtPort spawn.port_without_write }
     ensures stop_before_write { spawn.IsUnlawfulAtPort spawn.stop_before_write }
@@ -105,8 +107,8 @@ pub fn port_run()
 /// The same on a run in which two units finish in one row: the lower one writes, the other one is frozen with all that stands in it, and what is to
 /// enter it is held by UnitFull. The condition of the last write is false: it takes its turn and changes nothing.
 pub fn frozen_run()
-    ensures rows { Lawful spawn.frozen spawn.frozen_rows }
-    ensures agrees { Agreeing bare spawn.frozen spawn.frozen_rows }
+    ensures rows { Lawful (λ places. spawn.frozen) spawn.frozen_rows }
+    ensures agrees { Agreeing bare (λ places. spawn.frozen) spawn.frozen_rows }
     ensures full_left_out { spawn.IsUnlawfulFrozen spawn.full_left_out }
     ensures full_of_another { spawn.IsUnlawfulFrozen spawn.full_of_another }
     ensures higher_written { spawn.IsUnlawfulFrozen spawn.higher_written }
@@ -119,7 +121,7 @@ pub fn frozen_run()
 /// what the block writes is there from the retirement on, the unit writes what the instruction itself does and not what the block does, and an ebreak
 /// waits for it by Board, since the block writes the register beside each instruction.
 pub fn sharing_run()
-    ensures rows { (b : Bool) → Lawful (share.sharing b) (share.sharing_rows b) }
+    ensures rows { (b : Bool) → Lawful (λ places. share.sharing b) (share.sharing_rows b) }
     ensures drains_first { (b : Bool) → share.IsUnlawful b share.drains_first }
     ensures block_first { (b : Bool) → share.Holds b share.sharing_three share.of_block }
     ensures block_lost { (b : Bool) → share.HoldsNot b share.sharing_three zero_bit }
@@ -133,9 +135,9 @@ pub fn sharing_run()
 /// waits for the seven to retire, as on a core that never forwards, are not lawful. On the one of five stages the sum waits in one row, in which
 /// the seven is at EX, the time of its write: rows without this hold are not lawful, nor are rows in which it waits for what is forwarded.
 pub fn forwarding_run()
-    ensures short { Lawful forward.short forward.short_rows }
+    ensures short { Lawful (λ places. forward.short) forward.short_rows }
     ensures never_forwarded { forward.IsUnlawfulShort forward.never_forwarded }
-    ensures long { Lawful forward.long forward.long_rows }
+    ensures long { Lawful (λ places. forward.long) forward.long_rows }
     ensures forwarded_early { forward.IsUnlawfulLong forward.forwarded_early }
     ensures waits_for_forwarded { forward.IsUnlawfulLong forward.waits_for_forwarded }
     ensures waits_longer { forward.IsUnlawfulLong forward.waits_longer }
@@ -145,12 +147,52 @@ pub fn forwarding_run()
 /// nothing flushed, and rows with the next word there are not lawful, while on a core that does not predict it is the other way round. The jump is that
 /// with the custom registers before the row in which the instruction leaves stage 0: where it does not come, what was fetched is flushed.
 pub fn guessing_run()
-    ensures over { Lawful guess.jumping guess.over_rows }
+    ensures over { Lawful (λ places. guess.jumping) guess.over_rows }
     ensures next_word_fetched { guess.IsUnlawfulOver guess.next_word_fetched }
     ensures plain { guess.IsLawfulPlain guess.next_word_fetched }
     ensures jump_fetched { guess.IsUnlawfulPlain guess.jump_fetched }
-    ensures back { Lawful guess.looping guess.back_rows }
+    ensures back { Lawful (λ places. guess.looping) guess.back_rows }
     ensures never_guessed { guess.IsUnlawfulBack guess.never_guessed }
     ensures guessed_ahead { guess.IsUnlawfulBack guess.guessed_ahead }
     ensures miss_kept { guess.IsUnlawfulBack guess.miss_kept }
+{}
+
+/// The laws of rows and what they promise of the run, tried on a run of the base set that goes to a handler and returns: the interrupt line is raised
+/// while a load waits for the memory, so that the cell of EX is held by Trap, and the interrupt is taken in the row in which the load retires. Its rows
+/// are lawful and the run's, which goes to the handler there, and rows in which one thing is changed are not. Where the line is raised once more in
+/// the handler, the interrupt is taken behind the return, and not before.
+pub fn interrupted_run()
+    ensures rows { Lawful trap.interrupting trap.interrupted_rows }
+    ensures agrees { Agreeing bare trap.interrupting trap.interrupted_rows }
+    ensures again { Lawful (trap.interrupting_in trap.twice) trap.again_rows }
+    ensures never_taken { trap.IsUnlawful trap.never_taken }
+    ensures taken_unraised { trap.IsUnlawful trap.taken_unraised }
+    ensures trap_unraised { trap.IsUnlawful trap.trap_unraised }
+    ensures taken_early { trap.IsUnlawful trap.taken_early }
+    ensures taken_at_retired { trap.IsUnlawful trap.taken_at_retired }
+    ensures taken_at_youngest { trap.IsUnlawful trap.taken_at_youngest }
+    ensures trap_left_out { trap.IsUnlawful trap.trap_left_out }
+    ensures behind_alone { trap.IsUnlawful trap.behind_alone }
+    ensures below_unflushed { trap.IsUnlawful trap.below_unflushed }
+    ensures ex_unflushed { trap.IsUnlawful trap.ex_unflushed }
+    ensures above_flushed { trap.IsUnlawful trap.above_flushed }
+    ensures no_redirect { trap.IsUnlawful trap.no_redirect }
+    ensures other_redirect { trap.IsUnlawful trap.other_redirect }
+    ensures taken_again { trap.IsUnlawful trap.taken_again }
+    ensures taken_in_handler { trap.IsUnlawfulIn trap.twice trap.taken_again }
+    ensures trap_again { trap.IsUnlawful trap.trap_again }
+    ensures trap_in_handler { trap.IsUnlawfulIn trap.twice trap.trap_again }
+    ensures undiverted { trap.IsOther trap.undiverted }
+    ensures answers { trap.AnswersWithin 1 trap.interrupted_rows }
+    ensures answers_late { trap.AnswersNotWithin 1 trap.never_taken }
+    ensures stopped_before { (bound : ℕ) → trap.AnswersNotWithin bound trap.stopped_before }
+{}
+
+/// The same on a hand-made run in which the interrupt is taken in the row in which an instruction retires that writes the pc late: it is taken where that
+/// one goes on, and not at the address of what is flushed behind it, and the handler is fetched, and not what the jump names.
+pub fn late_entry_run()
+    ensures rows { Lawful late.late_entry late.late_rows }
+    ensures taken_at_flushed { late.IsUnlawful late.taken_at_flushed }
+    ensures jump_followed { late.IsUnlawful late.jump_followed }
+    ensures jump_alone { late.IsUnlawful late.jump_alone }
 {}

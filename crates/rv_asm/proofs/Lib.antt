@@ -5,4 +5,6 @@ pub mod Placing
 pub mod ImageLemmas
 pub mod Printed
 pub mod Results
+pub mod NumberLemmas
 pub mod WaitLemmas
+pub mod LineLemmas

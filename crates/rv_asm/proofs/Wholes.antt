@@ -7,12 +7,11 @@ use Rattle.std.proofs.lemmas.Bool.Decides.{nat_tests}
 use Rattle.std.proofs.Math.Nat.{pow-le-pow_right}
 use Rattle.rv_isa.specs.declared.table.Format.{Format}
 use Rattle.rv_isa.specs.declared.table.Format.TheVariants as T
-use Rattle.rv_asm_text.specs.Numbers.{most_size, digit_of, digits_size, size_of}
-use Rattle.rv_asm_field.specs.declared.verdict.Verdict.{Verdict}
+use Rattle.rv_asm_text.specs.Numbers.{most_size, digit_of, digits_size}
 use Rattle.rv_asm_field.specs.declared.verdict.Verdict.TheVariants as V
 use Rattle.rv_asm_field.specs.Filling.{pattern_in}
 use Rattle.rv_asm_line.specs.Forms.{is_in_reach, word_verdict}
-use Rattle.rv_asm.specs.Laws.{digits_whole, whole_size, capped, sized, SizeLaw}
+use Rattle.rv_asm.specs.Laws.{digits_whole, capped, sized, SizeLaw}
 
 -- ---- digits
 at_least : (base f : ℕ) → 1 ≤ base → f ≤ base * f

@@ -1,5 +1,5 @@
 -- The words of an assembly source, or the first line that fails (this project's choice).
-use Rattle.std.specs.Prelude.{◌≡◌, ℕ, ◌+◌, List, [], ◌∷◌, ◌++◌, Option, Bool, if◌then◌else◌, nat_lt, Result, Ok, Err, ◌⊎◌}
+use Rattle.std.specs.Prelude.{◌≡◌, ℕ, ◌+◌, List, [], ◌∷◌, ◌++◌, if◌then◌else◌, nat_lt, Result, Ok, Err}
 use Rattle.rv_isa.specs.Images.{most_words}
 use Rattle.ix_extension.specs.Extensions.{ExtensionTree, InstructionTree}
 use Rattle.rv_asm_text.specs.Lines.{lines_of}

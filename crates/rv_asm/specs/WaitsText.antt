@@ -1,36 +1,10 @@
 -- The text of a memory's waits: decimal numbers that white space parts (this project's choice).
-use Rattle.std.specs.Prelude.{◌≡◌, ℕ, ◌+◌, ◌-◌, ◌*◌, ◌≤◌, List, [], ◌∷◌, ◌++◌, length, map, Option, Some, None, Bool, ◌&&◌, ◌||◌, if◌then◌else◌, ◌==◌, nat_le, ◌⊎◌}
-use Rattle.std.specs.List.{slice_split}
+use Rattle.std.specs.Prelude.{◌≡◌, ℕ, ◌≤◌, List, ◌∷◌, ◌++◌, length, Option, Some, None, ◌&&◌, if◌then◌else◌, nat_le, ◌⊎◌}
 use Rattle.std.specs.Option.{option_and_then}
 use Rattle.rv_waits.specs.Waits.{most_waits}
 use Rattle.rv_asm.specs.declared.image_text.TextErr.{TextErr}
 use Rattle.rv_asm.specs.declared.image_text.TextErr.TheVariants.{At, Memory}
-
--- a space, a tab, a carriage return or a line feed
-abbrev pub is_space : ℕ → Bool
-is_space b = (b == 32) || ((b == 9) || ((b == 13) || (b == 10)))
-
--- the parts of a text between its white space, of which many may be empty
-abbrev pub parts_of : List ℕ → List (List ℕ)
-parts_of bytes = slice_split is_space bytes
-
--- the words among these parts: those that are not empty
-abbrev pub words_among : List (List ℕ) → List (List ℕ)
-words_among [] = []
-words_among ([] ∷ parts) = words_among parts
-words_among ((b ∷ word) ∷ parts) = (b ∷ word) ∷ words_among parts
-
-abbrev pub words_of : List ℕ → List (List ℕ)
-words_of bytes = words_among (parts_of bytes)
-
--- the value of a decimal digit
-abbrev pub digit_value : ℕ → Option ℕ
-digit_value b = if nat_le 48 b && nat_le b 57 then Some (b - 48) else None
-
--- the number that these decimal digits write behind those of `front`
-abbrev pub decimal_number : ℕ → List ℕ → Option ℕ
-decimal_number front [] = Some front
-decimal_number front (b ∷ rest) = option_and_then (λ digit. decimal_number (10 * front + digit) rest) (digit_value b)
+use Rattle.rv_asm.specs.NumbersText.{words_of, decimal_number, AreNumbers}
 
 abbrev pub at_most_255 : ℕ → Option ℕ
 at_most_255 number = if nat_le number 255 then Some number else None
@@ -41,7 +15,7 @@ wait_in word = if nat_le 1 (length word) && nat_le (length word) 3 then option_a
 
 -- each of these words is a wait, and these are the waits
 abbrev pub AreWaits : List (List ℕ) → List ℕ → Type 0
-AreWaits words waits = map wait_in words ≡ map Some waits
+AreWaits words waits = AreNumbers wait_in words waits
 
 -- the text has these waits, and no more than there may be
 pub record IsWaitsText (bytes waits : List ℕ) : Type 0 where

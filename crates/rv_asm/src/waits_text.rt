@@ -1,34 +1,10 @@
-ghost use Rattle.std.specs.Prelude.{◌≡◌, ℕ, ◌≤◌, List, [], ◌∷◌, ◌++◌, length, map, Some, IfOk, OnOk, IfErr, MatchResult};
-ghost use Rattle.rv_asm.specs.WaitsText.{parts_of, digit_value as specified_digit_value, decimal_number as specified_decimal_number, wait_in as specified_wait_in, IsWaitsText, IsWaitsRefusal, IsWordRefusal};
+ghost use Rattle.std.specs.Prelude.{◌≡◌, ℕ, List, [], ◌∷◌, ◌++◌, Some, IfOk, OnOk, IfErr, MatchResult};
+ghost use Rattle.rv_asm.specs.WaitsText.{wait_in as specified_wait_in, IsWaitsText, IsWaitsRefusal, IsWordRefusal};
 
 use crate::image_text::TextErr;
+use crate::numbers_text::{decimal_number, parts};
 use rv_waits::Waits;
-use std::alloc::{AllocError, Global};
-
-/// The value of a decimal digit.
-fn digit_value(b: u8) -> Option<u8>
-    ensures { result ≡ specified_digit_value b }
-{
-    match b {
-        b'0'..=b'9' => Some(b - b'0'),
-        _ => None,
-    }
-}
-
-/// The number that at most three decimal digits write.
-fn decimal_number(word: &[u8]) -> Option<u16>
-    requires { length word.now ≤ 3 }
-    ensures { result ≡ specified_decimal_number 0 word.now }
-{
-    let mut number = 0u16;
-    for b in word {
-        match digit_value(*b) {
-            None => return None,
-            Some(digit) => number = 10 * number + u16::from(digit),
-        }
-    }
-    Some(number)
-}
+use std::alloc::Global;
 
 /// The wait that one to three decimal digits write, where it is at most 255.
 fn wait_in(word: &[u8]) -> Option<u8>
@@ -41,15 +17,6 @@ fn wait_in(word: &[u8]) -> Option<u8>
         Some(number) if number <= 255 => Some(number as u8),
         _ => None,
     }
-}
-
-/// The parts of a text that white space parts, of which many may be empty.
-fn parts(alloc: Global, bytes: &[u8]) -> Result<Vec<&[u8]>, AllocError>
-    ensures { IfOk result (λ parts. map (λ part. part.now) parts.items ≡ parts_of bytes.now) }
-{
-    bytes
-        .split(|b| *b == b' ' || *b == b'\t' || *b == b'\r' || *b == b'\n')
-        .collect(alloc)
 }
 
 /// Puts the wait that a word writes behind the waits before it, or tells why the word is refused.

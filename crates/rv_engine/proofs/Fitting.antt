@@ -33,16 +33,16 @@ fill_fitting d new [] n h = tt
 fill_fitting d new (None ∷ older) n h = (n, h.1)
 fill_fitting d new (Some t ∷ older) n h = h
 
-read_fitting : (d : Design) (k : Shape) (operands : Option Operands) (wait : ℕ) (o : Outstanding) (stage : ℕ) (s : Option Token) → IsFittingSlot d s → IsFittingSlot d (option_map (read_with k operands wait o stage) s)
-read_fitting d k operands wait o stage None h = tt
-read_fitting d k operands wait o stage (Some t) h = record { is_in = h.is_in; unit = h.unit; wide = by_pair operands; sound = h.sound } where
+read_fitting : (d : Design) (k : Shape) (operands : Option Operands) (wait : ℕ) (b : Bool) (o : Outstanding) (stage : ℕ) (s : Option Token) → IsFittingSlot d s → IsFittingSlot d (option_map (read_with k operands wait b o stage) s)
+read_fitting d k operands wait b o stage None h = tt
+read_fitting d k operands wait b o stage (Some t) h = record { is_in = h.is_in; unit = h.unit; wide = by_pair operands; sound = h.sound } where
   by_pair : (p : Option Operands) → AreWide (view_extension d.extension) (with_pair p t.inputs).custom
   by_pair None = h.wide
   by_pair (Some p) = h.wide
 
-pub reading_fitting : (d : Design) (k : Shape) (file : List ℕ) (wait : ℕ) (o : Outstanding) (stage : ℕ) (slots : Slots) → AreFitting d slots → AreFitting d (reading k file wait o stage slots)
-reading_fitting d k file wait o stage [] h = tt
-reading_fitting d k file wait o stage (s ∷ older) h = (read_fitting d k (slot_operands k stage s older file) wait o stage s h.0, reading_fitting d k file wait o (suc stage) older h.1)
+pub reading_fitting : (d : Design) (k : Shape) (file : List ℕ) (wait : ℕ) (b : Bool) (o : Outstanding) (stage : ℕ) (slots : Slots) → AreFitting d slots → AreFitting d (reading k file wait b o stage slots)
+reading_fitting d k file wait b o stage [] h = tt
+reading_fitting d k file wait b o stage (s ∷ older) h = (read_fitting d k (slot_operands k stage s older file) wait b o stage s h.0, reading_fitting d k file wait b o (suc stage) older h.1)
 
 held_fitting : (d : Design) (h : Option Hold) (t : Token) → IsFitting d t → IsFitting d (held h t)
 held_fitting d h t f = record { is_in = f.is_in; unit = f.unit; wide = f.wide; sound = f.sound }

@@ -5,7 +5,7 @@ use Rattle.std.proofs.lemmas.List.{at_drop_more, drop-set, get_or-take}
 use Rattle.rv_holds.specs.declared.token.Token.{Token}
 use Rattle.rv_holds.specs.Tokens.{Slots}
 use Rattle.rv_holds.proofs.Places.{front_kept}
-use Rattle.rv_engine.specs.Rows.{going, kept, advanced, leaving}
+use Rattle.rv_engine.specs.Rows.{going, kept, advanced, leaving, first_slot}
 
 -- the token of the last stage goes out
 pub leaving_last : (come : Option Token) (slots : Slots) (n : ℕ) (s : Option Token) → length slots ≡ n + 1 → s ≡ get_or slots n s → going s ≡ leaving come slots
@@ -39,3 +39,9 @@ advanced_first [] (s ∷ older) u r lt long front back e = absurd (omega (arith,
 advanced_first (t ∷ behind) (s ∷ older) u r lt long front back e =
     let same : t ≡ s = ap (λ (l : Slots). get_or l 0 None) front in
     ap (λ (v : Option Token). v ∷ behind) (e ∙ ap (λ (v : Option Token). kept None v) same) ∙ ap (λ (l : Slots). kept None s ∷ l) back
+
+-- the slot of a stage
+pub slot_at : (slots : Slots) (n : ℕ) (s : Option Token) → n < length slots → s ≡ get_or slots n s → s ≡ first_slot (drop n slots)
+slot_at [] n s lt e = absurd (omega (arith, lt))
+slot_at (u ∷ slots) zero s lt e = e
+slot_at (u ∷ slots) (suc n) s lt e = slot_at slots n s (omega (arith, lt)) e

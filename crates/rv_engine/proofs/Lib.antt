@@ -6,3 +6,4 @@ pub mod Starting
 pub mod Going
 pub mod Owings
 pub mod Opening
+pub mod Enabled

@@ -13,32 +13,32 @@ use Rattle.rv_unit.specs.Numbering.{lasts_of}
 use Rattle.rv_unit.specs.Timed.{CanEnter}
 use Rattle.rv_holds.specs.declared.token.Token.{Token}
 use Rattle.rv_holds.specs.Tokens.{Slots, or_else, stop_of}
-use Rattle.rv_holds.specs.Holds.{waiting_hold, drain_hold, memory_hold, store_hold, tail_hold, ending_hold, own_hold, shown, decided}
+use Rattle.rv_holds.specs.Holds.{waiting_hold, leaving_hold, memory_hold, store_hold, tail_hold, ending_hold, own_hold, shown, decided}
 use Rattle.rv_holds.specs.declared.flushing.Turn.{Turn}
-use Rattle.rv_holds.specs.Flushing.{next_of, settles, settled, nearest, mismatch, turn_of, struck, cleared}
+use Rattle.rv_holds.specs.Flushing.{next_of, settles, settled, nearest, mismatch, turn_of, enters, turn_with, struck, cleared}
 use Rattle.rv_engine.specs.declared.owing.Owed.{Owed}
 use Rattle.rv_engine.specs.Owing.{Outstanding, unit_hold, port_hold, port_serial, paying, retiring_hold, beside_of, unit_entered}
 use Rattle.rv_engine.specs.Rows.{reading, tried_with, seeing, is_ripe, trying, is_loading, loading, going, leaving, owed_tried, into_unit, entering_of}
 use Rattle.rv_engine.specs.Kept.{IsFittingSlot, AreFitting, IsOpen, IsLastOpen}
 
 -- the token meets what is outstanding
-abbrev IsMet : Shape → Outstanding → ℕ → Option Token → Type 0
-IsMet k o stage s = IfSome s (λ t. t.beside ≡ beside_of k o stage t.asks)
+abbrev IsMet : Shape → Bool → Outstanding → ℕ → Option Token → Type 0
+IsMet k b o stage s = IfSome s (λ t. t.beside ≡ beside_of k b o stage t.asks)
 
-abbrev AreMet : Shape → Outstanding → ℕ → Slots → Type 0
-AreMet k o stage [] = Unit {0}
-AreMet k o stage (s ∷ older) = IsMet k o stage s × AreMet k o (suc stage) older
+abbrev AreMet : Shape → Bool → Outstanding → ℕ → Slots → Type 0
+AreMet k b o stage [] = Unit {0}
+AreMet k b o stage (s ∷ older) = IsMet k b o stage s × AreMet k b o (suc stage) older
 
-reading_met : (k : Shape) (file : List ℕ) (wait : ℕ) (o : Outstanding) (stage : ℕ) (slots : Slots) → AreMet k o stage (reading k file wait o stage slots)
-reading_met k file wait o stage [] = tt
-reading_met k file wait o stage (None ∷ older) = (tt, reading_met k file wait o (suc stage) older)
-reading_met k file wait o stage (Some t ∷ older) = (refl, reading_met k file wait o (suc stage) older)
+reading_met : (k : Shape) (file : List ℕ) (wait : ℕ) (b : Bool) (o : Outstanding) (stage : ℕ) (slots : Slots) → AreMet k b o stage (reading k file wait b o stage slots)
+reading_met k file wait b o stage [] = tt
+reading_met k file wait b o stage (None ∷ older) = (tt, reading_met k file wait b o (suc stage) older)
+reading_met k file wait b o stage (Some t ∷ older) = (refl, reading_met k file wait b o (suc stage) older)
 
-trying_met : (x : ExtensionTree) (k : Shape) (future : List Bits) (memory : List ℕ) (o : Outstanding) (stage : ℕ) (slots : Slots) → AreMet k o stage slots → AreMet k o stage (trying x k future memory stage slots)
-trying_met x k future memory o stage [] h = tt
-trying_met x k future memory o stage (None ∷ older) h = (tt, trying_met x k future memory o (suc stage) older h.1)
-trying_met x k future memory o stage (Some t ∷ older) h = (by_case (is_ripe k stage t older), trying_met x k future memory o (suc stage) older h.1) where
-  by_case : (b : Bool) → IsMet k o stage (if b then Some (tried_with x memory (seeing future t.inputs) t) else Some t)
+trying_met : (x : ExtensionTree) (k : Shape) (future : List Bits) (memory : List ℕ) (b : Bool) (o : Outstanding) (stage : ℕ) (slots : Slots) → AreMet k b o stage slots → AreMet k b o stage (trying x k future memory stage slots)
+trying_met x k future memory b o stage [] h = tt
+trying_met x k future memory b o stage (None ∷ older) h = (tt, trying_met x k future memory b o (suc stage) older h.1)
+trying_met x k future memory b o stage (Some t ∷ older) h = (by_case (is_ripe k stage t older), trying_met x k future memory b o (suc stage) older h.1) where
+  by_case : (ripe : Bool) → IsMet k b o stage (if ripe then Some (tried_with x memory (seeing future t.inputs) t) else Some t)
   by_case true = h.0
   by_case false = h.0
 
@@ -50,15 +50,15 @@ not_frozen : (o : Outstanding) (u : Option ℕ) (p : Option Hold) → or_else (u
 not_frozen o u p e = (none_after (unit_hold o u) p e).0
 
 -- the token of the last stage that shows no hold
-open_last : (k : Shape) (o : Outstanding) (stage : ℕ) (t : Token) → suc stage ≡ k.stages → t.beside ≡ beside_of k o stage t.asks → shown k stage t [] ≡ None → unit_hold o t.asks.unit ≡ None
-open_last k o stage t last met e =
+open_last : (k : Shape) (b : Bool) (o : Outstanding) (stage : ℕ) (t : Token) → suc stage ≡ k.stages → t.beside ≡ beside_of k b o stage t.asks → shown k stage t [] ≡ None → unit_hold o t.asks.unit ≡ None
+open_last k b o stage t last met e =
     let a = k.lawful.memory_late in
     let b = k.lawful.memory_inside in
     let not_ex : (stage == k.ex) ≡ false = apart stage k.ex (omega (arith, last, a, b)) in
     let is_last : (suc stage == k.stages) ≡ true = same (suc stage) k.stages last in
     let own : own_hold k stage t [] ≡ None =
     (none_after (own_hold k stage t []) None (sym (ap (λ (z : Bool). if z && is_some (stop_of t) && is_none (own_hold k stage t []) then None else or_else (own_hold k stage t []) None) not_ex) ∙ e)).0 in
-    let drains : Option Hold = if stage == k.ex then drain_hold t [] else None in
+    let drains : Option Hold = if stage == k.ex then leaving_hold t [] else None in
     let accesses : Option Hold = if stage == k.mem then or_else (memory_hold t) (store_hold [] t.asks) else None in
     let ends : Option Hold = if suc stage == k.stages then ending_hold t else None in
     let one = none_after (waiting_hold k stage t []) (or_else drains (or_else accesses ends)) own in
@@ -75,11 +75,11 @@ open_last k o stage t last met e =
       same : (m n : ℕ) → m ≡ n → (m == n) ≡ true
       same m n e = grind (arith, nat_tests)
 
-decided_open : (k : Shape) (o : Outstanding) (stage : ℕ) (slots : Slots) → stage + length slots ≡ k.stages → AreMet k o stage slots → IsLastOpen o (decided k stage slots)
-decided_open k o stage [] e h = tt
-decided_open k o stage (None ∷ []) e h = tt
-decided_open k o stage (Some t ∷ []) e h = λ shows. open_last k o stage t (omega (arith, e)) h.0 shows
-decided_open k o stage (s ∷ u ∷ older) e h = decided_open k o (suc stage) (u ∷ older) (omega (arith, e)) h.1
+decided_open : (k : Shape) (b : Bool) (o : Outstanding) (stage : ℕ) (slots : Slots) → stage + length slots ≡ k.stages → AreMet k b o stage slots → IsLastOpen o (decided k stage slots)
+decided_open k b o stage [] e h = tt
+decided_open k b o stage (None ∷ []) e h = tt
+decided_open k b o stage (Some t ∷ []) e h = λ shows. open_last k b o stage t (omega (arith, e)) h.0 shows
+decided_open k b o stage (s ∷ u ∷ older) e h = decided_open k b o (suc stage) (u ∷ older) (omega (arith, e)) h.1
 
 loading_open : (x : ExtensionTree) (k : Shape) (memory : List ℕ) (o : Outstanding) (stage : ℕ) (slots : Slots) → IsLastOpen o slots → IsLastOpen o (loading x k memory stage slots)
 loading_open x k memory o stage [] h = tt
@@ -90,13 +90,13 @@ loading_open x k memory o stage (Some t ∷ []) h = by_case (is_loading k stage 
   by_case false = h
 loading_open x k memory o stage (s ∷ u ∷ older) h = loading_open x k memory o (suc stage) (u ∷ older) h
 
-pub last_open : (x : ExtensionTree) (k : Shape) (file : List ℕ) (wait : ℕ) (o : Outstanding) (future : List Bits) (memory : List ℕ) (slots : Slots) → length (trying x k future memory 0 (reading k file wait o 0 slots)) ≡ k.stages
-    → IsLastOpen o (loading x k memory 0 (decided k 0 (trying x k future memory 0 (reading k file wait o 0 slots))))
-last_open x k file wait o future memory slots e =
-    let met = trying_met x k future memory o 0 (reading k file wait o 0 slots) (reading_met k file wait o 0 slots) in
-    let z : 0 + length (trying x k future memory 0 (reading k file wait o 0 slots)) ≡ k.stages = omega (arith, e) in
-    loading_open x k memory o 0 (decided k 0 (trying x k future memory 0 (reading k file wait o 0 slots)))
-    (decided_open k o 0 (trying x k future memory 0 (reading k file wait o 0 slots)) z met)
+pub last_open : (x : ExtensionTree) (k : Shape) (file : List ℕ) (wait : ℕ) (b : Bool) (o : Outstanding) (future : List Bits) (memory : List ℕ) (slots : Slots) → length (trying x k future memory 0 (reading k file wait b o 0 slots)) ≡ k.stages
+    → IsLastOpen o (loading x k memory 0 (decided k 0 (trying x k future memory 0 (reading k file wait b o 0 slots))))
+last_open x k file wait b o future memory slots e =
+    let met = trying_met x k future memory b o 0 (reading k file wait b o 0 slots) (reading_met k file wait b o 0 slots) in
+    let z : 0 + length (trying x k future memory 0 (reading k file wait b o 0 slots)) ≡ k.stages = omega (arith, e) in
+    loading_open x k memory o 0 (decided k 0 (trying x k future memory 0 (reading k file wait b o 0 slots)))
+    (decided_open k b o 0 (trying x k future memory 0 (reading k file wait b o 0 slots)) z met)
 
 pub cleared_open : (o : Outstanding) (n : ℕ) (slots : Slots) → n ≤ length slots → IsLastOpen o slots → IsLastOpen o (cleared n slots)
 cleared_open o zero slots le h = h
@@ -153,3 +153,9 @@ struck_few k fetch slots = by_settled (settled k 0 slots) refl where
   by_settled : (o : Option Turn) → settled k 0 slots ≡ o → struck (mismatch fetch slots o) ≤ length slots
   by_settled None e = omega arith
   by_settled (Some turn) e = by_test turn (turn.address == nearest fetch (take turn.stage slots)) e
+
+pub struck_with_few : (k : Shape) (interrupted : Bool) (fetch : ℕ) (slots : Slots) → suc k.ex < length slots → struck (turn_with k interrupted fetch slots) ≤ length slots
+struck_with_few k interrupted fetch slots lt = by_case (enters k interrupted slots) where
+  by_case : (b : Bool) → struck (if b then Some (record { stage = suc k.ex; address = k.trap }) else turn_of k fetch slots) ≤ length slots
+  by_case true = omega (arith, lt)
+  by_case false = struck_few k fetch slots

@@ -1,6 +1,6 @@
 -- What is outstanding beside the stages: what stands in units, and what each of these still writes (SCAIE-V, decoupled execution; that a unit's write takes the port of the
 -- register file before the instruction of the last stage is this project's choice).
-use Rattle.std.specs.Prelude.{◌≡◌, ℕ, suc, List, [], ◌∷◌, ◌++◌, Option, Some, None, if◌then◌else◌, ◌==◌, is_some}
+use Rattle.std.specs.Prelude.{◌≡◌, ℕ, suc, List, [], ◌∷◌, ◌++◌, Option, Some, None, Bool, if◌then◌else◌, ◌==◌, is_some}
 use Rattle.ix_plan.specs.declared.design.Design.{Design}
 use Rattle.rv_core.specs.declared.Shape.{Shape}
 use Rattle.rv_asks.specs.declared.asks.Asks.{Asks}
@@ -90,13 +90,14 @@ port_hold (Some j) destination = if destination == 0 then None else Some (Port j
 abbrev pub retiring_hold : Outstanding → Asks → Option Hold
 retiring_hold o a = or_else (unit_hold o a.unit) (port_hold (port_serial (paying o)) a.destination)
 
--- what the token of a stage meets in a row of what is outstanding
-abbrev pub beside_of : Shape → Outstanding → ℕ → Asks → Beside
-beside_of k o stage a =
+-- what the token of a stage meets in a row of what is outstanding, where an interrupt is to be taken in it, or not
+abbrev pub beside_of : Shape → Bool → Outstanding → ℕ → Asks → Beside
+beside_of k interrupted o stage a =
     record {
       board = if stage == k.rd then board_of o.owed a else None;
       port = if suc stage == k.stages then retiring_hold o a else None;
       left = oldest_serial (unpaid o);
+      trap = interrupted;
     }
 
 -- The next row

@@ -1,5 +1,5 @@
 -- The row that a machine makes, and what it keeps then (this project's choice).
-use Rattle.std.specs.Prelude.{◌≡◌, ℕ, suc, ◌-◌, List, [], ◌∷◌, take, drop, replicate, Option, Some, None, Bool, true, false, ◌&&◌, ◌||◌, if◌then◌else◌, ◌==◌, is_some, is_none, option_map}
+use Rattle.std.specs.Prelude.{◌≡◌, ℕ, suc, ◌-◌, List, [], ◌∷◌, take, drop, replicate, Option, Some, None, Bool, true, false, ◌&&◌, ◌||◌, not, if◌then◌else◌, ◌==◌, is_some, is_none, option_map}
 use Rattle.ix_bits.specs.declared.number.Bits.{Bits}
 use Rattle.ix_extension.specs.Extensions.{ExtensionTree, view_extension}
 use Rattle.ix_plan.specs.declared.design.Design.{Design}
@@ -27,7 +27,7 @@ use Rattle.rv_asks.specs.Asks.{asks_in}
 use Rattle.rv_tried.specs.declared.trial.Trial.{Trial}
 use Rattle.rv_tried.specs.Tried.{tried}
 use Rattle.rv_tried.specs.Parts.{shown, native, spawned, paid}
-use Rattle.rv_lawful.specs.Outstanding.{Written}
+use Rattle.rv_lawful.specs.Outstanding.{Written, after_entry}
 use Rattle.rv_lawful.specs.Future.{early_after, late_after, spawned_after}
 use Rattle.rv_lawful.specs.Settings.{jump_with}
 use Rattle.rv_holds.specs.declared.token.Beside.{Beside}
@@ -36,11 +36,11 @@ use Rattle.rv_holds.specs.declared.flushing.Turn.{Turn}
 use Rattle.rv_holds.specs.Tokens.{Slots, or_else, commit_of, makes_access, cells_of}
 use Rattle.rv_holds.specs.Forwarding.{operand_in}
 use Rattle.rv_holds.specs.Holds.{waiting_hold, decided}
-use Rattle.rv_holds.specs.Flushing.{turn_of, struck, redirect_of, unheld, cleared, flushed_of, slot_stop, remains, fetch_after}
+use Rattle.rv_holds.specs.Flushing.{enters, turn_with, struck, redirect_of, unheld, cleared, flushed_of, slot_stop, remains, fetch_after}
 use Rattle.rv_engine.specs.declared.owing.Owed.{Owed}
 use Rattle.rv_engine.specs.declared.reading.Operands.{Operands}
 use Rattle.rv_engine.specs.Owing.{Outstanding, beside_of, paying, outstanding_after}
-use Rattle.rv_engine.specs.Settings.{Setting, Machine, shape_of, tree_of, outstanding_in}
+use Rattle.rv_engine.specs.Settings.{Setting, Machine, shape_of, tree_of, outstanding_in, pending_by, interrupted_by}
 
 -- Fetch
 
@@ -55,7 +55,7 @@ new_token d future trap serial at word =
       trial = None;
       wait = 0;
       tail = (asks_in d word (decoded_in (view_extension d.extension) word)).tail;
-      beside = record { board = None; port = None; left = None };
+      beside = record { board = None; port = None; left = None; trap = false };
       guess = next_word at;
       back = return_to word trap;
     }
@@ -119,13 +119,13 @@ with_pair None i = i
 with_pair (Some o) i = record { word = i.word; rs1 = o.first; rs2 = o.second; pc = i.pc; custom = i.custom }
 
 -- the token with these operands, where there are some; at MEM with the rows for which its access still waits; and with what it meets beside the stages
-abbrev pub read_with : Shape → Option Operands → ℕ → Outstanding → ℕ → Token → Token
-read_with k operands wait o stage t = with_inputs (with_pair operands t.inputs) (if (stage == k.mem) && makes_access t then wait else 0) (beside_of k o stage t.asks) t
+abbrev pub read_with : Shape → Option Operands → ℕ → Bool → Outstanding → ℕ → Token → Token
+read_with k operands wait interrupted o stage t = with_inputs (with_pair operands t.inputs) (if (stage == k.mem) && makes_access t then wait else 0) (beside_of k interrupted o stage t.asks) t
 
 -- each slot so, that of RD with its operands
-abbrev pub reading : Shape → List ℕ → ℕ → Outstanding → ℕ → Slots → Slots
-reading k x wait o stage [] = []
-reading k x wait o stage (s ∷ older) = option_map (read_with k (slot_operands k stage s older x) wait o stage) s ∷ reading k x wait o (suc stage) older
+abbrev pub reading : Shape → List ℕ → ℕ → Bool → Outstanding → ℕ → Slots → Slots
+reading k x wait interrupted o stage [] = []
+reading k x wait interrupted o stage (s ∷ older) = option_map (read_with k (slot_operands k stage s older x) wait interrupted o stage) s ∷ reading k x wait interrupted o (suc stage) older
 
 -- the token tried with these inputs on this memory
 abbrev pub tried_with : ExtensionTree → List ℕ → State → Token → Token
@@ -315,7 +315,7 @@ filled_by k m = guess_first k.design m.future m.arch.mem (fill_first (new_by k m
 
 -- with their operands
 abbrev pub read_by : Setting → Machine → Slots
-read_by k m = reading (shape_of k) m.arch.x (owed_by k m) (outstanding_in k m) 0 (filled_by k m)
+read_by k m = reading (shape_of k) m.arch.x (owed_by k m) (interrupted_by k m) (outstanding_in k m) 0 (filled_by k m)
 
 -- with their holds, once the token of EX is tried
 abbrev pub held_by : Setting → Machine → Slots
@@ -325,9 +325,13 @@ held_by k m = decided (shape_of k) 0 (trying (tree_of k) (shape_of k) m.future m
 abbrev pub loaded_by : Setting → Machine → Slots
 loaded_by k m = loading (tree_of k) (shape_of k) m.arch.mem 0 (held_by k m)
 
+-- is the handler entered?
+abbrev pub entered_by : Setting → Machine → Bool
+entered_by k m = enters (shape_of k) (interrupted_by k m) (loaded_by k m)
+
 -- where the fetch is turned
 abbrev pub turn_by : Setting → Machine → Option Turn
-turn_by k m = turn_of (shape_of k) m.fetch (loaded_by k m)
+turn_by k m = turn_with (shape_of k) (interrupted_by k m) m.fetch (loaded_by k m)
 
 -- without the flushed tokens
 abbrev pub seen_by : Setting → Machine → Slots
@@ -392,6 +396,14 @@ stood_after n (Some t) = if is_some t.cell.hold then suc n else 0
 abbrev pub memory_by : Setting → Machine → Option Token
 memory_by k m = first_slot (drop (shape_of k).mem (seen_by k m))
 
+-- the state after what is written at retirement, and by a unit
+abbrev pub written_by : Setting → Machine → Arch
+written_by k m = arch_paid (paid_by k m) (arch_retired (tree_of k) (native_of (left_by k m)) m.arch)
+
+-- the address at which the handler is entered, if it is
+abbrev pub taken_by : Setting → Machine → Option ℕ
+taken_by k m = if entered_by k m then Some (written_by k m).pc else None
+
 -- the row that the machine makes
 pub record IsRowOf (k : Setting) (m : Machine) (row : Row) : Type 0 where
   pub cells : take (shape_of k).stages row.cells ≡ cells_of (unheld (struck (turn_by k m)) (loaded_by k m))
@@ -400,7 +412,7 @@ pub record IsRowOf (k : Setting) (m : Machine) (row : Row) : Type 0 where
   pub written : row.written ≡ written_of (paid_by k m)
   pub flushed : row.flushed ≡ flushed_of (take (struck (turn_by k m)) (loaded_by k m))
   pub redirect : row.redirect ≡ redirect_of (turn_by k m)
-  pub taken : row.taken ≡ None
+  pub taken : row.taken ≡ taken_by k m
   pub stop : row.stop ≡ stop_after k m
 
 -- what it keeps then: a token that leaves EX has put the writes of the blocks and its own of EX into the future file, one that retires its late ones, and a unit those of a
@@ -413,8 +425,10 @@ machine_after k m =
       next = next_after m.next m.slots (new_by k m);
       accesses = accesses_after m.accesses (memory_by k m);
       stood = stood_after m.stood (memory_by k m);
+      rows = suc m.rows;
+      waiting = pending_by k m && not (entered_by k m);
       future = file_early (executed_by k m) (file_late (left_by k m) (file_paid (paid_by k m) m.future));
-      arch = arch_paid (paid_by k m) (arch_retired (tree_of k) (native_of (left_by k m)) m.arch);
+      arch = after_entry (shape_of k).trap (taken_by k m) (written_by k m);
       entries = (outstanding_by k m).entries;
       owed = (outstanding_by k m).owed;
     }

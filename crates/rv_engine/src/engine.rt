@@ -1,4 +1,5 @@
-ghost use Rattle.std.specs.Prelude.{◌≡◌, ◌+◌, ◌<◌, ◌^◌, ◌||◌, length, take, drop, is_some, Some, None, false, true, if◌then◌else◌};
+ghost use Rattle.std.specs.Prelude.{ℕ, List, Option, ◌≡◌, ◌+◌, ◌<◌, ◌^◌, ◌||◌, length, take, drop, is_some, Some, None, false, true, if◌then◌else◌};
+ghost use Rattle.std.specs.Option.{option_copied};
 ghost use Rattle.ix_extension.specs.Extensions.{view_extension};
 ghost use Rattle.ix_extension.specs.WellFormed.{IsWellFormed};
 ghost use Rattle.ix_eval.specs.Scratches.{IsScratchOf};
@@ -8,12 +9,13 @@ ghost use Rattle.rv_seq.specs.declared.commit.Stop.TheVariants.{Fetch};
 ghost use Rattle.rv_seq.specs.Steps.{word_at as specified_word_at};
 ghost use Rattle.rv_holds.specs.Tokens.{or_else};
 ghost use Rattle.rv_holds.specs.Flushing.{remains as specified_remains, fetch_after};
-ghost use Rattle.rv_engine.specs.Settings.{setting};
+ghost use Rattle.rv_engine.specs.Settings.{setting, interrupted_by};
 ghost use Rattle.rv_engine.specs.Rows.{unless, next_after, new_by, loaded_by, going, leaving, first_slot, native_of, file_early, file_late, file_paid, is_owing, arch_retired, arch_paid, IsRowOf, machine_after};
 ghost use Rattle.rv_engine.specs.Showing.{shown_of};
 ghost use Rattle.rv_engine.specs.Kept.{machine_with, machine_of, AreFitting, AreWideOwed, IsLastOpen, IsFit, AreStoredInside};
 ghost use Rattle.rv_engine.specs.Owing.{IsOwingOf};
 
+use crate::entering::{is_interrupted, is_pending, is_waiting, take_interrupt};
 use crate::filling::{fetch, guess};
 use crate::front::{Front, Kept};
 use crate::moving::{accesses_then, advance, last, put_early, put_late, retired_in, stood_then};
@@ -27,11 +29,11 @@ use ix_eval::Scratch;
 use ix_plan::Design;
 use rv_asks::Asking;
 use rv_core::Shape;
-use rv_holds::{Token, decide, fetch_following, flush, remains, stop_in, turn_in};
+use rv_holds::{Token, decide, enters, fetch_following, flush, remains, stop_in, turn_in};
 use rv_ports::Shown;
 use rv_seq::{Arch, Stop, word_at};
 use rv_trace::Row;
-use rv_waits::Waits;
+use rv_waits::{Lines, Waits};
 
 /// The next fetch address: the one that is named, or the plain one.
 fn next_fetch(redirect: Option<u32>, fetch: u32, slots: &[Option<Token>]) -> u32
@@ -93,7 +95,7 @@ fn write(
     put_early(&slots[usize::from(design.sheet.shape.ex)], future);
 }
 
-/// The slots up to their loads: what is fetched comes in, the address behind it is guessed, operands are read, the token of EX is tried, holds are decided, and the load
+/// The slots up to their loads, where an interrupt is to be taken or not: what is fetched comes in, the address behind it is guessed, operands are read, the token of EX is tried, holds are decided, and the load
 /// of MEM reads. Gives the serial of the next fetch.
 fn prepare(
     design: &Design,
@@ -103,6 +105,7 @@ fn prepare(
     front: Front,
     future: &[Bits; 16],
     arch: &Arch,
+    interrupted: bool,
     owing: &Owing,
     slots: &mut [Option<Token>],
     scratch: &mut Scratch,
@@ -116,8 +119,8 @@ fn prepare(
     requires owing { IsOwingOf design.now owing.now }
     requires serial { front.next + 1 < 2 ^ 32 }
     ensures scratch { IsScratchOf (view_extension design.now.extension) scratch.new }
-    ensures next { result ≡ next_after front.next slots.old (new_by (setting design.now image.now waits.now) (machine_with front future.now arch.now owing.now slots.old)) }
-    ensures slots { slots.new ≡ loaded_by (setting design.now image.now waits.now) (machine_with front future.now arch.now owing.now slots.old) }
+    ensures next { (lines : Option (List ℕ)) → result ≡ next_after front.next slots.old (new_by (setting design.now image.now waits.now lines) (machine_with front future.now arch.now owing.now slots.old)) }
+    ensures slots { (lines : Option (List ℕ)) → interrupted ≡ interrupted_by (setting design.now image.now waits.now lines) (machine_with front future.now arch.now owing.now slots.old) → slots.new ≡ loaded_by (setting design.now image.now waits.now lines) (machine_with front future.now arch.now owing.now slots.old) }
     ensures open { IsLastOpen owing.now slots.new }
     ensures stages { length slots.new ≡ design.now.sheet.shape.stages }
     ensures fitting { AreFitting design.now slots.new }
@@ -126,7 +129,14 @@ fn prepare(
     let word = word_at(image, front.fetch);
     let next = fetch(design, asking, front, future, arch.trap, word, slots);
     guess(design, future, &arch.mem, slots, scratch);
-    read(design, &arch.x, owed_in(waits, front), owing, slots);
+    read(
+        design,
+        &arch.x,
+        owed_in(waits, front),
+        interrupted,
+        owing,
+        slots,
+    );
     try_executing(design, future, &arch.mem, slots, scratch);
     decide(shape, slots);
     load(design, &arch.mem, slots, scratch);
@@ -139,6 +149,7 @@ fn row_of(
     asking: &Asking,
     image: &[u32],
     waits: &Waits,
+    lines: Option<&Lines>,
     front: &mut Front,
     future: &mut [Bits; 16],
     arch: &mut Arch,
@@ -157,20 +168,34 @@ fn row_of(
     requires serial { front.old.next + 1 < 2 ^ 32 }
     requires accesses { front.old.accesses + 1 < 2 ^ 32 }
     requires stood { front.old.stood + 1 < 2 ^ 32 }
+    requires rows { front.old.rows + 1 < 2 ^ 32 }
     ensures scratch { IsScratchOf (view_extension design.now.extension) scratch.new }
-    ensures row { IsRowOf (setting design.now image.now waits.now) (machine_with front.old future.old arch.old owing.old slots.old) result.0 }
-    ensures shown { result.1 ≡ shown_of (setting design.now image.now waits.now) (machine_with front.old future.old arch.old owing.old slots.old) }
-    ensures after { machine_with front.new future.new arch.new owing.new slots.new ≡ machine_after (setting design.now image.now waits.now) (machine_with front.old future.old arch.old owing.old slots.old) }
+    ensures row { IsRowOf (setting design.now image.now waits.now (option_copied lines.entry)) (machine_with front.old future.old arch.old owing.old slots.old) result.0 }
+    ensures shown { result.1 ≡ shown_of (setting design.now image.now waits.now (option_copied lines.entry)) (machine_with front.old future.old arch.old owing.old slots.old) }
+    ensures after { machine_with front.new future.new arch.new owing.new slots.new ≡ machine_after (setting design.now image.now waits.now (option_copied lines.entry)) (machine_with front.old future.old arch.old owing.old slots.old) }
     ensures future { AreWide (view_extension design.now.extension) future.new }
     ensures fitting { AreFitting design.now slots.new }
     ensures owing { IsOwingOf design.now owing.new }
     ensures owed { AreWideOwed (view_extension design.now.extension) owing.new.owed }
 {
     let shape = design.sheet.shape;
+    let pending = is_pending(lines, *front);
+    let interrupted = is_interrupted(pending, arch.trap);
     let next = prepare(
-        design, asking, image, waits, *front, future, arch, owing, slots, scratch,
+        design,
+        asking,
+        image,
+        waits,
+        *front,
+        future,
+        arch,
+        interrupted,
+        owing,
+        slots,
+        scratch,
     );
-    let turn = turn_in(shape, front.fetch, slots);
+    let entered = enters(shape, interrupted, slots);
+    let turn = turn_in(shape, entered, front.fetch, slots);
     let shown = show(shape, arch, future, owing, turn, slots);
     let left = flush(turn, slots);
     let cells = left.cells;
@@ -183,14 +208,18 @@ fn row_of(
     let retired = retired_in(last(slots));
     let paying = owing.paying();
     write(design, &paying, slots, future, arch);
+    let taken = take_interrupt(shape, entered, arch);
     owing.cycle(entering_in(last(slots)));
     let stop = stop_of_row(image, stopped, slots, owing, fetch);
     advance(slots);
+    let waiting = is_waiting(pending, entered);
     *front = Front {
         fetch,
         next,
         accesses,
         stood,
+        rows: front.rows + 1,
+        waiting,
     };
     let row = Row {
         cells,
@@ -198,7 +227,7 @@ fn row_of(
         written: written_of(&paying),
         flushed,
         redirect: left.redirect,
-        taken: None,
+        taken,
         stop,
     };
     (row, shown)
@@ -210,6 +239,7 @@ fn row_in(
     asking: &Asking,
     image: &[u32],
     waits: &Waits,
+    lines: Option<&Lines>,
     front: &mut Front,
     future: &mut [Bits; 16],
     arch: &mut Arch,
@@ -227,10 +257,11 @@ fn row_in(
     requires serial { front.old.next + 1 < 2 ^ 32 }
     requires accesses { front.old.accesses + 1 < 2 ^ 32 }
     requires stood { front.old.stood + 1 < 2 ^ 32 }
+    requires rows { front.old.rows + 1 < 2 ^ 32 }
     ensures scratch { IsScratchOf (view_extension design.now.extension) scratch.new }
-    ensures row { IsRowOf (setting design.now image.now waits.now) (machine_with front.old future.old arch.old owing.old (take design.now.sheet.shape.stages slots.old)) result.0 }
-    ensures shown { result.1 ≡ shown_of (setting design.now image.now waits.now) (machine_with front.old future.old arch.old owing.old (take design.now.sheet.shape.stages slots.old)) }
-    ensures after { machine_with front.new future.new arch.new owing.new (take design.now.sheet.shape.stages slots.new) ≡ machine_after (setting design.now image.now waits.now) (machine_with front.old future.old arch.old owing.old (take design.now.sheet.shape.stages slots.old)) }
+    ensures row { IsRowOf (setting design.now image.now waits.now (option_copied lines.entry)) (machine_with front.old future.old arch.old owing.old (take design.now.sheet.shape.stages slots.old)) result.0 }
+    ensures shown { result.1 ≡ shown_of (setting design.now image.now waits.now (option_copied lines.entry)) (machine_with front.old future.old arch.old owing.old (take design.now.sheet.shape.stages slots.old)) }
+    ensures after { machine_with front.new future.new arch.new owing.new (take design.now.sheet.shape.stages slots.new) ≡ machine_after (setting design.now image.now waits.now (option_copied lines.entry)) (machine_with front.old future.old arch.old owing.old (take design.now.sheet.shape.stages slots.old)) }
     ensures future { AreWide (view_extension design.now.extension) future.new }
     ensures fitting { AreFitting design.now (take design.now.sheet.shape.stages slots.new) }
     ensures owing { IsOwingOf design.now owing.new }
@@ -242,6 +273,7 @@ fn row_in(
         asking,
         image,
         waits,
+        lines,
         front,
         future,
         arch,
@@ -251,28 +283,31 @@ fn row_in(
     )
 }
 
-/// One row of a pipeline of a design, over an image and a memory with these waits, with what it shows the modules, and what it keeps after the row. The asking and the
+/// One row of a pipeline of a design, over an image and a memory with these waits, with this interrupt line, if there is one, with what it shows the modules, and what it keeps
+/// after the row. The asking and the
 /// scratch are of this design. It takes no memory.
 pub fn make_row(
     design: &Design,
     asking: &Asking,
     image: &[u32],
     waits: &Waits,
+    lines: Option<&Lines>,
     kept: &mut Kept,
     scratch: &mut Scratch,
 ) -> (Row, Shown)
     requires well_formed { IsWellFormed design.now.extension }
     requires asking { IsAskingOf design.now asking.now }
     requires scratch { IsScratchOf (view_extension design.now.extension) scratch.old }
-    requires fit { IsFit (setting design.now image.now waits.now) (machine_of design.now.sheet.shape kept.old) }
+    requires fit { IsFit (setting design.now image.now waits.now (option_copied lines)) (machine_of design.now.sheet.shape kept.old) }
     requires owing { IsOwingOf design.now kept.old.owing }
     requires serial { kept.old.front.next + 1 < 2 ^ 32 }
     requires accesses { kept.old.front.accesses + 1 < 2 ^ 32 }
     requires stood { kept.old.front.stood + 1 < 2 ^ 32 }
-    ensures row { IsRowOf (setting design.now image.now waits.now) (machine_of design.now.sheet.shape kept.old) result.0 }
-    ensures shown { result.1 ≡ shown_of (setting design.now image.now waits.now) (machine_of design.now.sheet.shape kept.old) }
-    ensures after { machine_of design.now.sheet.shape kept.new ≡ machine_after (setting design.now image.now waits.now) (machine_of design.now.sheet.shape kept.old) }
-    ensures fit { IsFit (setting design.now image.now waits.now) (machine_of design.now.sheet.shape kept.new) }
+    requires rows { kept.old.front.rows + 1 < 2 ^ 32 }
+    ensures row { IsRowOf (setting design.now image.now waits.now (option_copied lines.entry)) (machine_of design.now.sheet.shape kept.old) result.0 }
+    ensures shown { result.1 ≡ shown_of (setting design.now image.now waits.now (option_copied lines.entry)) (machine_of design.now.sheet.shape kept.old) }
+    ensures after { machine_of design.now.sheet.shape kept.new ≡ machine_after (setting design.now image.now waits.now (option_copied lines.entry)) (machine_of design.now.sheet.shape kept.old) }
+    ensures fit { IsFit (setting design.now image.now waits.now (option_copied lines.entry)) (machine_of design.now.sheet.shape kept.new) }
     ensures owing { IsOwingOf design.now kept.new.owing }
     ensures scratch { IsScratchOf (view_extension design.now.extension) scratch.new }
 {
@@ -281,6 +316,7 @@ pub fn make_row(
         asking,
         image,
         waits,
+        lines,
         &mut kept.front,
         &mut kept.future,
         &mut kept.arch,

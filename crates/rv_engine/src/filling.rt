@@ -63,6 +63,7 @@ fn new_token(
             board: None,
             port: None,
             left: None,
+            trap: false,
         },
         guess: front.fetch.wrapping_add(4),
         back: return_to(word, trap),

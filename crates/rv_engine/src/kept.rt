@@ -1,9 +1,11 @@
-ghost use Rattle.std.specs.Prelude.{◌≡◌, ℕ, List, IfOk};
+ghost use Rattle.std.specs.Prelude.{◌≡◌, ℕ, List, Option, is_some, IfOk};
+ghost use Rattle.ix_extension.specs.Extensions.{view_extension};
 ghost use Rattle.ix_extension.specs.WellFormed.{IsWellFormed};
 ghost use Rattle.rv_unit.specs.Numbering.{lasts_of};
 ghost use Rattle.rv_unit.specs.Timed.{AreUnits};
 ghost use Rattle.rv_engine.specs.Owing.{IsOwingOf};
-ghost use Rattle.rv_engine.specs.Settings.{setting, first_machine};
+ghost use Rattle.rv_effect.specs.WordEffects.{AreWide};
+ghost use Rattle.rv_engine.specs.Settings.{setting, first_state, first_machine};
 ghost use Rattle.rv_engine.specs.Kept.{machine_of, IsFit};
 
 use crate::front::{Front, Kept};
@@ -13,16 +15,29 @@ use ix_plan::Design;
 use rv_seq::Arch;
 use std::alloc::Global;
 
-/// What a pipeline keeps before its first row. All memory that its rows use is taken here.
-pub fn first_kept(alloc: Global, design: &Design) -> Result<Kept, Memory>
+/// The first state, of a core with an interrupt line or without one.
+fn first_arch(alloc: Global, design: &Design, has_line: bool) -> Result<Arch, Memory>
+    requires well_formed { IsWellFormed design.now.extension }
+    ensures state { (lines : Option (List ℕ)) → has_line ≡ is_some lines → IfOk result (λ arch. arch ≡ first_state (view_extension design.now.extension) lines) }
+    ensures wide { IfOk result (λ arch. AreWide (view_extension design.now.extension) arch.custom) }
+{
+    if has_line {
+        Arch::with_trap(alloc, &design.extension)
+    } else {
+        Arch::new(alloc, &design.extension)
+    }
+}
+
+/// What a pipeline of a core with an interrupt line, or without one, keeps before its first row. All memory that its rows use is taken here.
+pub fn first_kept(alloc: Global, design: &Design, has_line: bool) -> Result<Kept, Memory>
     requires well_formed { IsWellFormed design.now.extension }
     requires units { AreUnits design.now.sheet.shape.stages (lasts_of design.now.plans) }
-    ensures machine { (image waits : List ℕ) → IfOk result (λ kept. machine_of design.now.sheet.shape kept ≡ first_machine (setting design.now image waits)) }
+    ensures machine { (image waits : List ℕ) (lines : Option (List ℕ)) → has_line ≡ is_some lines → IfOk result (λ kept. machine_of design.now.sheet.shape kept ≡ first_machine (setting design.now image waits lines)) }
     ensures units { IfOk result (λ kept. IsOwingOf design.now kept.owing) }
-    ensures fit { (image waits : List ℕ) → IfOk result (λ kept. IsFit (setting design.now image waits) (machine_of design.now.sheet.shape kept)) }
+    ensures fit { (image waits : List ℕ) (lines : Option (List ℕ)) → IfOk result (λ kept. IsFit (setting design.now image waits lines) (machine_of design.now.sheet.shape kept)) }
 {
     let owing = Owing::new(alloc, design)?;
-    match Arch::new(alloc, &design.extension) {
+    match first_arch(alloc, design, has_line) {
         Ok(arch) => {
             let future = arch.custom;
             Ok(Kept {
@@ -32,6 +47,8 @@ pub fn first_kept(alloc: Global, design: &Design) -> Result<Kept, Memory>
                     next: 0,
                     accesses: 0,
                     stood: 0,
+                    rows: 0,
+                    waiting: false,
                 },
                 future,
                 arch,

@@ -2,6 +2,7 @@
 #![tactic(auto)]
 
 mod engine;
+mod entering;
 mod filling;
 mod front;
 mod kept;

@@ -94,21 +94,24 @@ fn put_operands(operands: Option<Operands>, inputs: &mut Inputs)
     }
 }
 
-/// What tokens meet in a row of what is outstanding, found once.
+/// What tokens meet in a row of what is outstanding and of the interrupt line, found once.
 #[derive(Clone, Copy)]
 struct Met {
     left: Option<u32>,
     port: Option<u32>,
+    trap: bool,
 }
 
-/// What is found of what is outstanding.
-fn met_in(owing: &Owing) -> Met
+/// What is found of what is outstanding, where an interrupt is to be taken, or not.
+fn met_in(interrupted: bool, owing: &Owing) -> Met
     ensures left { result.left ≡ oldest_serial (unpaid owing.now) }
     ensures port { result.port ≡ specified_port_serial (paying owing.now) }
+    ensures trap { result.trap ≡ interrupted }
 {
     Met {
         left: owing.left(),
         port: port_serial(owing.paying()),
+        trap: interrupted,
     }
 }
 
@@ -117,7 +120,7 @@ fn beside_of(shape: Shape, owing: &Owing, met: Met, stage: usize, asks: &Asks) -
     requires left { met.left ≡ oldest_serial (unpaid owing.now) }
     requires port { met.port ≡ specified_port_serial (paying owing.now) }
     requires unit { IfSome asks.now.unit (λ unit. unit < length owing.now.lasts) }
-    ensures { result ≡ specified_beside_of shape owing.now stage asks.now }
+    ensures { result ≡ specified_beside_of shape met.trap owing.now stage asks.now }
 {
     let board = if stage == usize::from(shape.rd) {
         board_of(owing.owed(), asks)
@@ -133,6 +136,7 @@ fn beside_of(shape: Shape, owing: &Owing, met: Met, stage: usize, asks: &Asks) -
         board,
         port,
         left: met.left,
+        trap: met.trap,
     }
 }
 
@@ -149,7 +153,7 @@ fn read_token(
     requires left { met.left ≡ oldest_serial (unpaid owing.now) }
     requires port { met.port ≡ specified_port_serial (paying owing.now) }
     requires unit { IfSome token.old.asks.unit (λ unit. unit < length owing.now.lasts) }
-    ensures { token.new ≡ read_with shape operands wait owing.now stage token.old }
+    ensures { token.new ≡ read_with shape operands wait met.trap owing.now stage token.old }
 {
     token.wait = wait_of(shape, wait, stage, token);
     token.beside = beside_of(shape, owing, met, stage, &token.asks);
@@ -170,7 +174,7 @@ fn read_slot(
     requires port { met.port ≡ specified_port_serial (paying owing.now) }
     requires lasts { owing.now.lasts ≡ lasts_of design.now.plans }
     requires fitting { IsFittingSlot design.now slot.old }
-    ensures { slot.new ≡ option_map (read_with design.now.sheet.shape operands wait owing.now stage) slot.old }
+    ensures { slot.new ≡ option_map (read_with design.now.sheet.shape operands wait met.trap owing.now stage) slot.old }
 {
     if let Some(token) = slot {
         read_token(design.sheet.shape, operands, wait, owing, met, stage, token);
@@ -178,13 +182,20 @@ fn read_slot(
 }
 
 /// Gives the token of RD its operands, that of MEM the rows for which it waits, and each what it meets beside the stages.
-pub fn read(design: &Design, file: &[u32; 32], wait: u8, owing: &Owing, slots: &mut [Option<Token>])
+pub fn read(
+    design: &Design,
+    file: &[u32; 32],
+    wait: u8,
+    interrupted: bool,
+    owing: &Owing,
+    slots: &mut [Option<Token>],
+)
     requires lasts { owing.now.lasts ≡ lasts_of design.now.plans }
     requires fitting { AreFitting design.now slots.old }
     requires few { length slots.old < 100 }
-    ensures { slots.new ≡ reading design.now.sheet.shape file.now wait owing.now 0 slots.old }
+    ensures { slots.new ≡ reading design.now.sheet.shape file.now wait interrupted owing.now 0 slots.old }
 {
-    let met = met_in(owing);
+    let met = met_in(interrupted, owing);
     for stage in 0..slots.len() {
         let operands = operands_in(
             design.sheet.shape,

@@ -119,3 +119,11 @@ shown_behind k n t older o s e none b =
     ∙ ap (λ h. or_else h (if is_blocked k (suc n) older then Some Behind else None)) (sym e ∙ none)
     ∙ ap (λ j. if is_blocked k j older then Some Behind else None) (up n)
     ∙ ap (λ (z : Bool). if z then Some Behind else None) (sym b))
+
+-- and nothing, where no cell blocks it
+pub shown_free : (k : Shape) (n : ℕ) (t : Token) (older : Slots) (o : Option Hold) → false ≡ stops_now k n t older → o ≡ own_hold k n t older → o ≡ None → false ≡ is_blocked k (n + 1) older → ◌≡◌ {A = Option Hold} None (shown k n t older)
+shown_free k n t older o s e none b =
+    sym (ap (λ (z : Bool). if z then None else or_else (own_hold k n t older) (if is_blocked k (suc n) older then Some Behind else None)) (sym s)
+    ∙ ap (λ h. or_else h (if is_blocked k (suc n) older then Some Behind else None)) (sym e ∙ none)
+    ∙ ap (λ j. if is_blocked k j older then Some Behind else None) (up n)
+    ∙ ap (λ (z : Bool). if z then Some Behind else None) (sym b))

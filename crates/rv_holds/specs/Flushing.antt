@@ -45,6 +45,21 @@ mismatch fetch slots (Some turn) = if turn.address == nearest fetch (take turn.s
 abbrev pub turn_of : Shape → ℕ → Slots → Option Turn
 turn_of k fetch slots = mismatch fetch slots (settled k 0 slots)
 
+-- does a token remain after the row?
+abbrev pub remains : Slots → Bool
+remains [] = false
+remains (None ∷ rest) = remains rest
+remains (Some t ∷ []) = is_some t.cell.hold
+remains (Some t ∷ u ∷ rest) = true
+
+-- is the handler entered in the row? An interrupt is to be taken, and no token remains above EX
+abbrev pub enters : Shape → Bool → Slots → Bool
+enters k interrupted slots = interrupted && not (remains (drop (suc k.ex) slots))
+
+-- the turn of a row: the entry of the handler, or else that of a token
+abbrev pub turn_with : Shape → Bool → ℕ → Slots → Option Turn
+turn_with k interrupted fetch slots = if enters k interrupted slots then Some (record { stage = suc k.ex; address = k.trap }) else turn_of k fetch slots
+
 -- how many stages are flushed, from stage 0 on
 abbrev pub struck : Option Turn → ℕ
 struck None = 0
@@ -85,13 +100,6 @@ abbrev pub slot_stop : Shape → ℕ → Slots → Option Stop
 slot_stop k stage [] = None
 slot_stop k stage (None ∷ older) = slot_stop k (suc stage) older
 slot_stop k stage (Some t ∷ older) = if stops_now k stage t older then stop_of t else slot_stop k (suc stage) older
-
--- does a token remain after the row?
-abbrev pub remains : Slots → Bool
-remains [] = false
-remains (None ∷ rest) = remains rest
-remains (Some t ∷ []) = is_some t.cell.hold
-remains (Some t ∷ u ∷ rest) = true
 
 -- the plain fetch address of the next row
 abbrev pub fetch_after : ℕ → Slots → ℕ

@@ -5,7 +5,7 @@ use Rattle.ix_plan.specs.declared.design.Target.TheVariants.{X}
 use Rattle.ix_plan.specs.declared.design.Target.TheVariants as target
 use Rattle.rv_core.specs.declared.Shape.{Shape}
 use Rattle.rv_trace.specs.declared.row.Hold.{Hold}
-use Rattle.rv_trace.specs.declared.row.Hold.TheVariants.{Operand, Board, Custom, Late, Drain, Wait, StoreAhead, Tail, Behind}
+use Rattle.rv_trace.specs.declared.row.Hold.TheVariants.{Operand, Board, Custom, Late, Trap, Drain, Wait, StoreAhead, Tail, Behind}
 use Rattle.rv_asks.specs.declared.asks.Asks.{Asks}
 use Rattle.rv_lawful.specs.Outstanding.{has_target, touches}
 use Rattle.rv_holds.specs.declared.token.Token.{Token}
@@ -123,6 +123,10 @@ waiting_hold k stage t older =
     or_else (if stage == k.rd then reading_hold k stage t older else None)
     (if stage == k.ex then or_else (custom_hold older t.asks) (late_hold older) else None)
 
+-- an interrupt is to be taken
+abbrev pub trap_hold : Token → Option Hold
+trap_hold t = if t.beside.trap then Some Trap else None
+
 abbrev pub drain : Option ℕ → Option Hold
 drain None = None
 drain (Some j) = Some (Drain j)
@@ -148,6 +152,10 @@ left_behind t older = or_else t.beside.left (or_else (entering older) (staying o
 abbrev pub drain_hold : Token → Slots → Option Hold
 drain_hold t older = if is_some (stop_of t) then drain (left_behind t older) else None
 
+-- a token at EX waits for the entry of the handler first, and then, if it is due to stop, for the older ones
+abbrev pub leaving_hold : Token → Slots → Option Hold
+leaving_hold t older = or_else (trap_hold t) (drain_hold t older)
+
 abbrev pub store_ahead : Option ℕ → Option Hold
 store_ahead None = None
 store_ahead (Some j) = Some (StoreAhead j)
@@ -172,7 +180,7 @@ ending_hold t = or_else (tail_hold t) t.beside.port
 abbrev pub own_hold : Shape → ℕ → Token → Slots → Option Hold
 own_hold k stage t older =
     or_else (waiting_hold k stage t older)
-    (or_else (if stage == k.ex then drain_hold t older else None)
+    (or_else (if stage == k.ex then leaving_hold t older else None)
     (or_else (if stage == k.mem then or_else (memory_hold t) (store_hold older t.asks) else None)
     (if suc stage == k.stages then ending_hold t else None)))
 

@@ -1,6 +1,6 @@
 ghost use Rattle.std.specs.Prelude.{◌≡◌, ◌+◌, ◌<◌, ◌==◌, length, suc, is_some, option_map, IfSome};
 ghost use Rattle.rv_holds.specs.Tokens.{or_else};
-ghost use Rattle.rv_holds.specs.Holds.{oldest, withholds as specified_withholds, withholder, writes_late, does_store, is_late, waits_for, operand_hold, waits_for_custom, custom_hold, late_hold, waiting_hold as specified_waiting_hold, staying, entering, left_behind, drain_hold, reading_hold, ending_hold, store_hold, memory_hold, tail_hold, own_hold, stops_now, is_blocked as specified_is_blocked, shown, held as specified_held, decided};
+ghost use Rattle.rv_holds.specs.Holds.{oldest, withholds as specified_withholds, withholder, writes_late, does_store, is_late, waits_for, operand_hold, waits_for_custom, custom_hold, late_hold, waiting_hold as specified_waiting_hold, staying, entering, left_behind, trap_hold, drain_hold, leaving_hold, reading_hold, ending_hold, store_hold, memory_hold, tail_hold, own_hold, stops_now, is_blocked as specified_is_blocked, shown, held as specified_held, decided};
 
 use crate::board::board_of;
 use crate::forwarding::is_below;
@@ -240,6 +240,27 @@ fn drain(token: &Token, older: &[Option<Token>]) -> Option<Hold>
     }
 }
 
+/// The hold of a token while an interrupt is to be taken.
+fn trap(token: &Token) -> Option<Hold>
+    ensures { result ≡ trap_hold token.now }
+{
+    if token.beside.trap {
+        Some(Hold::Trap)
+    } else {
+        None
+    }
+}
+
+/// The hold of a token at EX that waits for no older one's write.
+fn leaving(token: &Token, older: &[Option<Token>]) -> Option<Hold>
+    ensures { result ≡ leaving_hold token.now older.now }
+{
+    match trap(token) {
+        None => drain(token, older),
+        hold => hold,
+    }
+}
+
 /// The hold of a load that waits for an older store.
 fn store(older: &[Option<Token>], asks: &Asks) -> Option<Hold>
     ensures { result ≡ store_hold older.now asks.now }
@@ -310,7 +331,7 @@ fn first_hold(shape: Shape, stage: usize, token: &Token, older: &[Option<Token>]
         return hold;
     }
     if stage == usize::from(shape.ex) {
-        let hold = drain(token, older);
+        let hold = leaving(token, older);
         if hold.is_some() {
             return hold;
         }

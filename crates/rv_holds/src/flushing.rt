@@ -1,6 +1,6 @@
-ghost use Rattle.std.specs.Prelude.{◌≡◌, ◌≤◌, ◌<◌, length, take, drop, replicate, map, None, IfSome};
+ghost use Rattle.std.specs.Prelude.{Bool, ◌≡◌, ◌+◌, ◌≤◌, ◌<◌, length, take, drop, replicate, map, None, IfSome};
 ghost use Rattle.rv_holds.specs.Tokens.{cell_of, cells_of};
-ghost use Rattle.rv_holds.specs.Flushing.{next_of as specified_next_of, settles_at as specified_settles_at, settles as specified_settles, settled, nearest, turn_of, redirect_of as specified_redirect_of, struck as specified_struck, freed as specified_freed, unheld, cleared, serial_in as specified_serial_in, flushed_of, slot_stop, remains as specified_remains, fetch_after};
+ghost use Rattle.rv_holds.specs.Flushing.{next_of as specified_next_of, settles_at as specified_settles_at, settles as specified_settles, settled, nearest, turn_of, enters as specified_enters, turn_with, redirect_of as specified_redirect_of, struck as specified_struck, freed as specified_freed, unheld, cleared, serial_in as specified_serial_in, flushed_of, slot_stop, remains as specified_remains, fetch_after};
 
 use crate::deciding::{does_stop, hold, is_last};
 use crate::token::{Token, stop_of};
@@ -8,10 +8,10 @@ use rv_core::Shape;
 use rv_seq::{StepAnswer, Stop};
 use rv_trace::Cell;
 
-/// Where a token settles its successor, and the address of that one.
+/// Where the fetch is turned: a token settles its successor in this stage, or the handler is entered from the stages below it.
 #[derive(Clone, Copy, Debug, PartialEq, Eq)]
 pub struct Turn {
-    /// The stage of the token, which is also the count of the younger ones.
+    /// The count of the stages that are flushed.
     pub stage: usize,
     pub address: u32,
 }
@@ -114,7 +114,7 @@ fn nearest_address(fetch: u32, younger: &[Option<Token>]) -> u32
 }
 
 /// The token that turns the fetch: the one that settles another address than the one that stands next.
-pub fn turn_in(shape: Shape, fetch: u32, slots: &[Option<Token>]) -> Option<Turn>
+fn settled_turn(shape: Shape, fetch: u32, slots: &[Option<Token>]) -> Option<Turn>
     ensures turn { result ≡ turn_of shape fetch slots.now }
     ensures inside { IfSome result (λ turn. turn.stage < length slots.now) }
 {
@@ -128,6 +128,40 @@ pub fn turn_in(shape: Shape, fetch: u32, slots: &[Option<Token>]) -> Option<Turn
             }
         }
     }
+}
+
+/// Whether a token is left after the row.
+pub fn remains(slots: &[Option<Token>]) -> bool
+    ensures { result ≡ specified_remains slots.now }
+{
+    match slots {
+        [] => false,
+        [None, rest @ ..] => remains(rest),
+        [Some(token), rest @ ..] => !rest.is_empty() || token.cell.hold.is_some(),
+    }
+}
+
+/// Whether the handler is entered in the row: an interrupt is to be taken, and no token is left above EX.
+pub fn enters(shape: Shape, interrupted: bool, slots: &[Option<Token>]) -> bool
+    requires { shape.ex + 1 < length slots.now }
+    ensures { result ≡ specified_enters shape interrupted slots.now }
+{
+    interrupted && !remains(&slots[usize::from(shape.ex) + 1..])
+}
+
+/// Where the fetch is turned in the row: to the handler where that is entered, or else by a token.
+pub fn turn_in(shape: Shape, entered: bool, fetch: u32, slots: &[Option<Token>]) -> Option<Turn>
+    requires { shape.ex + 1 < length slots.now }
+    ensures turn { (interrupted : Bool) → entered ≡ specified_enters shape interrupted slots.now → result ≡ turn_with shape interrupted fetch slots.now }
+    ensures inside { IfSome result (λ turn. turn.stage < length slots.now) }
+{
+    if entered {
+        return Some(Turn {
+            stage: usize::from(shape.ex) + 1,
+            address: shape.trap,
+        });
+    }
+    settled_turn(shape, fetch, slots)
 }
 
 fn redirect_of(turn: Option<Turn>) -> Option<u32>
@@ -224,17 +258,6 @@ pub fn stop_in(shape: Shape, slots: &[Option<Token>]) -> Option<Stop>
         }
     }
     None
-}
-
-/// Whether a token is left after the row.
-pub fn remains(slots: &[Option<Token>]) -> bool
-    ensures { result ≡ specified_remains slots.now }
-{
-    match slots {
-        [] => false,
-        [None, rest @ ..] => remains(rest),
-        [Some(token), rest @ ..] => !rest.is_empty() || token.cell.hold.is_some(),
-    }
 }
 
 /// The plain fetch address of the next row.

@@ -9,6 +9,8 @@ mod token;
 
 pub use board::{does_spawn, does_touch};
 pub use deciding::{decide, does_stop, is_last, waiting_hold};
-pub use flushing::{Flushed, Turn, fetch_following, flush, remains, stop_in, struck, turn_in};
+pub use flushing::{
+    Flushed, Turn, enters, fetch_following, flush, remains, stop_in, struck, turn_in,
+};
 pub use forwarding::operand_of;
 pub use token::{Beside, Token, access_of, commit_of, stop_of};

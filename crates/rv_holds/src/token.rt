@@ -8,7 +8,7 @@ use rv_seq::{Commit, StepAnswer, Stop};
 use rv_trace::{Cell, Hold};
 use rv_tried::Trial;
 
-/// What a token meets in a row of what is outstanding beside the stages.
+/// What a token meets in a row beside the stages: of what is outstanding, and of the interrupt line.
 #[derive(Clone, Copy, Debug, PartialEq, Eq)]
 pub struct Beside {
     /// At RD, the least outstanding register that its instruction reads or writes, by number, 0 to 47, with the oldest serial that owes it.
@@ -17,6 +17,8 @@ pub struct Beside {
     pub port: Option<Hold>,
     /// The oldest serial that is outstanding before the row and not written in it.
     pub left: Option<u32>,
+    /// Whether an interrupt is to be taken in the row.
+    pub trap: bool,
 }
 
 /// A cell with what its word is and what the laws of rows ask of it.

@@ -18,6 +18,7 @@ use Rattle.rv_trace.specs.RowParts.{Name, name_of, names_of, stays, leaves, fron
 use Rattle.rv_core.specs.Guesses.{guess_of}
 use Rattle.rv_lawful.specs.Future.{future_file}
 use Rattle.rv_lawful.specs.Settings.{Setting, accesses_before, stages_of, Stands, stood, tailed}
+use Rattle.rv_lawful.specs.Entering.{places, is_interrupted, IsGone, TakesRightly}
 use Rattle.rv_lawful.specs.Outstanding.{has_target, touches, serial_written, units_after, is_written, outstanding}
 
 -- Moves and fetch
@@ -115,6 +116,11 @@ pub record IsUnwritten (k : Setting) (rows : List Row) (j : ℕ) : Type 0 where
   pub decoupled : (word : ℕ) × IsWordOf k rows j word × (is_some (k.asks word).unit ≡ true)
   pub unwritten : is_written rows j ≡ false
 
+-- Trap: at EX, in this row an interrupt is to be taken
+pub record WaitsForEntry (k : Setting) (earlier : List Row) (stage : ℕ) : Type 0 where
+  pub executing : stage ≡ k.shape.ex
+  pub interrupted : is_interrupted k earlier ≡ true
+
 -- Drain: at EX the cell is due to stop, and an older cell is not retired by the end of this row, or its spawn writes are not written by then
 pub record WaitsToDrain (k : Setting) (earlier : List Row) (row : Row) (stage : ℕ) (c : Cell) (j : ℕ) : Type 0 where
   pub executing : stage ≡ k.shape.ex
@@ -155,14 +161,14 @@ pub record WaitsForPort (k : Setting) (earlier : List Row) (row : Row) (stage : 
   pub taken : serial_written row.written ≡ Some j
   pub spawns : (word : ℕ) × IsWordOf k (row ∷ earlier) j word × (is_some (k.asks word).spawned ≡ true)
 
--- a hold of the cell's own is true of it; without an interrupt line no interrupt is to be taken
+-- a hold of the cell's own is true of it
 abbrev pub OwnHold : Setting → List Row → Row → ℕ → Cell → Hold → Type 0
 OwnHold k earlier row stage c (Operand r j) = WaitsForOperand k earlier row stage c r j
 OwnHold k earlier row stage c (Drain j) = WaitsToDrain k earlier row stage c j
 OwnHold k earlier row stage c (Board t j) = WaitsForWrite k earlier row stage c t j
 OwnHold k earlier row stage c (Custom r j) = WaitsForCustom k earlier row stage c r j
 OwnHold k earlier row stage c (Late j) = WaitsForJump k earlier row stage c j
-OwnHold k earlier row stage c Trap = ⊥
+OwnHold k earlier row stage c Trap = WaitsForEntry k earlier stage
 OwnHold k earlier row stage c (Wait left) = WaitsForMemory k earlier row stage c left
 OwnHold k earlier row stage c (StoreAhead j) = WaitsForStore k earlier row stage c j
 OwnHold k earlier row stage c (Tail left) = WaitsForModule k earlier row stage c left
@@ -226,18 +232,26 @@ pub record IsMismatch (k : Setting) (earlier : List Row) (row : Row) (stage : �
   pub settles : Settles k earlier row stage c
   pub differs : (below : ℕ) × (d : Cell) × IsNextYounger k row stage below d × (d.at ≢ successor k (row ∷ earlier) c)
 
+-- the cell of this serial is younger than one that settles in a mismatch
+abbrev pub IsFlushedByMismatch : Setting → List Row → Row → ℕ → Type 0
+IsFlushedByMismatch k earlier row s =
+    (stage : ℕ) × (c : Cell) × (below : ℕ) × (d : Cell) × IsMismatch k earlier row stage c × (below < stage) × Stands k row below d × (d.serial ≡ s)
+
+-- the row takes an interrupt, and the cell of this serial stands at EX or below
+abbrev pub IsFlushedByEntry : Setting → Row → ℕ → Type 0
+IsFlushedByEntry k row s = (is_some row.taken ≡ true) × (stage : ℕ) × (c : Cell) × (stage ≤ k.shape.ex) × Stands k row stage c × (c.serial ≡ s)
+
 pub record Successors (k : Setting) (earlier : List Row) (row : Row) : Type 0 where
-  -- a mismatch flushes all younger cells and names the successor
+  -- a mismatch flushes all younger cells and names the successor, where the row takes no interrupt
   pub flushes : (stage : ℕ) (c : Cell) → IsMismatch k earlier row stage c → (below : ℕ) (d : Cell) → below < stage → Stands k row below d → has_serial row.flushed d.serial ≡ true
-  pub named : (stage : ℕ) (c : Cell) → IsMismatch k earlier row stage c → row.redirect ≡ Some (successor k (row ∷ earlier) c)
-  -- with no younger cell the successor is named where the plain fetch address is another
-  pub alone : (stage : ℕ) (c : Cell) → Stands k row stage c → Settles k earlier row stage c → HasNoYounger k row stage
+  pub named : row.taken ≡ None → (stage : ℕ) (c : Cell) → IsMismatch k earlier row stage c → row.redirect ≡ Some (successor k (row ∷ earlier) c)
+  -- with no younger cell the successor is named where the plain fetch address is another, and no interrupt is taken
+  pub alone : row.taken ≡ None → (stage : ℕ) (c : Cell) → Stands k row stage c → Settles k earlier row stage c → HasNoYounger k row stage
       → row.redirect ≡ (if successor k (row ∷ earlier) c == plain_fetch k earlier (fetch_address k earlier) row then None else Some (successor k (row ∷ earlier) c))
-  -- no other cell is flushed
-  pub flushed_only : (s : ℕ) → has_serial row.flushed s ≡ true
-      → (stage : ℕ) × (c : Cell) × (below : ℕ) × (d : Cell) × IsMismatch k earlier row stage c × (below < stage) × Stands k row below d × (d.serial ≡ s)
+  -- no other cell is flushed, but by an interrupt
+  pub flushed_only : (s : ℕ) → has_serial row.flushed s ≡ true → IsFlushedByMismatch k earlier row s ⊎ IsFlushedByEntry k row s
   -- and no other address is named
-  pub named_only : (a : ℕ) → row.redirect ≡ Some a
+  pub named_only : (a : ℕ) → row.taken ≡ None → row.redirect ≡ Some a
       → (stage : ℕ) × (c : Cell) × Stands k row stage c × Settles k earlier row stage c × (successor k (row ∷ earlier) c ≡ a)
       × (IsMismatch k earlier row stage c ⊎ HasNoYounger k row stage)
 
@@ -246,7 +260,7 @@ pub record Successors (k : Setting) (earlier : List Row) (row : Row) : Type 0 wh
 -- after the row no stage has a cell
 abbrev pub IsEmptyAfter : Setting → Row → Type 0
 IsEmptyAfter k row =
-    (stage : ℕ) (c : Cell) → Stands k row stage c → (has_serial row.flushed c.serial ≡ true) ⊎ ((suc stage ≡ k.shape.stages) × (c.hold ≡ None))
+    (stage : ℕ) (c : Cell) → Stands k row stage c → IsGone k row stage c
 
 -- a row has a stop exactly where a cell stops the run, or where nothing is left, nothing is outstanding and the fetch address has no word
 pub record StopsRightly (k : Setting) (earlier : List Row) (row : Row) : Type 0 where
@@ -274,7 +288,7 @@ pub record IsInForm (k : Setting) (row : Row) : Type 0 where
   pub behind : AreEmpty (drop k.shape.stages row.cells)
   pub ascending : AscendFrom None row.flushed
 
--- the row is lawful after the earlier ones; without an interrupt line no interrupt is taken
+-- the row is lawful after the earlier ones
 pub record LawfulRow (k : Setting) (earlier : List Row) (row : Row) : Type 0 where
   pub form : IsInForm k row
   pub moves : Moves k earlier row
@@ -282,10 +296,14 @@ pub record LawfulRow (k : Setting) (earlier : List Row) (row : Row) : Type 0 whe
   pub holds : (stage : ℕ) (c : Cell) → Stands k row stage c → ShowsHold k earlier row stage c
   pub successors : Successors k earlier row
   pub units : WritesUnit k earlier row
-  pub untaken : row.taken ≡ None
+  pub takes : TakesRightly k earlier row
   pub stops : StopsRightly k earlier row
 
--- each row is lawful after the rows before it, and none follows a stop
-abbrev pub Lawful : Setting → List Row → Type 0
-Lawful k [] = Unit {0}
-Lawful k (row ∷ earlier) = LawfulRow k earlier row × ((newest earlier).stop ≡ None) × Lawful k earlier
+-- what a trace is judged against, where the run goes to the handler at these places
+abbrev pub Judging : Type 0
+Judging = List ℕ → Setting
+
+-- each row is lawful after the rows before it, where the run goes to the handler at the places that these name, and none follows a stop
+abbrev pub Lawful : Judging → List Row → Type 0
+Lawful by [] = Unit {0}
+Lawful by (row ∷ earlier) = LawfulRow (by (places earlier)) earlier row × ((newest earlier).stop ≡ None) × Lawful by earlier

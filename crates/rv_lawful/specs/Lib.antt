@@ -1,7 +1,9 @@
 pub mod Settings
+pub mod Entering
 pub mod Outstanding
 pub mod Future
 pub mod Forwarding
 pub mod LawfulTrace
+pub mod Answering
 pub mod Headline
 pub mod Sight

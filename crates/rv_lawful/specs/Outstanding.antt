@@ -14,8 +14,8 @@ use Rattle.rv_seq.specs.declared.answer.StepAnswer.TheVariants.{Done, Stopped}
 use Rattle.rv_seq.specs.declared.commit.Commit.{Commit}
 use Rattle.rv_seq.specs.declared.commit.Slot.{Slot}
 use Rattle.rv_seq.specs.Commits.{applied}
-use Rattle.rv_seq.specs.Interrupts.{is_return, resumed}
-use Rattle.rv_seq.specs.States.{first}
+use Rattle.rv_seq.specs.Interrupts.{is_return, resumed, diverted}
+use Rattle.rv_seq.specs.Runs.{start}
 use Rattle.rv_tried.specs.declared.parts.Spawned.{Spawned}
 use Rattle.rv_tried.specs.Parts.{native, spawned, paid}
 use Rattle.rv_trace.specs.declared.row.Row.{Row}
@@ -135,10 +135,17 @@ abbrev pub after_written : Option Written → Arch → Arch
 after_written None s = s
 after_written (Some w) s = paid (writes_of w) s
 
--- the architectural state after these rows: that of the writes which the rows show, and of what the blocks write to the spawn targets of what is retired
+-- the state behind the entry of the handler, if the row takes an interrupt
+abbrev pub after_entry : ℕ → Option ℕ → Arch → Arch
+after_entry handler None s = s
+after_entry handler (Some at) s = diverted handler s
+
+-- the architectural state after these rows: that of the writes which the rows show, of what the blocks write to the spawn targets of what is retired, and of the interrupts that are
+-- taken
 unfoldable pub architecture : ExtensionTree → Setting → List Row → Arch
-architecture x k [] = first x
-architecture x k (row ∷ earlier) = after_written row.written (after_retired x k (retirements earlier) row.retired (architecture x k earlier))
+architecture x k [] = start x k.entries
+architecture x k (row ∷ earlier) =
+    after_entry k.shape.trap row.taken (after_written row.written (after_retired x k (retirements earlier) row.retired (architecture x k earlier)))
 
 -- the state behind the writes of the `spawn` body of the step at a place; a stop writes nothing
 abbrev pub after_spawned : Setting → ℕ → StepAnswer → Arch → Arch

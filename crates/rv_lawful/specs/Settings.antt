@@ -10,10 +10,10 @@ use Rattle.rv_effect.specs.Decoding.{decoded_in}
 use Rattle.rv_seq.specs.declared.arch.Arch.{Arch}
 use Rattle.rv_seq.specs.declared.answer.StepAnswer.{StepAnswer}
 use Rattle.rv_seq.specs.States.{first, state_at}
-use Rattle.rv_seq.specs.Interrupts.{return_to}
-use Rattle.rv_seq.specs.Steps.{word_at, own_effect}
+use Rattle.rv_seq.specs.Interrupts.{return_to, is_enabled}
+use Rattle.rv_seq.specs.Steps.{word_at, own_effect, step}
 use Rattle.rv_seq.specs.Stops.{stop_of}
-use Rattle.rv_seq.specs.Runs.{run, answer_at, access_in}
+use Rattle.rv_seq.specs.Runs.{Entries, run_with, access_in}
 use Rattle.rv_asks.specs.declared.asks.Asks.{Asks}
 use Rattle.rv_asks.specs.Asks.{asks_in}
 use Rattle.rv_tried.specs.declared.trial.Trial.{Trial}
@@ -24,11 +24,12 @@ use Rattle.rv_trace.specs.declared.row.Hold.{Hold}
 use Rattle.rv_trace.specs.declared.row.Hold.TheVariants.{Tail}
 use Rattle.rv_trace.specs.Trace.{has_cell}
 
--- a run as a trace is judged against it: what the step at each place does, the pc there, whether the step accesses the memory, what the always-blocks alone write to the
--- custom registers in it, and which of these the instruction itself writes
+-- a run as a trace is judged against it: what the step at each place does, the pc there, whether interrupts are taken there, whether the step accesses the memory, what the
+-- always-blocks alone write to the custom registers in it, and which of these the instruction itself writes
 pub record Course : Type 0 where
   pub answer : ℕ → StepAnswer
   pub pc : ℕ → ℕ
+  pub enabled : ℕ → Bool
   pub accesses : ℕ → Bool
   pub blocks : ℕ → List (Option Bits)
   pub own : ℕ → List Bool
@@ -48,19 +49,20 @@ abbrev pub state_trial : ExtensionTree → Arch → Option ℕ → Trial
 state_trial x s None = no_trial
 state_trial x s (Some word) = tried x (state_at word s) s.mem (return_to word s.trap) (decoded_in x word)
 
--- what the word at this place of the run comes to
-abbrev pub run_trial : ExtensionTree → List ℕ → ℕ → Trial
-run_trial x image p = state_trial x (run x image p) (word_at image (run x image p).pc)
+-- what the word at this place comes to, in the run that goes to the handler at these places
+abbrev pub run_trial : ExtensionTree → List ℕ → Option Entries → ℕ → Trial
+run_trial x image e p = state_trial x (run_with x image e p) (word_at image (run_with x image e p).pc)
 
--- the run of an image on a core with the extension
-abbrev pub course_of : ExtensionTree → List ℕ → Course
-course_of x image =
+-- that run of an image on a core with the extension
+abbrev pub course_of : ExtensionTree → List ℕ → Option Entries → Course
+course_of x image e =
     record {
-      answer = answer_at x image;
-      pc = λ p. (run x image p).pc;
-      accesses = λ p. word_accesses x (run x image p) (word_at image (run x image p).pc);
-      blocks = λ p. (run_trial x image p).blocks;
-      own = λ p. (run_trial x image p).own;
+      answer = λ p. step x image (run_with x image e p);
+      pc = λ p. (run_with x image e p).pc;
+      enabled = λ p. is_enabled (run_with x image e p).trap;
+      accesses = λ p. word_accesses x (run_with x image e p) (word_at image (run_with x image e p).pc);
+      blocks = λ p. (run_trial x image e p).blocks;
+      own = λ p. (run_trial x image e p).own;
     }
 
 -- where the always-blocks jump to from this address, with this word there, these custom registers and this memory, if they jump
@@ -71,11 +73,14 @@ jump_with x file memory at word = (blocks_seen x (record { word = word; rs1 = 0;
 abbrev pub jump_of : ExtensionTree → List Bits → ℕ → ℕ → Option ℕ
 jump_of x file at word = jump_with x file [] at word
 
--- what a trace is judged against: the image, the waits of the memory, the shape of the core, the run, what is asked of the instruction of a word, the units and the custom
--- registers before the first row, and where the always-blocks jump to, with these custom registers, from an address with a word
+-- what a trace is judged against: the image, the waits of the memory, the rows in which the interrupt line is raised, where there is one, where the run goes to the handler,
+-- the shape of the core, the run, what is asked of the instruction of a word, the units and the custom registers before the first row, and where the always-blocks jump to, with
+-- these custom registers, from an address with a word
 pub record Setting : Type 0 where
   pub image : List ℕ
   pub waits : List ℕ
+  pub lines : Option (List ℕ)
+  pub entries : Option Entries
   pub shape : Shape
   pub course : Course
   pub asks : ℕ → Asks
@@ -83,14 +88,22 @@ pub record Setting : Type 0 where
   pub initial : List Bits
   pub jump : List Bits → ℕ → ℕ → Option ℕ
 
--- an image on the core of a design whose memory has these waits
-abbrev pub setting : Design → List ℕ → List ℕ → Setting
-setting d image waits =
+-- a run goes to the handler at these places, on a core with an interrupt line
+abbrev pub entries_at : ℕ → Option (List ℕ) → List ℕ → Option Entries
+entries_at handler None places = None
+entries_at handler (Some lines) places = Some (record { handler = handler; places = places })
+
+-- an image on the core of a design whose memory has these waits, where the interrupt line, if there is one, is raised in these rows, and the run goes to the handler at these
+-- places
+abbrev pub setting : Design → List ℕ → List ℕ → Option (List ℕ) → List ℕ → Setting
+setting d image waits lines places =
     record {
       image = image;
       waits = waits;
+      lines = lines;
+      entries = entries_at d.sheet.shape.trap lines places;
       shape = d.sheet.shape;
-      course = course_of (view_extension d.extension) image;
+      course = course_of (view_extension d.extension) image (entries_at d.sheet.shape.trap lines places);
       asks = λ word. asks_in d word (decoded_in (view_extension d.extension) word);
       units = first_units d.sheet.shape.stages d.plans;
       initial = (first (view_extension d.extension)).custom;

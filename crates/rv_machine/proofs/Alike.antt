@@ -141,10 +141,10 @@ guess_alike d future memory [] = tt
 guess_alike d future memory (None ∷ older) = (tt, alike_same older)
 guess_alike d future memory (Some t ∷ older) = (record { serial = refl; at = refl; word = refl; asks = refl; tail = refl }, alike_same older)
 
-pub reading_alike : (k : Shape) (x : List ℕ) (owed : ℕ) (o : Outstanding) (stage : ℕ) (slots : Slots) → Alike slots (reading k x owed o stage slots)
-reading_alike k x owed o stage [] = tt
-reading_alike k x owed o stage (None ∷ older) = (tt, reading_alike k x owed o (suc stage) older)
-reading_alike k x owed o stage (Some t ∷ older) = (record { serial = refl; at = refl; word = refl; asks = refl; tail = refl }, reading_alike k x owed o (suc stage) older)
+pub reading_alike : (k : Shape) (x : List ℕ) (owed : ℕ) (now : Bool) (o : Outstanding) (stage : ℕ) (slots : Slots) → Alike slots (reading k x owed now o stage slots)
+reading_alike k x owed now o stage [] = tt
+reading_alike k x owed now o stage (None ∷ older) = (tt, reading_alike k x owed now o (suc stage) older)
+reading_alike k x owed now o stage (Some t ∷ older) = (record { serial = refl; at = refl; word = refl; asks = refl; tail = refl }, reading_alike k x owed now o (suc stage) older)
 
 trial_alike : (x : ExtensionTree) (memory : List ℕ) (i : State) (t : Token) (b : Bool) → AlikeSlot (Some t) (if b then Some (tried_with x memory i t) else Some t)
 trial_alike x memory i t true = record { serial = refl; at = refl; word = refl; asks = refl; tail = refl }
@@ -167,10 +167,10 @@ decided_alike k stage (Some t ∷ older) = (record { serial = refl; at = refl; w
 
 -- ---- the passes leave the guesses
 
-pub reading_guesses : (k : Shape) (x : List ℕ) (owed : ℕ) (o : Outstanding) (stage : ℕ) (slots : Slots) → guesses (reading k x owed o stage slots) ≡ guesses slots
-reading_guesses k x owed o stage [] = refl
-reading_guesses k x owed o stage (None ∷ older) = ap (λ l. 0 ∷ l) (reading_guesses k x owed o (suc stage) older)
-reading_guesses k x owed o stage (Some t ∷ older) = ap (λ l. t.guess ∷ l) (reading_guesses k x owed o (suc stage) older)
+pub reading_guesses : (k : Shape) (x : List ℕ) (owed : ℕ) (now : Bool) (o : Outstanding) (stage : ℕ) (slots : Slots) → guesses (reading k x owed now o stage slots) ≡ guesses slots
+reading_guesses k x owed now o stage [] = refl
+reading_guesses k x owed now o stage (None ∷ older) = ap (λ l. 0 ∷ l) (reading_guesses k x owed now o (suc stage) older)
+reading_guesses k x owed now o stage (Some t ∷ older) = ap (λ l. t.guess ∷ l) (reading_guesses k x owed now o (suc stage) older)
 
 pub trying_guesses : (x : ExtensionTree) (k : Shape) (future : List Bits) (memory : List ℕ) (stage : ℕ) (slots : Slots) → guesses (trying x k future memory stage slots) ≡ guesses slots
 trying_guesses x k future memory stage [] = refl

@@ -15,7 +15,7 @@ use Rattle.rv_holds.specs.Tokens.{Slots}
 use Rattle.rv_holds.specs.Holds.{oldest, register_at, spawns_at}
 use Rattle.rv_engine.specs.declared.owing.Owed.{Owed}
 use Rattle.rv_engine.specs.Owing.{holder, unpaid_among, owed_by_entering, Outstanding}
-use Rattle.rv_engine.specs.Settings.{Setting, Machine, shape_of, outstanding_in}
+use Rattle.rv_engine.specs.Settings.{Setting, Machine, shape_of, outstanding_in, interrupted_by}
 use Rattle.rv_engine.specs.Rows.{waited, going, kept, advanced, leaving, fill_first, new_by, loaded_by, seen_by, turn_by, left_by, into_unit, owed_in, owed_tried, entering_of, machine_after, IsRowOf}
 use Rattle.rv_holds.specs.Flushing.{struck}
 use Rattle.rv_lawful.specs.Outstanding.{has_target, touches}
@@ -81,7 +81,7 @@ silent_leaving g come (s ∷ older) c h = let x = silent_parts g s older h in si
 
 -- ---- after the moves
 
-module _ (k : Setting) (o : Outstanding) (rest : List Owed) (unpaid_none : (n : ℕ) → holder n o.owed ≡ None → holder n rest ≡ None) where
+module _ (k : Setting) (now : Bool) (o : Outstanding) (rest : List Owed) (unpaid_none : (n : ℕ) → holder n o.owed ≡ None → holder n rest ≡ None) where
   -- what comes to a stage is apart from these
   abbrev pub Comes : ℕ → Option Token → Slots → Type 0
   Comes stage come seen = IfSome come (λ c. (shape_of k).rd < stage → IsApart o.owed seen c)
@@ -93,7 +93,7 @@ module _ (k : Setting) (o : Outstanding) (rest : List Owed) (unpaid_none : (n : 
     entries = λ n few touched. after_out n out rest (silent n (h.tokens n few touched)) (unpaid_none n (h.entries n few touched));
   }
 
-  pub goes_apart : (stage : ℕ) (t : Token) (older : Slots) → Decided k stage (Some t ∷ older) → NoStops k stage (Some t ∷ older) → MeetsSlot (shape_of k) o stage (Some t) → Apart k o.owed stage (Some t ∷ older) → Comes (suc stage) (going (Some t)) older
+  pub goes_apart : (stage : ℕ) (t : Token) (older : Slots) → Decided k stage (Some t ∷ older) → NoStops k stage (Some t ∷ older) → MeetsSlot (shape_of k) now o stage (Some t) → Apart k o.owed stage (Some t ∷ older) → Comes (suc stage) (going (Some t)) older
   goes_apart stage t older d n meets h = by_hold (is_some t.cell.hold) refl where
     by_hold : (b : Bool) → is_some t.cell.hold ≡ b → Comes (suc stage) (if b then None else Some t) older
     by_hold true e = tt
@@ -104,7 +104,7 @@ module _ (k : Setting) (o : Outstanding) (rest : List Owed) (unpaid_none : (n : 
           leaves_reading k o.owed stage t older at (ap (λ b. b.board) meets) (own_none (shape_of k) stage t older t.cell.hold d.0 e n.0)
     ]
 
-  next_apart : (stage : ℕ) (come : Option Token) (seen : Slots) → Decided k stage seen → NoStops k stage seen → Meets (shape_of k) o stage seen → Apart k o.owed stage seen → Comes stage come seen →
+  next_apart : (stage : ℕ) (come : Option Token) (seen : Slots) → Decided k stage seen → NoStops k stage seen → Meets (shape_of k) now o stage seen → Apart k o.owed stage seen → Comes stage come seen →
       (out : Option Token) → out ≡ leaving come seen → Apart k (owed_by_entering (entering_of out) ++ rest) stage (advanced come seen)
   next_apart stage come [] d n meets h c out is = tt
   next_apart stage come (None ∷ older) d n meets h c out is = put come c (next_apart (suc stage) None older d n meets.1 h tt out is) where
@@ -165,7 +165,7 @@ module _ (k : Setting) (ready : IsReady k) (earlier : List Row) (m : Machine) (r
 
   pub apart_next : NoStops k 0 (seen_by k m) → Apart k (machine_after k m).owed 0 (machine_after k m).slots
   apart_next none =
-      next_apart k (outstanding_in k m) (unpaid_among (lasts_of k.design.plans) m.entries m.entries m.owed) (λ n h. unpaid_holder n (lasts_of k.design.plans) m.entries m.entries m.owed h) 0 None (seen_by k m)
+      next_apart k (interrupted_by k m) (outstanding_in k m) (unpaid_among (lasts_of k.design.plans) m.entries m.entries m.owed) (λ n h. unpaid_holder n (lasts_of k.design.plans) m.entries m.entries m.owed h) 0 None (seen_by k m)
       (B.seen_decided k ready earlier m inv) none (seen_meets k m (B.struck_inside k ready earlier m inv))
       seen_apart
       tt (left_by k m) refl

@@ -1,4 +1,5 @@
 -- The slots before a row is made: with their operands, trials, holds and loads, and what goes out of them.
+use Rattle.rv_machine.proofs.Turns.{plain_turn, entry_turn}
 use Rattle.std.proofs.Common.{◌≡◌, ℕ, zero, suc, ◌+◌, ◌%◌, ◌^◌, ◌<◌, ◌≤◌, List, [], ◌∷◌, drop, take, length, get_or, Option, Some, None, Bool, true, false, refl, sym, ap, ◌∙◌, subst, arith, add-zero}
 use Rattle.std.specs.Prelude.{if◌then◌else◌, ◌==◌, slice_index, nat_lt}
 use Rattle.rv_seq.specs.declared.arch.Arch.{Arch}
@@ -13,8 +14,8 @@ use Rattle.rv_holds.specs.declared.token.Token.{Token}
 use Rattle.rv_holds.specs.declared.flushing.Turn.{Turn}
 use Rattle.rv_holds.specs.Tokens.{Slots}
 use Rattle.rv_holds.specs.Flushing.{next_of, settles, settled, nearest, mismatch, turn_of, struck, cleared}
-use Rattle.rv_engine.specs.Settings.{Setting, Machine, shape_of, tree_of, outstanding_in}
-use Rattle.rv_engine.specs.Rows.{fill_first, guess_first, filled_by, trying, loading, owed_by, new_by, read_by, held_by, loaded_by, turn_by, seen_by}
+use Rattle.rv_engine.specs.Settings.{Setting, Machine, shape_of, tree_of, outstanding_in, interrupted_by}
+use Rattle.rv_engine.specs.Rows.{fill_first, guess_first, filled_by, trying, loading, owed_by, new_by, read_by, held_by, loaded_by, turn_by, seen_by, entered_by}
 use Rattle.rv_machine.specs.Placed.{run, count, tail, settling_stage, expected_after, expected, owed_write, paid_late, IsFuture, IsPlacedSlot, Placed, IsReady, Inv, paid_file}
 use Rattle.rv_machine.specs.Told.{Decided, NoStops}
 use Rattle.rv_machine.proofs.Deciding.{decided_is}
@@ -43,10 +44,10 @@ use Rattle.rv_machine.proofs.Apart.{alike_apart, filled_apart}
 use Rattle.rv_machine.proofs.PaidFile.{unowed_file}
 
 -- what tokens meet of what is owed
-boards_of : (k : Setting) (o : Outstanding) (stage : ℕ) (slots : Slots) → Meets (shape_of k) o stage slots → Boards k o.owed stage slots
-boards_of k o stage [] h = tt
-boards_of k o stage (None ∷ older) h = (tt, boards_of k o (suc stage) older h.1)
-boards_of k o stage (Some t ∷ older) h = (ap (λ b. b.board) h.0, boards_of k o (suc stage) older h.1)
+boards_of : (k : Setting) (now : Bool) (o : Outstanding) (stage : ℕ) (slots : Slots) → Meets (shape_of k) now o stage slots → Boards k o.owed stage slots
+boards_of k now o stage [] h = tt
+boards_of k now o stage (None ∷ older) h = (tt, boards_of k now o (suc stage) older h.1)
+boards_of k now o stage (Some t ∷ older) h = (ap (λ b. b.board) h.0, boards_of k now o (suc stage) older h.1)
 
 -- ---- slots that are alike
 
@@ -98,7 +99,7 @@ drop_guessed : (d : Design) (future : List Bits) (memory : List ℕ) (n : ℕ) (
 drop_guessed d future memory n [] = refl
 drop_guessed d future memory n (s ∷ l) = refl
 
-alike_back : (a b : Slots) → Alike a b → Alike b a
+pub alike_back : (a b : Slots) → Alike a b → Alike b a
 alike_back [] [] h = tt
 alike_back [] (u ∷ b) h = absurd h
 alike_back (s ∷ a) [] h = absurd h
@@ -248,7 +249,7 @@ module _ (k : Setting) (ready : IsReady k) (earlier : List Row) (m : Machine) (i
   back_is : (n word : ℕ) → return_to word m.arch.trap ≡ return_to word (run k (r + n)).trap
   back_is n word =
       ap (return_to word) (sym (repaid_trap m.owed m.arch) ∙ ap (λ (s : Arch). s.trap) inv.arch)
-      ∙ sym (run_return k r n word)
+      ∙ sym (run_return k r n word inv.past)
 
   pub filled_placed : Placed k r 0 (filled_by k m)
   filled_placed =
@@ -263,18 +264,18 @@ module _ (k : Setting) (ready : IsReady k) (earlier : List Row) (m : Machine) (i
   mem_is = sym (repaid_memory m.owed m.arch) ∙ ap (λ (s : Arch). s.mem) inv.arch
 
   read_placed : Placed k r 0 (read_by k m)
-  read_placed = reading_placed k ready m.arch.x (owed_by k m) (outstanding_in k m) r 0 (filled_by k m) inv.ranged filled_placed
+  read_placed = reading_placed k ready m.arch.x (owed_by k m) (interrupted_by k m) (outstanding_in k m) r 0 (filled_by k m) inv.ranged filled_placed
 
   -- what nothing that is outstanding owes is the run's
   are_unowed : AreUnowed m.arch.x (run k r).x (outstanding_in k m)
   are_unowed a reg lt none is =
-      operand_unowed k earlier (outstanding (judged k) earlier) m.entries m.owed m.arch a reg inv.owing lt none is ∙ ap (λ (s : Arch). slice_index s.x reg) inv.arch
+      operand_unowed k earlier ready.handler (outstanding (judged k) earlier) m.entries m.owed m.arch a reg inv.owing lt none is ∙ ap (λ (s : Arch). slice_index s.x reg) inv.arch
 
   read_read : Read k r 0 (read_by k m)
-  read_read = reading_read k ready m.arch.x (owed_by k m) (outstanding_in k m) r 0 (filled_by k m) filled_placed are_unowed
+  read_read = reading_read k ready m.arch.x (owed_by k m) (interrupted_by k m) (outstanding_in k m) r 0 (filled_by k m) filled_placed are_unowed
 
   read_alike : Alike filled (read_by k m)
-  read_alike = alike_trans filled (filled_by k m) (read_by k m) filled_alike (reading_alike (shape_of k) m.arch.x (owed_by k m) (outstanding_in k m) 0 (filled_by k m))
+  read_alike = alike_trans filled (filled_by k m) (read_by k m) filled_alike (reading_alike (shape_of k) m.arch.x (owed_by k m) (interrupted_by k m) (outstanding_in k m) 0 (filled_by k m))
 
   -- past stage 0 the slots are those from before the row
   read_from : (n : ℕ) → Alike (drop (suc n) m.slots) (drop (suc n) (read_by k m))
@@ -293,7 +294,7 @@ module _ (k : Setting) (ready : IsReady k) (earlier : List Row) (m : Machine) (i
       trying_placed k ready r 0 (read_by k m) m.arch.mem m.future (paid_file m.owed m.future) m.owed
       (unowed_file k earlier (outstanding (judged k) earlier) m.entries m.owed m.future inv.owing) inv.future_wide read_placed read_read
       (at_ex k r (paid_file m.owed m.future) 0 (shape_of k).ex (read_by k m) (omega arith) future_there)
-      read_apart (boards_of k (outstanding_in k m) 0 (read_by k m) (reading_meets (shape_of k) m.arch.x (owed_by k m) (outstanding_in k m) 0 (filled_by k m)))
+      read_apart (boards_of k (interrupted_by k m) (outstanding_in k m) 0 (read_by k m) (reading_meets (shape_of k) m.arch.x (owed_by k m) (interrupted_by k m) (outstanding_in k m) 0 (filled_by k m)))
 
   pub held_placed : Placed k r 0 (held_by k m)
   held_placed = all_decided k r 0 tried_slots tried_placed
@@ -334,7 +335,7 @@ module _ (k : Setting) (ready : IsReady k) (earlier : List Row) (m : Machine) (i
       loading_guesses (tree_of k) (shape_of k) m.arch.mem 0 (held_by k m)
       ∙ decided_guesses (shape_of k) 0 tried_slots
       ∙ trying_guesses (tree_of k) (shape_of k) m.future m.arch.mem 0 (read_by k m)
-      ∙ reading_guesses (shape_of k) m.arch.x (owed_by k m) (outstanding_in k m) 0 (filled_by k m)
+      ∙ reading_guesses (shape_of k) m.arch.x (owed_by k m) (interrupted_by k m) (outstanding_in k m) 0 (filled_by k m)
 
   -- past stage 0 they are those from before the row
   pub guesses_from : (n : ℕ) → guesses (drop (suc n) (loaded_by k m)) ≡ guesses (drop (suc n) m.slots)
@@ -361,7 +362,10 @@ module _ (k : Setting) (ready : IsReady k) (earlier : List Row) (m : Machine) (i
   loaded_length = alike_length filled (loaded_by k m) loaded_alike ∙ fill_length (new_by k m) m.slots ∙ inv.stages
 
   pub struck_inside : struck (turn_by k m) ≤ length (loaded_by k m)
-  struck_inside = struck_in k m.fetch (loaded_by k m) (turn_by k m) refl
+  struck_inside = by_entry (entered_by k m) refl where
+    by_entry : (b : Bool) → entered_by k m ≡ b → struck (turn_by k m) ≤ length (loaded_by k m)
+    by_entry false e = subst (λ o. struck o ≤ length (loaded_by k m)) (sym (plain_turn k m e)) (struck_in k m.fetch (loaded_by k m) (turn_of (shape_of k) m.fetch (loaded_by k m)) refl)
+    by_entry true e = let s = ap (λ o. struck o) (entry_turn k m e) in let a = ready.ex_last in omega (arith, s, a, loaded_length)
 
   pub seen_placed : Placed k r 0 (seen_by k m)
   seen_placed = cleared_placed k r 0 (struck (turn_by k m)) (loaded_by k m) struck_inside loaded_placed

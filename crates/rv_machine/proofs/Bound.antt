@@ -1,13 +1,14 @@
 -- Not many rows pass without a retirement: the oldest token comes nearer in each.
+use Rattle.rv_holds.specs.declared.token.Beside.{Beside}
 use Rattle.std.proofs.Common.{◌≡◌, ℕ, zero, suc, ◌+◌, ◌-◌, drop, ◌<◌, ◌≤◌, List, [], ◌∷◌, length, map, get_or, Option, Some, None, Bool, true, false, refl, ap, ◌∙◌, subst, arith, ◌⊎◌, inl, inr}
-use Rattle.std.specs.Prelude.{if◌then◌else◌, ◌==◌, nat_lt, is_some, min, max}
+use Rattle.std.specs.Prelude.{if◌then◌else◌, ◌==◌, nat_lt, is_some, min, max, ◌&&◌}
 use Rattle.rv_core.specs.declared.Shape.{Shape}
 use Rattle.rv_trace.specs.declared.row.Hold.{Hold}
-use Rattle.rv_trace.specs.declared.row.Hold.TheVariants.{Wait, Tail, Behind}
+use Rattle.rv_trace.specs.declared.row.Hold.TheVariants.{Wait, Tail, Behind, Trap}
 use Rattle.rv_asks.specs.declared.asks.Asks.{Asks}
 use Rattle.rv_holds.specs.declared.token.Token.{Token}
 use Rattle.rv_holds.specs.Tokens.{Slots, or_else, stop_of}
-use Rattle.rv_holds.specs.Holds.{oldest, withholder, writes_late, does_store, is_late, waits_for, operand_hold, waits_for_custom, first_from, custom_hold, late_hold, waiting_hold, staying, drain_hold, store_hold, memory_hold, tail_hold, own_hold, stops_now, is_blocked, shown, decided, entering, drain, least_from, board_hold, reading_hold, ending_hold, numbered, board, lower_of, spawner, register_count, register_at, spawns_at}
+use Rattle.rv_holds.specs.Holds.{oldest, withholder, writes_late, does_store, is_late, waits_for, operand_hold, waits_for_custom, first_from, custom_hold, late_hold, waiting_hold, staying, drain_hold, store_hold, memory_hold, tail_hold, own_hold, stops_now, is_blocked, shown, decided, entering, drain, least_from, board_hold, reading_hold, ending_hold, numbered, board, lower_of, spawner, register_count, register_at, spawns_at, trap_hold, leaving_hold}
 use Rattle.rv_holds.specs.Flushing.{remains, fetch_after}
 use Rattle.rv_engine.specs.Settings.{Setting, shape_of}
 use Rattle.rv_engine.specs.Rows.{fill_first, tail_after, waited, going, kept, advanced, leaving}
@@ -34,7 +35,7 @@ to_go-zero k most owed stage [] e = refl
 to_go-zero k most owed stage (None ∷ l) e = to_go-zero k most owed (suc stage) l (zero_left (to_go k most owed (suc stage) l) e)
 to_go-zero k most owed stage (Some t ∷ l) e = not_zero (to_go k most owed (suc stage) l) (length l + may_wait k most owed stage + t.tail) e
 
-zero_to_go : (k : Shape) (most owed stage : ℕ) (l : Slots) → count l ≡ 0 → to_go k most owed stage l ≡ 0
+pub zero_to_go : (k : Shape) (most owed stage : ℕ) (l : Slots) → count l ≡ 0 → to_go k most owed stage l ≡ 0
 zero_to_go k most owed stage [] e = refl
 zero_to_go k most owed stage (None ∷ l) e = rw (zero_to_go k most owed (suc stage) l e)
 zero_to_go k most owed stage (Some t ∷ l) e = absurd (omega (arith, e))
@@ -92,8 +93,8 @@ empty_entering (Some t ∷ []) e = absurd (omega (arith, e))
 empty_entering (None ∷ u ∷ older) e = empty_entering (u ∷ older) e
 empty_entering (Some t ∷ u ∷ older) e = absurd (omega (arith, e))
 
-empty_drain : (t : Token) (older : Slots) → t.beside ≡ alone → count older ≡ 0 → drain_hold t older ≡ None
-empty_drain t older al e =
+empty_drain : (now : Bool) (t : Token) (older : Slots) → t.beside ≡ alone now → count older ≡ 0 → drain_hold t older ≡ None
+empty_drain now t older al e =
     ap (λ o. if is_some (stop_of t) then drain o else None)
     (ap (λ b. or_else b.left (or_else (entering older) (staying older))) al ∙ ap (λ o. or_else o (staying older)) (empty_entering older e) ∙ empty_staying older e)
     ∙ if_same (is_some (stop_of t))
@@ -106,23 +107,23 @@ no_number : (b : Bool) → ◌≡◌ {A = Option ℕ} (if b then None else None)
 no_number true = refl
 no_number false = refl
 
-empty_board : (t : Token) (older : Slots) → t.beside ≡ alone → count older ≡ 0 → board_hold t older ≡ None
-empty_board t older al e =
+empty_board : (now : Bool) (t : Token) (older : Slots) → t.beside ≡ alone now → count older ≡ 0 → board_hold t older ≡ None
+empty_board now t older al e =
     ap (λ b. board (lower_of b.board (least_from (spawner older t.asks) 0 register_count))) al
     ∙ ap board (no_least (spawner older t.asks) 0 register_count (λ n. ap (λ (o : Option ℕ). if touches t.asks (register_at n) then o else None) (empty_oldest (spawns_at n) older e) ∙ no_number (touches t.asks (register_at n))))
 
-empty_reading : (k : Shape) (stage : ℕ) (t : Token) (older : Slots) → t.beside ≡ alone → count older ≡ 0 → reading_hold k stage t older ≡ None
-empty_reading k stage t older al e = ap (λ o. or_else o (board_hold t older)) (empty_operand k (suc stage) older t.asks e) ∙ empty_board t older al e
+empty_reading : (now : Bool) (k : Shape) (stage : ℕ) (t : Token) (older : Slots) → t.beside ≡ alone now → count older ≡ 0 → reading_hold k stage t older ≡ None
+empty_reading now k stage t older al e = ap (λ o. or_else o (board_hold t older)) (empty_operand k (suc stage) older t.asks e) ∙ empty_board now t older al e
 
-pub lone_ending : (t : Token) → t.beside ≡ alone → ending_hold t ≡ tail_hold t
-lone_ending t al = ap (λ b. or_else (tail_hold t) b.port) al ∙ right (tail_hold t) where
+pub lone_ending : (now : Bool) (t : Token) → t.beside ≡ alone now → ending_hold t ≡ tail_hold t
+lone_ending now t al = ap (λ b. or_else (tail_hold t) b.port) al ∙ right (tail_hold t) where
   right : (o : Option Hold) → or_else o None ≡ o
   right None = refl
   right (Some h) = refl
 
-empty_waiting : (k : Shape) (stage : ℕ) (t : Token) (older : Slots) → t.beside ≡ alone → count older ≡ 0 → waiting_hold k stage t older ≡ None
-empty_waiting k stage t older al e =
-    ap (λ o. or_else (if stage == k.rd then o else None) (if stage == k.ex then or_else (custom_hold older t.asks) (late_hold older) else None)) (empty_reading k stage t older al e)
+empty_waiting : (now : Bool) (k : Shape) (stage : ℕ) (t : Token) (older : Slots) → t.beside ≡ alone now → count older ≡ 0 → waiting_hold k stage t older ≡ None
+empty_waiting now k stage t older al e =
+    ap (λ o. or_else (if stage == k.rd then o else None) (if stage == k.ex then or_else (custom_hold older t.asks) (late_hold older) else None)) (empty_reading now k stage t older al e)
     ∙ ap (λ o. or_else (if stage == k.rd then None else None) (if stage == k.ex then or_else o (late_hold older) else None)) (empty_custom older t.asks e)
     ∙ ap (λ o. or_else (if stage == k.rd then None else None) (if stage == k.ex then o else None)) (empty_late older e)
     ∙ both (stage == k.rd) (stage == k.ex) where
@@ -136,16 +137,26 @@ empty_waiting k stage t older al e =
 abbrev last_holds : Shape → ℕ → Token → Option Hold
 last_holds k stage t = or_else (if stage == k.mem then memory_hold t else None) (if suc stage == k.stages then tail_hold t else None)
 
-empty_own : (k : Shape) (stage : ℕ) (t : Token) (older : Slots) → t.beside ≡ alone → count older ≡ 0 → own_hold k stage t older ≡ last_holds k stage t
-empty_own k stage t older al e =
-    ap (λ o. or_else o (or_else (if stage == k.ex then drain_hold t older else None) (or_else (if stage == k.mem then or_else (memory_hold t) (store_hold older t.asks) else None) (if suc stage == k.stages then ending_hold t else None)))) (empty_waiting k stage t older al e)
-    ∙ ap (λ o. or_else (if stage == k.ex then o else None) (or_else (if stage == k.mem then or_else (memory_hold t) (store_hold older t.asks) else None) (if suc stage == k.stages then ending_hold t else None))) (empty_drain t older al e)
-    ∙ ap (λ o. or_else o (or_else (if stage == k.mem then or_else (memory_hold t) (store_hold older t.asks) else None) (if suc stage == k.stages then ending_hold t else None))) (if_same (stage == k.ex))
+empty_own : (now : Bool) (k : Shape) (stage : ℕ) (t : Token) (older : Slots) → ((stage == k.ex) && now) ≡ false → t.beside ≡ alone now → count older ≡ 0 → own_hold k stage t older ≡ last_holds k stage t
+empty_own now k stage t older free al e =
+    ap (λ o. or_else o (or_else (if stage == k.ex then leaving_hold t older else None) (or_else (if stage == k.mem then or_else (memory_hold t) (store_hold older t.asks) else None) (if suc stage == k.stages then ending_hold t else None)))) (empty_waiting now k stage t older al e)
+    ∙ ap (λ o. or_else o (or_else (if stage == k.mem then or_else (memory_hold t) (store_hold older t.asks) else None) (if suc stage == k.stages then ending_hold t else None))) leaves
     ∙ ap (λ o. or_else (if stage == k.mem then o else None) (if suc stage == k.stages then ending_hold t else None)) (ap (λ o. or_else (memory_hold t) o) (empty_store older t.asks e) ∙ right (memory_hold t))
-    ∙ ap (λ o. or_else (if stage == k.mem then memory_hold t else None) (if suc stage == k.stages then o else None)) (lone_ending t al) where
+    ∙ ap (λ o. or_else (if stage == k.mem then memory_hold t else None) (if suc stage == k.stages then o else None)) (lone_ending now t al) where
       right : (o : Option Hold) → or_else o None ≡ o
       right None = refl
       right (Some h) = refl
+
+      no_trap : (b c : Bool) → (b && c) ≡ false → ◌≡◌ {A = Option Hold} (if b then or_else (if c then Some Trap else None) None else None) None
+      no_trap true true q = cc
+      no_trap true false q = refl
+      no_trap false c q = refl
+
+      leaves : (if stage == k.ex then leaving_hold t older else None) ≡ None
+      leaves =
+          ap (λ o. if stage == k.ex then or_else (trap_hold t) o else None) (empty_drain now t older al e)
+          ∙ ap (λ (b : Beside). if stage == k.ex then or_else (if b.trap then Some Trap else None) None else None) al
+          ∙ no_trap (stage == k.ex) now free
 
 -- the oldest token is held for the memory
 pub record Waits (k : Setting) (stage : ℕ) (t : Token) : Type 0 where
@@ -156,12 +167,13 @@ pub record Waits (k : Setting) (stage : ℕ) (t : Token) : Type 0 where
 
 -- or for its module
 pub record Goes (k : Setting) (stage : ℕ) (t : Token) : Type 0 where
+  pub last : (suc stage == (shape_of k).stages) ≡ true
   pub held : is_some t.cell.hold ≡ true
   pub some : (t.tail == 0) ≡ false
   pub shows : t.cell.hold ≡ Some (Tail t.tail)
 
-oldest_free : (k : Setting) (stage : ℕ) (t : Token) (older : Slots) → Decided k stage (Some t ∷ older) → NoStops k stage (Some t ∷ older) → t.beside ≡ alone → count older ≡ 0 → (is_some t.cell.hold ≡ false) ⊎ (Waits k stage t ⊎ Goes k stage t)
-oldest_free k stage t older d n al e = by_case (stage == (shape_of k).mem) (t.wait == 0) (suc stage == (shape_of k).stages) (t.tail == 0) refl refl refl (d.0 ∙ shown_is n.0) where
+pub oldest_free : (now : Bool) (k : Setting) (stage : ℕ) (t : Token) (older : Slots) → ((stage == (shape_of k).ex) && now) ≡ false → Decided k stage (Some t ∷ older) → NoStops k stage (Some t ∷ older) → t.beside ≡ alone now → count older ≡ 0 → (is_some t.cell.hold ≡ false) ⊎ (Waits k stage t ⊎ Goes k stage t)
+oldest_free now k stage t older free d n al e = by_case (stage == (shape_of k).mem) (t.wait == 0) (suc stage == (shape_of k).stages) (t.tail == 0) refl refl refl refl (d.0 ∙ shown_is n.0) where
   right : (o : Option Hold) → or_else o None ≡ o
   right None = refl
   right (Some h) = refl
@@ -171,21 +183,21 @@ oldest_free k stage t older d n al e = by_case (stage == (shape_of k).mem) (t.wa
       ap (λ (b : Bool). if b then None else or_else (own_hold (shape_of k) stage t older) (if is_blocked (shape_of k) (suc stage) older then Some Behind else None)) h
       ∙ ap (λ (b : Bool). or_else (own_hold (shape_of k) stage t older) (if b then Some Behind else None)) (empty_blocked (shape_of k) (suc stage) older e)
       ∙ right (own_hold (shape_of k) stage t older)
-      ∙ empty_own (shape_of k) stage t older al e
+      ∙ empty_own now (shape_of k) stage t older free al e
 
   held_by : (h : Hold) → t.cell.hold ≡ Some h → is_some t.cell.hold ≡ true
   held_by h q = ap (λ o. is_some o) q
 
-  by_case : (b w c z : Bool) → (stage == (shape_of k).mem) ≡ b → (t.wait == 0) ≡ w → (t.tail == 0) ≡ z
+  by_case : (b w c z : Bool) → (stage == (shape_of k).mem) ≡ b → (t.wait == 0) ≡ w → (t.tail == 0) ≡ z → (suc stage == (shape_of k).stages) ≡ c
       → t.cell.hold ≡ or_else (if b then (if w then None else Some (Wait t.wait)) else None) (if c then (if z then None else Some (Tail t.tail)) else None)
       → (is_some t.cell.hold ≡ false) ⊎ (Waits k stage t ⊎ Goes k stage t)
-  by_case true false c z p q r h = inr (inl (record { at = test_eq stage (shape_of k).mem p; held = held_by (Wait t.wait) h; some = q; shows = h }))
-  by_case true true true false p q r h = inr (inr (record { held = held_by (Tail t.tail) h; some = r; shows = h }))
-  by_case true true true true p q r h = inl (ap (λ o. is_some o) h)
-  by_case true true false z p q r h = inl (ap (λ o. is_some o) h)
-  by_case false w true false p q r h = inr (inr (record { held = held_by (Tail t.tail) h; some = r; shows = h }))
-  by_case false w true true p q r h = inl (ap (λ o. is_some o) h)
-  by_case false w false z p q r h = inl (ap (λ o. is_some o) h)
+  by_case true false c z p q r g h = inr (inl (record { at = test_eq stage (shape_of k).mem p; held = held_by (Wait t.wait) h; some = q; shows = h }))
+  by_case true true true false p q r g h = inr (inr (record { last = g; held = held_by (Tail t.tail) h; some = r; shows = h }))
+  by_case true true true true p q r g h = inl (ap (λ o. is_some o) h)
+  by_case true true false z p q r g h = inl (ap (λ o. is_some o) h)
+  by_case false w true false p q r g h = inr (inr (record { last = g; held = held_by (Tail t.tail) h; some = r; shows = h }))
+  by_case false w true true p q r g h = inl (ap (λ o. is_some o) h)
+  by_case false w false z p q r g h = inl (ap (λ o. is_some o) h)
 
 empty_advanced : (older : Slots) → count older ≡ 0 → count (advanced None older) ≡ 0
 empty_advanced [] e = refl
@@ -289,18 +301,34 @@ above_zero : (n : ℕ) → (n == 0) ≡ false → 0 < n
 above_zero n e = grind (arith, nat_tests)
 
 -- none of these meets anything beside the stages
-abbrev pub AreLone : Slots → Type 0
-AreLone [] = Unit {0}
-AreLone (None ∷ older) = AreLone older
-AreLone (Some t ∷ older) = (t.beside ≡ alone) × AreLone older
+abbrev pub AreLone : Bool → Slots → Type 0
+AreLone now [] = Unit {0}
+AreLone now (None ∷ older) = AreLone now older
+AreLone now (Some t ∷ older) = (t.beside ≡ alone now) × AreLone now older
 
-lone_tail : (s : Option Token) (older : Slots) → AreLone (s ∷ older) → AreLone older
-lone_tail None older h = h
-lone_tail (Some t) older h = h.1
+lone_tail : (now : Bool) (s : Option Token) (older : Slots) → AreLone now (s ∷ older) → AreLone now older
+lone_tail now None older h = h
+lone_tail now (Some t) older h = h.1
 
-oldest_here : (k : Setting) (most owed owed' stage n : ℕ) (come : Option Token) (t : Token) (older : Slots) → owed' ≤ most → Falls k owed owed' stage (Some t ∷ older) → Decided k stage (Some t ∷ older) → NoStops k stage (Some t ∷ older) → t.beside ≡ alone → leaving come (Some t ∷ older) ≡ None → count older ≡ 0 → suc (length older + may_wait (shape_of k) most owed stage + t.tail) ≡ suc n
+-- where an interrupt is to be taken, the oldest of these tokens does not stand at EX
+abbrev pub IsFree : Shape → Bool → ℕ → Slots → Type 0
+IsFree k now stage [] = Unit {0}
+IsFree k now stage (s ∷ older) = (count older ≡ 0 → ((stage == k.ex) && now) ≡ false) × IsFree k now (suc stage) older
+
+pub is_free : (k : Shape) (now : Bool) (stage : ℕ) (l : Slots) → (now ≡ true → (i : ℕ) → stage + i ≡ k.ex → 0 < count (drop (suc i) l)) → IsFree k now stage l
+is_free k now stage [] h = tt
+is_free k now stage (s ∷ older) h = (
+  λ z. by_case (stage == k.ex) now refl refl z,
+  is_free k now (suc stage) older (λ e i at. h e (suc i) (omega (arith, at))),
+) where
+  by_case : (a b : Bool) → (stage == k.ex) ≡ a → now ≡ b → count older ≡ 0 → (a && b) ≡ false
+  by_case true true at e z = let same = test_eq stage k.ex at in let some = h e 0 (omega (arith, same)) in absurd (omega (arith, some, z))
+  by_case true false at e z = refl
+  by_case false b at e z = refl
+
+oldest_here : (now : Bool) (k : Setting) (most owed owed' stage n : ℕ) (come : Option Token) (t : Token) (older : Slots) → owed' ≤ most → Falls k owed owed' stage (Some t ∷ older) → Decided k stage (Some t ∷ older) → NoStops k stage (Some t ∷ older) → (count older ≡ 0 → ((stage == (shape_of k).ex) && now) ≡ false) → t.beside ≡ alone now → leaving come (Some t ∷ older) ≡ None → count older ≡ 0 → suc (length older + may_wait (shape_of k) most owed stage + t.tail) ≡ suc n
     → Nearer (to_go (shape_of k) most owed' stage (advanced come (Some t ∷ older))) n
-oldest_here k most owed owed' stage n come t older le f d ns al l q e = elim (oldest_free k stage t older d ns al q) [ inl free ↦ moves free | inr w ↦ elim w [ inl x ↦ waits x | inr x ↦ goes x ] ] where
+oldest_here now k most owed owed' stage n come t older le f d ns free al l q e = elim (oldest_free now k stage t older (free q) d ns al q) [ inl x ↦ moves x | inr w ↦ elim w [ inl x ↦ waits x | inr x ↦ goes x ] ] where
   same : length older + may_wait (shape_of k) most owed stage + t.tail ≡ n
   same = omega (arith, e)
 
@@ -333,19 +361,19 @@ oldest_here k most owed owed' stage n come t older le f d ns al l q e = elim (ol
       let whole = stays_here (shape_of k) most owed' stage come t older g.held q in
       record { fewer = omega (arith, whole, a, b, z, same); some = omega (arith, whole) }
 
-nearer : (k : Setting) (most owed owed' stage n : ℕ) (come : Option Token) (seen : Slots) → owed' ≤ most → Falls k owed owed' stage seen → Decided k stage seen → NoStops k stage seen → AreLone seen → leaving come seen ≡ None → to_go (shape_of k) most owed stage seen ≡ suc n → Nearer (to_go (shape_of k) most owed' stage (advanced come seen)) n
-nearer k most owed owed' stage n come [] le f d ns al l e = absurd (omega arith)
-nearer k most owed owed' stage n come (s ∷ older) le f d ns al l e =
+nearer : (now : Bool) (k : Setting) (most owed owed' stage n : ℕ) (come : Option Token) (seen : Slots) → owed' ≤ most → Falls k owed owed' stage seen → Decided k stage seen → NoStops k stage seen → IsFree (shape_of k) now stage seen → AreLone now seen → leaving come seen ≡ None → to_go (shape_of k) most owed stage seen ≡ suc n → Nearer (to_go (shape_of k) most owed' stage (advanced come seen)) n
+nearer now k most owed owed' stage n come [] le f d ns free al l e = absurd (omega arith)
+nearer now k most owed owed' stage n come (s ∷ older) le f d ns free al l e =
     by_case (to_go (shape_of k) most owed (suc stage) older) refl e
-    (λ m q. nearer k most owed owed' (suc stage) m (going s) older le (falls_tail k owed owed' stage s older f) (decided_tail k stage s older d) (no_stops_tail k stage s older ns) (lone_tail s older al) l q) where
-      here_now : (s : Option Token) → Falls k owed owed' stage (s ∷ older) → Decided k stage (s ∷ older) → NoStops k stage (s ∷ older) → AreLone (s ∷ older) → leaving come (s ∷ older) ≡ None → count older ≡ 0 → here (shape_of k) most owed stage s (length older) ≡ suc n → Nearer (to_go (shape_of k) most owed' stage (advanced come (s ∷ older))) n
-      here_now None f d ns al l q e = absurd (omega (arith, e))
-      here_now (Some t) f d ns al l q e = oldest_here k most owed owed' stage n come t older le f d ns al.0 l q e
+    (λ m q. nearer now k most owed owed' (suc stage) m (going s) older le (falls_tail k owed owed' stage s older f) (decided_tail k stage s older d) (no_stops_tail k stage s older ns) free.1 (lone_tail now s older al) l q) where
+      here_now : (s : Option Token) → Falls k owed owed' stage (s ∷ older) → Decided k stage (s ∷ older) → NoStops k stage (s ∷ older) → (count older ≡ 0 → ((stage == (shape_of k).ex) && now) ≡ false) → AreLone now (s ∷ older) → leaving come (s ∷ older) ≡ None → count older ≡ 0 → here (shape_of k) most owed stage s (length older) ≡ suc n → Nearer (to_go (shape_of k) most owed' stage (advanced come (s ∷ older))) n
+      here_now None f d ns free al l q e = absurd (omega (arith, e))
+      here_now (Some t) f d ns free al l q e = oldest_here now k most owed owed' stage n come t older le f d ns free al.0 l q e
 
       by_case : (m : ℕ) → to_go (shape_of k) most owed (suc stage) older ≡ m → first_of_two m (here (shape_of k) most owed stage s (length older)) ≡ suc n
           → ((m : ℕ) → to_go (shape_of k) most owed (suc stage) older ≡ suc m → Nearer (to_go (shape_of k) most owed' (suc stage) (advanced (going s) older)) m)
           → Nearer (to_go (shape_of k) most owed' stage (advanced come (s ∷ older))) n
-      by_case zero q e ih = here_now s f d ns al l (to_go-zero (shape_of k) most owed (suc stage) older q) e
+      by_case zero q e ih = here_now s f d ns free.0 al l (to_go-zero (shape_of k) most owed (suc stage) older q) e
       by_case (suc m) q e ih =
           let i = ih m q in
           let a = i.fewer in
@@ -355,9 +383,9 @@ nearer k most owed owed' stage n come (s ∷ older) le f d ns al l e =
           record { fewer = omega (arith, whole, a, e); some = omega (arith, whole, b) }
 
 -- the same of the rank
-pub rank_falls : (k : Setting) (most owed owed' n : ℕ) (seen : Slots) → owed' ≤ most → Falls k owed owed' 0 seen → Decided k 0 seen → NoStops k 0 seen → AreLone seen → leaving None seen ≡ None → to_go (shape_of k) most owed 0 seen ≡ suc n → rank (shape_of k) most owed' (advanced None seen) ≤ n
-rank_falls k most owed owed' n seen le f d ns al l e =
-    let y = nearer k most owed owed' 0 n None seen le f d ns al l e in
+pub rank_falls : (now : Bool) (k : Setting) (most owed owed' n : ℕ) (seen : Slots) → owed' ≤ most → Falls k owed owed' 0 seen → Decided k 0 seen → NoStops k 0 seen → IsFree (shape_of k) now 0 seen → AreLone now seen → leaving None seen ≡ None → to_go (shape_of k) most owed 0 seen ≡ suc n → rank (shape_of k) most owed' (advanced None seen) ≤ n
+rank_falls now k most owed owed' n seen le f d ns free al l e =
+    let y = nearer now k most owed owed' 0 n None seen le f d ns free al l e in
     let a = y.fewer in
     let whole = first_is (to_go (shape_of k) most owed' 0 (advanced None seen)) (suc ((shape_of k).stages + most + 64)) y.some in
     omega (arith, whole, a)

@@ -10,7 +10,7 @@ use Rattle.rv_trace.specs.RowParts.{name_of, names_of}
 use Rattle.rv_tried.specs.declared.trial.Trial.{Trial}
 use Rattle.rv_holds.specs.declared.token.Token.{Token}
 use Rattle.rv_holds.specs.Tokens.{Slots, or_else, stop_of, cells_of}
-use Rattle.rv_holds.specs.Holds.{oldest, is_late, writes_late, operand_hold, custom_hold, late_hold, waiting_hold, drain_hold, memory_hold, store_hold, tail_hold, own_hold, stops_now, shown, held, decided, reading_hold, board_hold, ending_hold}
+use Rattle.rv_holds.specs.Holds.{oldest, is_late, writes_late, operand_hold, custom_hold, late_hold, waiting_hold, leaving_hold, memory_hold, store_hold, tail_hold, own_hold, stops_now, shown, held, decided, reading_hold, board_hold, ending_hold}
 use Rattle.rv_engine.specs.Settings.{Setting, shape_of}
 use Rattle.rv_machine.specs.Placed.{run, count, expected, IsTried, IsPlaced, Placed, Serials}
 use Rattle.rv_machine.specs.Told.{Decided, NoStops}
@@ -220,7 +220,7 @@ waits_late k stage t older h e = or_else_none_b (custom_hold older t.asks) (late
 -- the rest of a token's own holds
 own_rest : (k : Shape) (stage : ℕ) (t : Token) (older : Slots) → own_hold k stage t older ≡ None → or_else (if stage == k.mem then or_else (memory_hold t) (store_hold older t.asks) else None) (if suc stage == k.stages then ending_hold t else None) ≡ None
 own_rest k stage t older h =
-    or_else_none_b (if stage == k.ex then drain_hold t older else None) _ (or_else_none_b (waiting_hold k stage t older) _ h)
+    or_else_none_b (if stage == k.ex then leaving_hold t older else None) _ (or_else_none_b (waiting_hold k stage t older) _ h)
 
 pub no_store : (k : Shape) (stage : ℕ) (t : Token) (older : Slots) → own_hold k stage t older ≡ None → stage ≡ k.mem → store_hold older t.asks ≡ None
 no_store k stage t older h e =

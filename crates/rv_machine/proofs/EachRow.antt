@@ -1,8 +1,9 @@
 -- Each row that the machine makes is lawful, agrees with the run, and comes nearer to a retirement.
+use Rattle.rv_lawful.specs.Outstanding.{architecture}
+use Rattle.rv_lawful.specs.Entering.{places}
 use Rattle.std.proofs.Common.{◌≡◌, ◌+◌, ◌≤◌, List, [], ◌∷◌, Option, Some, None, refl, sym, ap, ◌∙◌, inl, inr}
 use Rattle.rv_seq.specs.declared.commit.Commit.{Commit}
 use Rattle.rv_seq.specs.declared.answer.StepAnswer.TheVariants.{Done}
-use Rattle.rv_seq.specs.Runs.{answer_at}
 use Rattle.rv_waits.specs.Waits.{greatest}
 use Rattle.rv_trace.specs.declared.row.Row.{Row}
 use Rattle.rv_trace.specs.Trace.{retirements, rows_without}
@@ -13,7 +14,7 @@ use Rattle.rv_engine.specs.Rows.{fill_first, new_by, loaded_by, seen_by, left_by
 use Rattle.rv_lawful.specs.LawfulTrace.{LawfulRow}
 use Rattle.rv_lawful.specs.Headline.{AgreesWithRun}
 use Rattle.rv_machine.specs.Owing.{judged}
-use Rattle.rv_machine.specs.Placed.{one_more, tail, expected, whole_rank, greatest_rank, IsReady, Inv}
+use Rattle.rv_machine.specs.Placed.{one_more, tail, expected, whole_rank, greatest_rank, IsReady, Inv, at_places}
 use Rattle.rv_machine.specs.Made.{Made}
 use Rattle.rv_machine.proofs.Bound.{tails_of}
 use Rattle.rv_machine.proofs.Alike.{Alike}
@@ -46,7 +47,7 @@ module _ (k : Setting) (ready : IsReady k) (earlier : List Row) (m : Machine) (r
   retired_is : retirements earlier + one_more (left_by k m) 0 ≡ retirements (row ∷ earlier)
   retired_is = ap (λ n. retirements earlier + n) (R.left_out k ready earlier m row inv is) ∙ sym (R.retired_now k ready earlier m row inv is)
 
-  recorded : (t : Token) (c : Commit) → left_by k m ≡ Some t → commit_of t ≡ Some c → answer_at (tree_of k) k.image (retirements earlier) ≡ Done c
+  recorded : (t : Token) (c : Commit) → left_by k m ≡ Some t → commit_of t ≡ Some c → (judged k).course.answer (retirements earlier) ≡ Done c
   recorded t c g e = elim (R.goes_out k ready earlier m row inv is) [
     | inl n ↦ cc (n.0, g)
     | inr y ↦ y.0.recorded ∙ ap (λ x. Done x) (one_commit y.0.commit c (sym y.0.comes_to ∙ ap commit_of (one_token y.0.token t (sym y.0.is_left ∙ g)) ∙ e))
@@ -66,13 +67,16 @@ module _ (k : Setting) (ready : IsReady k) (earlier : List Row) (m : Machine) (r
         state = R.architecture_now k ready earlier m row inv is;
         applied = P.repaid_next k ready earlier m row inv is;
         owing = O.owing_next k ready earlier m row inv is;
-        fetch = λ none. N.next_fetch k ready earlier m inv none ∙ ap (λ n. expected k n 1 (tail (advanced None (seen_by k m)))) retired_is;
+        fetch = λ plain none. N.next_fetch k ready earlier m inv none plain ∙ ap (λ n. expected k n 1 (tail (advanced None (seen_by k m)))) retired_is;
       }
 
   pub lawful : LawfulRow (judged k) earlier row
-  lawful = L.lawful k ready earlier m row made
+  lawful = L.lawful k ready earlier m row made left
 
-  pub agrees : AgreesWithRun (tree_of k) (judged k) earlier row
+  pub state_after : architecture (tree_of k) (judged (at_places k (places (row ∷ earlier)))) (row ∷ earlier) ≡ (machine_after k m).arch
+  state_after = A.state_told k ready earlier m row made left
+
+  pub agrees : AgreesWithRun (tree_of k) (judged k) (judged (at_places k (places (row ∷ earlier)))) earlier row
   agrees = A.agrees k ready earlier m row made left
 
   pub progress : row.stop ≡ None → rows_without (row ∷ earlier) + whole_rank k (greatest k.waits) (machine_after k m) ≤ greatest_rank k

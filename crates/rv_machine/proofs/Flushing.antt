@@ -25,9 +25,8 @@ use Rattle.rv_machine.proofs.Places.{stood, one_token, token_order, token_of, se
 use Rattle.rv_machine.proofs.Standing.{here_of}
 use Rattle.rv_machine.proofs.Moving.{Named, filled_from, KeepsAll, keeps_all, FlushesFirst}
 use Rattle.rv_machine.proofs.Alike.{Alike, IsAlike, alike_count, alike_serials}
-use Rattle.rv_machine.proofs.Before.{Turning, turning}
 use Rattle.rv_machine.proofs.Before as B
-use Rattle.rv_machine.proofs.Clearing.{cleared_serials, cleared_count, cleared_at, cleared_get, cleared_drop, unheld_get, ShownAs, shown_as, take_get, get_take, none_listed, listed_of, listed_only, listed_ascend, none_ascend}
+use Rattle.rv_machine.proofs.Clearing.{cleared_serials, cleared_count, cleared_at, cleared_get, cleared_drop, unheld_get, ShownAs, shown_as, take_get, get_take, none_listed, listed_of, listed_only, listed_ascend, none_ascend, Oldest, oldest_of}
 
 -- a token of slots that are alike
 pub alike_get : (a b : Slots) (i : ℕ) (u : Token) → Alike a b → slice_get b i ≡ Some (Some u) → (t : Token) × (slice_get a i ≡ Some (Some t)) × IsAlike t u
@@ -51,6 +50,22 @@ fetched_serial serial None u h e = cc
 fetched_serial serial (Some t) u h e = sym (ap (λ (v : Token). v.cell.serial) (same_token t u e)) ∙ h where
   same_token : (t u : Token) → ◌≡◌ {A = Option Token} (Some t) (Some u) → t ≡ u
   same_token t u e = cc
+
+-- with no token between two stages
+pub count_gap : (a n : ℕ) (l : Slots) → a ≤ n → ((j : ℕ) (t : Token) → a ≤ j → j < n → slice_get l j ≡ Some (Some t) → ⊥) → count (drop a l) ≡ count (drop n l)
+count_gap zero zero l le h = refl
+count_gap zero (suc n) [] le h = refl
+count_gap zero (suc n) (None ∷ l) le h = count_gap zero n l (omega arith) (λ j t le lt e. h (suc j) t (omega arith) (omega (arith, lt)) e)
+count_gap zero (suc n) (Some t ∷ l) le h = absurd (h 0 t (omega arith) (omega arith) refl)
+count_gap (suc a) zero l le h = absurd (omega (arith, le))
+count_gap (suc a) (suc n) [] le h = refl
+count_gap (suc a) (suc n) (s ∷ l) le h = count_gap a n l (omega (arith, le)) (λ j t le lt e. h (suc j) t (omega (arith, le)) (omega (arith, lt)) e)
+
+-- the slots from a token's on
+pub slot_behind : (n : ℕ) (l : Slots) (t : Token) → slice_get l n ≡ Some (Some t) → drop n l ≡ Some t ∷ drop (suc n) l
+slot_behind n [] t e = cc
+slot_behind zero (s ∷ l) t e = let same : s ≡ Some t = cc in ap (λ (o : Option Token). o ∷ l) same
+slot_behind (suc n) (s ∷ l) t e = slot_behind n l t e
 
 module _ (k : Setting) (ready : IsReady k) (earlier : List Row) (m : Machine) (row : Row) (inv : Inv k earlier m) (is : IsRowOf k m row) where
   -- The slots before the flush
@@ -155,65 +170,88 @@ module _ (k : Setting) (ready : IsReady k) (earlier : List Row) (m : Machine) (r
 
   -- Serials after the flush
 
-  -- a serial between that of the token that turns the fetch and the next one is flushed
-  over : (turn : Turn) (x : Turning k m.fetch (loaded_by k m) turn) → struck (turn_by k m) ≡ x.by.index → (j : ℕ) → suc x.by.token.cell.serial ≤ j → j < next_after m.next m.slots (new_by k m) → is_flushed (row ∷ earlier) j ≡ true
-  over turn x n j le lt = by_case (is_flushed earlier j) refl where
-    here : slice_get (loaded_by k m) x.by.index ≡ Some (Some x.by.token)
-    here = here_of (loaded_by k m) x.by.older x.by.token x.by.index x.by.rest
+  -- how many stages are flushed
+  abbrev flushed : ℕ
+  flushed = struck (turn_by k m)
 
+  -- with no token in these stages nothing is flushed
+  none_flushed : ((i : ℕ) (t : Token) → slice_get (take flushed (loaded_by k m)) i ≡ Some (Some t) → ⊥) → (j : ℕ) → has_serial row.flushed j ≡ false
+  none_flushed none j = by_flag (has_serial row.flushed j) refl where
+    by_flag : (b : Bool) → has_serial row.flushed j ≡ b → has_serial row.flushed j ≡ false
+    by_flag false q = q
+    by_flag true q = let x = flushed_from j q in absurd (none x.0 x.1 (take_get flushed x.0 (loaded_by k m) x.2 ∙ x.3))
+
+  -- the oldest token that is flushed
+  abbrev First : Type 0
+  First = Oldest (take flushed (loaded_by k m)) 0
+
+  first_here : (f : First) → (f.index < flushed) × (slice_get (loaded_by k m) f.index ≡ Some (Some f.token))
+  first_here f = get_take flushed f.index (loaded_by k m) f.token f.here_is
+
+  -- below its serial nothing is flushed
+  first_kept : (f : First) (j : ℕ) → j < f.token.cell.serial → has_serial row.flushed j ≡ false
+  first_kept f j low = by_flag (has_serial row.flushed j) refl where
+    by_flag : (b : Bool) → has_serial row.flushed j ≡ b → has_serial row.flushed j ≡ false
+    by_flag false q = q
+    by_flag true q =
+        let x = flushed_from j q in
+        let here = first_here f in
+        let same = x.4 in
+        elim (cases_lt x.0 f.index) [
+          | inl less ↦ let o = token_order earlier (retirements earlier) x.0 f.index (loaded_by k m) x.1 f.token loaded_serials less x.3 here.1 in absurd (omega (arith, o, same, low))
+          | inr more ↦ elim (cases_lt f.index x.0) [
+            | inl past ↦ absurd (f.last x.0 x.1 past (take_get flushed x.0 (loaded_by k m) x.2 ∙ x.3))
+            | inr not ↦
+                let at : x.0 ≡ f.index = omega (arith, more, not) in
+                let there : slice_get (loaded_by k m) f.index ≡ Some (Some x.1) = subst (λ i. slice_get (loaded_by k m) i ≡ Some (Some x.1)) at x.3 in
+                let token : x.1 ≡ f.token = cc (there, here.1) in
+                let serial = ap (λ (v : Token). v.cell.serial) token in
+                absurd (omega (arith, serial, same, low))
+          ]
+        ]
+
+  -- from it on all are
+  first_over : (f : First) (j : ℕ) → f.token.cell.serial ≤ j → j < next_after m.next m.slots (new_by k m) → is_flushed (row ∷ earlier) j ≡ true
+  first_over f j le lt = by_case (is_flushed earlier j) refl where
     by_case : (b : Bool) → is_flushed earlier j ≡ b → is_flushed (row ∷ earlier) j ≡ true
     by_case true e = flushed_before row earlier j e
     by_case false e =
-        let s = stood earlier (retirements earlier) x.by.index (loaded_by k m) x.by.token loaded_serials here in
+        let here = first_here f in
+        let s = stood earlier (retirements earlier) f.index (loaded_by k m) f.token loaded_serials here.1 in
         let low = s.low in
-        let above = place_lt earlier x.by.token.cell.serial j s.alive (omega (arith, le)) in
+        let above = place_le earlier f.token.cell.serial j le in
         let below = place_lt earlier j (next_after m.next m.slots (new_by k m)) e lt in
         let u = token_of earlier (retirements earlier) j (loaded_by k m) loaded_serials e (omega (arith, low, above)) (omega (arith, below, loaded_count)) in
         let serial = u.3 in
-        elim (cases_lt u.0 x.by.index) [
-          | inl less ↦ flushed_now row earlier j (ap (λ i. has_serial row.flushed i) (sym serial) ∙ flushes_first u.0 u.1 (omega (arith, less, n)) u.2)
-          | inr more ↦ elim (cases_lt x.by.index u.0) [
-            | inl past ↦ let o = token_order earlier (retirements earlier) x.by.index u.0 (loaded_by k m) x.by.token u.1 loaded_serials past here u.2 in absurd (omega (arith, o, serial, le))
-            | inr not ↦
-                let same : u.0 ≡ x.by.index = omega (arith, more, not) in
-                let token = one_token earlier (retirements earlier) u.0 x.by.index (loaded_by k m) u.1 x.by.token loaded_serials u.2 here (ap (λ (v : Token). v.cell.serial) (at_one u.0 x.by.index same u.2 here)) in
-                let is_ex = ap (λ (v : Token). v.cell.serial) token in
-                absurd (omega (arith, is_ex, serial, le))
-          ]
-        ] where
-          at_one : (a b : ℕ) → a ≡ b → {v w : Token} → slice_get (loaded_by k m) a ≡ Some (Some v) → slice_get (loaded_by k m) b ≡ Some (Some w) → v ≡ w
-          at_one a b e p q = cc
+        elim (cases_lt u.0 flushed) [
+          | inl less ↦ flushed_now row earlier j (ap (λ i. has_serial row.flushed i) (sym serial) ∙ flushes_first u.0 u.1 less u.2)
+          | inr more ↦
+              let under = here.0 in
+              let o = token_order earlier (retirements earlier) f.index u.0 (loaded_by k m) f.token u.1 loaded_serials (omega (arith, under, more)) here.1 u.2 in
+              absurd (omega (arith, o, serial, le))
+        ]
 
   -- the place of the next serial
   pub seen_count : place (row ∷ earlier) (next_after m.next m.slots (new_by k m)) ≡ retirements earlier + count (seen_by k m)
-  seen_count = by_case (turn_by k m) refl where
-    by_case : (o : Option Turn) → turn_by k m ≡ o → place (row ∷ earlier) (next_after m.next m.slots (new_by k m)) ≡ retirements earlier + count (seen_by k m)
-    by_case None e =
-        let n : struck (turn_by k m) ≡ 0 = ap (λ o. struck o) e in
-        place_same row earlier (next_after m.next m.slots (new_by k m)) (λ j lt. none_flushed n j)
-        ∙ loaded_count ∙ ap (λ i. retirements earlier + count (cleared i (loaded_by k m))) (sym n) where
-          none_flushed : struck (turn_by k m) ≡ 0 → (j : ℕ) → has_serial row.flushed j ≡ false
-          none_flushed n j = by_flag (has_serial row.flushed j) refl where
-            by_flag : (b : Bool) → has_serial row.flushed j ≡ b → has_serial row.flushed j ≡ false
-            by_flag false q = q
-            by_flag true q = let x = flushed_from j q in let lt = x.2 in absurd (omega (arith, lt, n))
-    by_case (Some turn) e =
-        let x = turning k m.fetch (loaded_by k m) turn e in
-        let z : 0 + x.by.index ≡ x.by.index = omega arith in
-        let n : struck (turn_by k m) ≡ x.by.index = ap (λ o. struck o) e ∙ x.by.stage ∙ z in
-        let here = here_of (loaded_by k m) x.by.older x.by.token x.by.index x.by.rest in
-        let fresh = loaded_fresh x.by.index x.by.token here in
-        let gap : (g : ℕ) × (suc x.by.token.cell.serial + g ≡ next_after m.next m.slots (new_by k m)) = (next_after m.next m.slots (new_by k m) - suc x.by.token.cell.serial, omega (arith, fresh)) in
-        let all = place_over (row ∷ earlier) (suc x.by.token.cell.serial) gap.0 (λ j le lt. over turn x n j le (omega (arith, lt, gap.1))) in
-        let kept = none_below x.by.index x.by.token (omega (arith, n)) here in
-        let alive = flushed_same row earlier x.by.token.cell.serial (kept x.by.token.cell.serial (omega arith)) ∙ (stood earlier (retirements earlier) x.by.index (loaded_by k m) x.by.token loaded_serials here).alive in
-        let one = place_suc (row ∷ earlier) x.by.token.cell.serial alive in
-        let seen_here = cleared_get (struck (turn_by k m)) x.by.index (loaded_by k m) (omega (arith, n)) struck_inside ∙ here in
-        let tail = cleared_drop (struck (turn_by k m)) x.by.index (loaded_by k m) (omega (arith, n)) struck_inside ∙ x.by.rest in
-        let o = subst (λ l. Serials earlier (retirements earlier) l) x.by.rest (serials_drop earlier (retirements earlier) x.by.index (loaded_by k m) loaded_serials) in
-        let c = cleared_count (struck (turn_by k m)) (loaded_by k m) struck_inside ∙ ap (λ i. count (drop i (loaded_by k m))) n ∙ ap count x.by.rest in
-        let p = place_same row earlier x.by.token.cell.serial (λ j lt. kept j (omega (arith, lt))) ∙ o.0.0 in
-        ap (λ i. place (row ∷ earlier) i) (sym gap.1) ∙ all ∙ one ∙ omega (arith, p, c)
+  seen_count =
+      let c = cleared_count flushed (loaded_by k m) struck_inside in
+      elim (oldest_of (take flushed (loaded_by k m)) 0) [
+        | inl none ↦
+            let g = count_gap 0 flushed (loaded_by k m) (omega arith) (λ j t le lt e. none.1 j t (take_get flushed j (loaded_by k m) lt ∙ e)) in
+            let p = place_same row earlier (next_after m.next m.slots (new_by k m)) (λ j lt. none_flushed none.1 j) in
+            omega (arith, p, loaded_count, c, g)
+        | inr f ↦
+            let here = first_here f in
+            let fresh = loaded_fresh f.index f.token here.1 in
+            let gap : (g : ℕ) × (f.token.cell.serial + g ≡ next_after m.next m.slots (new_by k m)) = (next_after m.next m.slots (new_by k m) - f.token.cell.serial, omega (arith, fresh)) in
+            let all = place_over (row ∷ earlier) f.token.cell.serial gap.0 (λ j le lt. first_over f j le (omega (arith, lt, gap.1))) in
+            let older = slot_behind f.index (loaded_by k m) f.token here.1 in
+            let o = subst (λ l. Serials earlier (retirements earlier) l) older (serials_drop earlier (retirements earlier) f.index (loaded_by k m) loaded_serials) in
+            let under = here.0 in
+            let g = count_gap (suc f.index) flushed (loaded_by k m) (omega (arith, under)) (λ j t le lt e. f.last j t (omega (arith, le)) (take_get flushed j (loaded_by k m) lt ∙ e)) in
+            let p = place_same row earlier f.token.cell.serial (λ j lt. first_kept f j lt) ∙ o.0.0 in
+            ap (λ i. place (row ∷ earlier) i) (sym gap.1) ∙ all ∙ omega (arith, p, c, g)
+      ]
 
   -- the next serials are not flushed
   pub unflushed_next : (s : ℕ) → next_after m.next m.slots (new_by k m) ≤ s → is_flushed (row ∷ earlier) s ≡ false
@@ -234,36 +272,27 @@ module _ (k : Setting) (ready : IsReady k) (earlier : List Row) (m : Machine) (r
 
   -- whether a serial is retired is told by its place still
   pub before_retired : (s : ℕ) → is_flushed (row ∷ earlier) s ≡ false → is_retired earlier s ≡ nat_lt (place (row ∷ earlier) s) (retirements earlier)
-  before_retired s alive = inv.retired s (unflushed_before row earlier s alive) ∙ by_case (turn_by k m) refl where
+  before_retired s alive = inv.retired s (unflushed_before row earlier s alive) ∙ same_side where
     not_lt : (a b : ℕ) → b ≤ a → nat_lt a b ≡ false
     not_lt a b h = grind (arith, nat_tests)
 
-    by_case : (o : Option Turn) → turn_by k m ≡ o → nat_lt (place earlier s) (retirements earlier) ≡ nat_lt (place (row ∷ earlier) s) (retirements earlier)
-    by_case None e =
-        let n : struck (turn_by k m) ≡ 0 = ap (λ o. struck o) e in
-        ap (λ p. nat_lt p (retirements earlier)) (sym (place_same row earlier s (λ j lt. none_flushed n j))) where
-          none_flushed : struck (turn_by k m) ≡ 0 → (j : ℕ) → has_serial row.flushed j ≡ false
-          none_flushed n j = by_flag (has_serial row.flushed j) refl where
-            by_flag : (b : Bool) → has_serial row.flushed j ≡ b → has_serial row.flushed j ≡ false
-            by_flag false q = q
-            by_flag true q = let x = flushed_from j q in let lt = x.2 in absurd (omega (arith, lt, n))
-    by_case (Some turn) e =
-        let x = turning k m.fetch (loaded_by k m) turn e in
-        let z : 0 + x.by.index ≡ x.by.index = omega arith in
-        let n : struck (turn_by k m) ≡ x.by.index = ap (λ o. struck o) e ∙ x.by.stage ∙ z in
-        let here = here_of (loaded_by k m) x.by.older x.by.token x.by.index x.by.rest in
-        let kept = none_below x.by.index x.by.token (omega (arith, n)) here in
-        let st = stood earlier (retirements earlier) x.by.index (loaded_by k m) x.by.token loaded_serials here in
-        let low = st.low in
-        elim (cases_lt x.by.token.cell.serial s) [
-          | inl above ↦
-              let a = place_le earlier x.by.token.cell.serial s (omega (arith, above)) in
-              let b = place_le (row ∷ earlier) x.by.token.cell.serial s (omega (arith, above)) in
-              let same = place_same row earlier x.by.token.cell.serial (λ j lt. kept j (omega (arith, lt))) in
-              not_lt (place earlier s) (retirements earlier) (omega (arith, a, low))
-              ∙ sym (not_lt (place (row ∷ earlier) s) (retirements earlier) (omega (arith, b, same, low)))
-          | inr below ↦ ap (λ p. nat_lt p (retirements earlier)) (sym (place_same row earlier s (λ j lt. kept j (omega (arith, lt, below)))))
-        ]
+    same_side : nat_lt (place earlier s) (retirements earlier) ≡ nat_lt (place (row ∷ earlier) s) (retirements earlier)
+    same_side = elim (oldest_of (take flushed (loaded_by k m)) 0) [
+      | inl none ↦ ap (λ p. nat_lt p (retirements earlier)) (sym (place_same row earlier s (λ j lt. none_flushed none.1 j)))
+      | inr f ↦
+          let here = first_here f in
+          let st = stood earlier (retirements earlier) f.index (loaded_by k m) f.token loaded_serials here.1 in
+          let low = st.low in
+          elim (cases_lt f.token.cell.serial s) [
+            | inl above ↦
+                let a = place_le earlier f.token.cell.serial s (omega (arith, above)) in
+                let b = place_le (row ∷ earlier) f.token.cell.serial s (omega (arith, above)) in
+                let same = place_same row earlier f.token.cell.serial (λ j lt. first_kept f j lt) in
+                not_lt (place earlier s) (retirements earlier) (omega (arith, a, low))
+                ∙ sym (not_lt (place (row ∷ earlier) s) (retirements earlier) (omega (arith, b, same, low)))
+            | inr below ↦ ap (λ p. nat_lt p (retirements earlier)) (sym (place_same row earlier s (λ j lt. first_kept f j (omega (arith, lt, below)))))
+          ]
+    ]
 
   -- a serial that is retired has no token, and so is not flushed
   pub kept_alive : (s : ℕ) → is_flushed earlier s ≡ false → is_retired earlier s ≡ true → is_flushed (row ∷ earlier) s ≡ false

@@ -10,9 +10,11 @@ use Rattle.rv_seq.specs.declared.commit.Commit.{Commit}
 use Rattle.rv_seq.specs.declared.commit.Slot.{Slot}
 use Rattle.rv_seq.specs.declared.commit.Slot.TheVariants.{Absent, Now, Later}
 use Rattle.rv_seq.specs.Commits.{applied, with_x}
-use Rattle.rv_seq.specs.Runs.{run_with}
+use Rattle.rv_seq.specs.Runs.{start, run_with}
 use Rattle.rv_seq.specs.States.{first as first_state}
-use Rattle.rv_seq.specs.Steps.{word_at}
+use Rattle.rv_seq.specs.Steps.{word_at, after}
+use Rattle.ix_extension.specs.Extensions.{ExtensionTree}
+use Rattle.rv_lawful.specs.Settings.{entries_at}
 use Rattle.rv_asks.specs.declared.asks.Asks.{Asks}
 use Rattle.rv_core.specs.declared.Shape.{Shape}
 use Rattle.rv_tried.specs.declared.trial.Trial.{Trial}
@@ -20,16 +22,16 @@ use Rattle.rv_holds.specs.declared.token.Token.{Token}
 use Rattle.rv_holds.specs.Tokens.{Slots, or_else}
 use Rattle.rv_holds.specs.Forwarding.{x_tried, reach, passed, forwarded, operand_in}
 use Rattle.rv_holds.specs.Holds.{oldest, withholds, withholder, operand, waits_for, spawns_at}
-use Rattle.rv_engine.specs.Settings.{Setting, shape_of}
+use Rattle.rv_engine.specs.Settings.{Setting, shape_of, tree_of}
 use Rattle.rv_lawful.specs.Forwarding.{value_in, x_written, is_there, writes_x}
 use Rattle.rv_lawful.specs.Outstanding.{is_register}
 use Rattle.rv_lawful.specs.Sight.{asked}
 use Rattle.rv_sight.specs.Written.{IsAskedFor}
 use Rattle.rv_sight.proofs.Natively.{natively}
-use Rattle.rv_machine.specs.Placed.{run, count, expected, IsPlaced, Placed, IsReady}
+use Rattle.rv_machine.specs.Placed.{run, entries_of, count, expected, IsPlaced, Placed, IsReady}
 use Rattle.rv_machine.proofs.Deciding.{or_else_none, or_else_none_b, if_none, test_eq, test_ne, word_of_run, settled_past}
 use Rattle.rv_machine.proofs.Operands.{OnPath, path_word}
-use Rattle.rv_machine.proofs.Runs.{answer, step_word, after_step, run_done, run_stopped, run_other, run_zero}
+use Rattle.rv_machine.proofs.Runs.{answer, step_word, after_step, entered_keeps, entry_x, next_x, run_other, run_zero}
 use Rattle.rv_machine.proofs.Unowed.{x_target}
 
 -- ---- what a step writes to its x register
@@ -43,12 +45,18 @@ with_x_length x rd Absent = refl
 with_x_length x rd (Now value) = length-set x rd value
 with_x_length x rd Later = refl
 
+start_length : (x : ExtensionTree) (handler : ℕ) (lines : Option (List ℕ)) (places : List ℕ) → length (start x (entries_at handler lines places)).x ≡ 32
+unfolding first_state
+start_length x handler None places = refl
+start_length x handler (Some l) places = refl
+
 -- there are 32 x registers
 run_length : (k : Setting) (p : ℕ) → length (run k p).x ≡ 32
-unfolding run_with first_state
-run_length k zero = refl
+unfolding run_with
+run_length k zero =
+    entered_keeps k 0 (λ s. length s.x ≡ 32) (start (tree_of k) (entries_of k)) (λ t h. ap length (entry_x (shape_of k).trap t) ∙ h) (start_length (tree_of k) (shape_of k).trap k.lines k.places)
 run_length k (suc p) =
-    after_step k p (λ s. length s.x ≡ 32) (run_length k p)
+    after_step k p (λ s. length s.x ≡ 32) (λ t h. ap length (entry_x (shape_of k).trap t) ∙ h) (run_length k p)
     (λ c h. ap length (x_of c (run k p)) ∙ with_x_length (run k p).x c.rd_index c.rd ∙ run_length k p)
 
 asked_for : (k : Setting) (ready : IsReady k) (p word : ℕ) (c : Commit) → word_at k.image (run k p).pc ≡ Some word → answer k p ≡ Done c → IsAskedFor (asked k.design word) c
@@ -79,8 +87,9 @@ run_given k ready p word reg w dest ne lt = by_answer (answer k p) refl where
   by_answer (Done c) h =
       by_slot c h c.rd refl
       ∙ ap (λ l. slice_index l reg) (sym (x_of c (run k p)))
-      ∙ ap (λ (s : Arch). slice_index s.x reg) (sym (run_done k p c h))
-  by_answer (Stopped stop) h = ap (λ (s : Arch). slice_index s.x reg) (sym (run_stopped k p stop h))
+      ∙ ap (λ a. slice_index (after (tree_of k) (run k p) a).x reg) (sym h)
+      ∙ ap (λ l. slice_index l reg) (sym (next_x k p))
+  by_answer (Stopped stop) h = ap (λ a. slice_index (after (tree_of k) (run k p) a).x reg) (sym h) ∙ ap (λ l. slice_index l reg) (sym (next_x k p))
 
 -- it is a word
 given_below : (k : Setting) (ready : IsReady k) (p word reg : ℕ) → word_at k.image (run k p).pc ≡ Some word → (asked k.design word).destination ≡ reg → reg ≢ 0 → reg < 32 → IfSome (x_written (answer k p)) (λ value. value < 2 ^ 32)

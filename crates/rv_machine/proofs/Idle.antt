@@ -11,9 +11,9 @@ use Rattle.rv_engine.specs.Owing.{outstanding_of, board_of, holder_for}
 use Rattle.rv_engine.specs.Settings.{Setting, Machine, outstanding_in}
 use Rattle.rv_lawful.specs.Outstanding.{touches}
 
--- nothing is met
-abbrev pub alone : Beside
-alone = record { board = None; port = None; left = None }
+-- nothing is met but of the interrupt line
+abbrev pub alone : Bool → Beside
+alone now = record { board = None; port = None; left = None; trap = now }
 
 if_none : (b : Bool) → ◌≡◌ {A = Option ℕ} (if b then None else None) None
 if_none true = refl

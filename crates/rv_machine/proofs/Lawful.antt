@@ -1,6 +1,14 @@
 -- Each row that the machine makes is lawful.
+use Rattle.rv_seq.specs.declared.arch.Arch.{Arch}
+use Rattle.std.proofs.lemmas.List.{length-drop}
+use Rattle.rv_lawful.specs.Entering.{is_interrupted, IsClearAfter, IsEntry, TakesRightly}
+use Rattle.rv_machine.specs.Left.{Left}
+use Rattle.rv_machine.proofs.Before.{alike_back}
+use Rattle.rv_machine.proofs.Flushing.{alike_get}
+use Rattle.rv_machine.proofs.Repaid.{repaid_pc}
+use Rattle.rv_machine.proofs.Entered.{first_holds, interrupted_is, entry_seen, entry_struck, get_drop}
 use Rattle.std.proofs.Common.{◌≡◌, ℕ, zero, suc, ◌+◌, ◌<◌, ◌≤◌, List, [], ◌∷◌, drop, length, Option, Some, None, Bool, true, false, refl, sym, ap, ◌∙◌, subst, arith, ◌⊎◌, inl, inr}
-use Rattle.std.specs.Prelude.{◌||◌, if◌then◌else◌, is_some, nat_lt, slice_get, replicate}
+use Rattle.std.specs.Prelude.{◌||◌, if◌then◌else◌, is_some, nat_lt, slice_get, replicate, is_none, not, ◌&&◌}
 use Rattle.std.proofs.lemmas.Bool.{cases_lt}
 use Rattle.std.proofs.lemmas.Bool.Decides.{nat_tests}
 use Rattle.rv_seq.specs.declared.commit.Commit.{Commit}
@@ -10,7 +18,7 @@ use Rattle.rv_seq.specs.declared.answer.StepAnswer.TheVariants.{Stopped}
 use Rattle.rv_seq.specs.Steps.{word_at}
 use Rattle.rv_trace.specs.declared.row.Cell.{Cell}
 use Rattle.rv_trace.specs.declared.row.Row.{Row}
-use Rattle.rv_trace.specs.declared.row.Hold.TheVariants.{Late}
+use Rattle.rv_trace.specs.declared.row.Hold.TheVariants.{Late, Trap}
 use Rattle.rv_trace.specs.Trace.{has_serial, place, retirements, newest}
 use Rattle.rv_trace.specs.RowParts.{name_of, names_of, stays, leaves, comes, fetched, front, MovesInto, AreEmpty}
 use Rattle.rv_holds.specs.declared.token.Token.{Token}
@@ -18,9 +26,9 @@ use Rattle.rv_asks.specs.declared.asks.Asks.{Asks}
 use Rattle.rv_holds.specs.declared.flushing.Turn.{Turn}
 use Rattle.rv_holds.specs.Tokens.{Slots, or_else, stop_of, cell_of, cells_of}
 use Rattle.rv_holds.specs.Holds.{is_late, stops_now}
-use Rattle.rv_holds.specs.Flushing.{struck, slot_stop, remains}
-use Rattle.rv_engine.specs.Settings.{Setting, Machine, shape_of}
-use Rattle.rv_engine.specs.Rows.{fill_first, going, retired_of, new_by, loaded_by, turn_by, seen_by, fetch_by, left_by, is_owing, outstanding_by}
+use Rattle.rv_holds.specs.Flushing.{struck, slot_stop, remains, redirect_of}
+use Rattle.rv_engine.specs.Settings.{Setting, Machine, shape_of, interrupted_by}
+use Rattle.rv_engine.specs.Rows.{fill_first, going, retired_of, new_by, loaded_by, turn_by, seen_by, fetch_by, left_by, is_owing, outstanding_by, entered_by, written_by, machine_after}
 use Rattle.rv_lawful.specs.Settings as Lawful
 use Rattle.rv_lawful.specs.LawfulTrace.{fetch_address, next_serial, new_cell, Moves, Retires, WaitsForJump, StopsRun, IsEmptyAfter, StopsRightly, IsInForm, LawfulRow}
 use Rattle.rv_lawful.specs.Outstanding.{outstanding}
@@ -36,8 +44,10 @@ use Rattle.rv_machine.proofs.OwnHolds.{then_stops, stops_then}
 use Rattle.rv_machine.proofs.Holds.{shows}
 use Rattle.rv_machine.proofs.Stopping.{Stopper, stopper, slot_stop_at, remains_none, none_remains}
 use Rattle.rv_machine.proofs.Moving.{token_name, fill_moves, new_name, last_slot}
-use Rattle.rv_machine.proofs.Clearing.{cleared_length, unheld_names, shown_as}
-use Rattle.rv_machine.proofs.Turns.{Turner, turner, settles_parts, settles_where, struck_inside}
+use Rattle.rv_machine.proofs.Clearing.{cleared_length, unheld_names, shown_as, cleared_get}
+use Rattle.rv_machine.proofs.Turns.{Turner, turner, settles_parts, settles_where, plain_turn, entry_turn}
+use Rattle.rv_machine.proofs.Before as B
+use Rattle.rv_machine.proofs.Past as P
 use Rattle.rv_machine.proofs.Succeeding as S
 use Rattle.rv_lawful.specs.Sight.{asked}
 use Rattle.rv_tried.specs.Parts.{shown}
@@ -75,7 +85,7 @@ module _ (k : Setting) (ready : IsReady k) (earlier : List Row) (m : Machine) (r
   flushed = struck (turn_by k m)
 
   pub seen_length : length (seen_by k m) ≡ (shape_of k).stages
-  seen_length = cleared_length flushed (loaded_by k m) (struck_inside (shape_of k) m.fetch (loaded_by k m)) ∙ made.long
+  seen_length = cleared_length flushed (loaded_by k m) (B.struck_inside k ready earlier m made.inv) ∙ made.long
 
   stands_at : (stage : ℕ) → flushed ≤ stage → slice_get (Lawful.stages_of (judged k) row) stage ≡ slice_get (cells_of (seen_by k m)) stage
   stands_at = S.stands_at k ready earlier m row made
@@ -112,7 +122,7 @@ module _ (k : Setting) (ready : IsReady k) (earlier : List Row) (m : Machine) (r
 
   -- past all flushed stages
   last_left : (stage : ℕ) → suc stage ≡ (shape_of k).stages → flushed ≤ length (seen_by k m)
-  last_left stage e = let a = struck_inside (shape_of k) m.fetch (loaded_by k m) in omega (arith, a, seen_length, made.long)
+  last_left stage e = let a = B.struck_inside k ready earlier m made.inv in omega (arith, a, seen_length, made.long)
 
   row_retires : (stage : ℕ) → suc stage ≡ (shape_of k).stages → Retires (judged k) row stage
   row_retires stage e =
@@ -234,14 +244,18 @@ module _ (k : Setting) (ready : IsReady k) (earlier : List Row) (m : Machine) (r
 
   -- so a cell that stops the run is not flushed
   unflushed : (stage : ℕ) (c : Cell) (stop : Stop) → Lawful.Stands (judged k) row stage c → StopsRun (judged k) earlier row stage c stop → flushed ≤ stage
-  unflushed stage c stop stands s = elim (cases_lt stage flushed) [ inl lt ↦ by_turn (turn_by k m) refl lt | inr le ↦ le ] where
-    by_turn : (o : Option Turn) → turn_by k m ≡ o → stage < struck o → flushed ≤ stage
-    by_turn None e lt = absurd (omega arith)
-    by_turn (Some turn) e lt =
-        let x = turner (shape_of k) m.fetch (loaded_by k m) turn e in
+  unflushed stage c stop stands s = elim (cases_lt stage flushed) [ inl lt ↦ by_entry (entered_by k m) refl lt | inr le ↦ le ] where
+    by_turn : entered_by k m ≡ false → (o : Option Turn) → turn_by k m ≡ o → stage < struck o → flushed ≤ stage
+    by_turn plain None e lt = absurd (omega arith)
+    by_turn plain (Some turn) e lt =
+        let x = turner (shape_of k) m.fetch (loaded_by k m) turn (sym (plain_turn k m plain) ∙ e) in
         let at = s.executing in
         let w = jump_ahead turn x e c (omega (arith, lt, at)) (subst (λ n. Lawful.Stands (judged k) row n c) at stands) in
         absurd (s.free (Late x.token.cell.serial) (subst (λ n. WaitsForJump (judged k) earlier row n c x.token.cell.serial) (sym at) w))
+
+    by_entry : (b : Bool) → entered_by k m ≡ b → stage < flushed → flushed ≤ stage
+    by_entry false e lt = by_turn e (turn_by k m) refl lt
+    by_entry true e lt = absurd (s.free Trap (record { executing = s.executing; interrupted = sym (interrupted_is k earlier m made.inv) ∙ first_holds (interrupted_by k m) _ e }))
 
   row_stops : StopsRightly (judged k) earlier row
   row_stops =
@@ -275,15 +289,57 @@ module _ (k : Setting) (ready : IsReady k) (earlier : List Row) (m : Machine) (r
   row_form : IsInForm (judged k) row
   row_form = record { behind = subst AreEmpty (sym made.is.behind) (empty_drop (shape_of k).stages 5); ascending = made.ascends }
 
+  -- Entries
+
+  -- where none stands above EX after the row, none remains there
+  cleared_remains : IsClearAfter (judged k) row → remains (drop (suc (shape_of k).ex) (loaded_by k m)) ≡ false
+  cleared_remains clear = none_remains (drop (suc (shape_of k).ex) (loaded_by k m)) (λ n c q.
+      let t = token_here (drop (suc (shape_of k).ex) (loaded_by k m)) n c q in
+      let u = alike_get (drop (suc (shape_of k).ex) (seen_by k m)) (drop (suc (shape_of k).ex) (loaded_by k m)) n t.0 (alike_back (drop (suc (shape_of k).ex) (loaded_by k m)) (drop (suc (shape_of k).ex) (seen_by k m)) (P.kept_past k ready earlier m row made.inv made.is)) t.1 in
+      let there : slice_get (seen_by k m) (suc (shape_of k).ex + n) ≡ Some (Some u.0) = sym (get_drop (suc (shape_of k).ex) n (seen_by k m)) ∙ u.1 in
+      let le = left_from (suc (shape_of k).ex + n) u.0 there in
+      let same : slice_get (seen_by k m) (suc (shape_of k).ex + n) ≡ slice_get (loaded_by k m) (suc (shape_of k).ex + n) = cleared_get flushed (suc (shape_of k).ex + n) (loaded_by k m) le (B.struck_inside k ready earlier m made.inv) in
+      let here : slice_get (seen_by k m) (suc (shape_of k).ex + n) ≡ Some (Some t.0) = same ∙ sym (get_drop (suc (shape_of k).ex) n (loaded_by k m)) ∙ t.1 in
+      let stands : Lawful.Stands (judged k) row (suc (shape_of k).ex + n) c = stands_at (suc (shape_of k).ex + n) le ∙ cell_here (seen_by k m) (suc (shape_of k).ex + n) t.0 here ∙ ap (λ (d : Cell). Some (Some d)) t.2 in
+      let alive = ap (λ (d : Cell). has_serial row.flushed d.serial) (sym t.2) ∙ made.kept (suc (shape_of k).ex + n) t.0 here in
+      let long = length-drop (suc (shape_of k).ex) (loaded_by k m) in
+      let all = made.long in
+      let a = ready.ex_last in
+      elim (clear (suc (shape_of k).ex + n) c (omega arith) stands) [ inl x ↦ cc (alive, x) | inr x ↦ (let last = x.0 in omega (arith, last, long, all, a), x.1) ])
+
+  row_takes : (left : Left k earlier m row) → TakesRightly (judged k) earlier row
+  row_takes left =
+      record {
+        taken = λ at h. by_entry at (entered_by k m) refl (sym made.is.taken ∙ h);
+        due = λ now clear. by_due now clear (entered_by k m) refl;
+      } where
+        same_number : (a b : ℕ) → ◌≡◌ {A = Option ℕ} (Some a) (Some b) → a ≡ b
+        same_number a b e = cc
+
+        by_entry : (at : ℕ) (b : Bool) → entered_by k m ≡ b → (if b then Some (written_by k m).pc else None) ≡ Some at → IsEntry (judged k) earlier row at
+        by_entry at false e h = cc
+        by_entry at true e h =
+            record {
+              interrupted = sym (interrupted_is k earlier m made.inv) ∙ first_holds (interrupted_by k m) _ e;
+              clear = λ stage c lt stands. empty_after (entry_seen k ready m made.long e) stage c stands;
+              value = sym (same_number (written_by k m).pc at h) ∙ sym (repaid_pc (machine_after k m).owed (written_by k m)) ∙ ap (λ (s : Arch). s.pc) left.applied;
+              flushed = λ stage c le stands. let n = entry_struck k ready m made.long e in (S.gone_at k ready earlier m row made stage c (omega (arith, le, n)) stands).1;
+              redirected = made.is.redirect ∙ ap (λ o. redirect_of o) (entry_turn k m e);
+            }
+
+        by_due : is_interrupted (judged k) earlier ≡ true → IsClearAfter (judged k) row → (b : Bool) → entered_by k m ≡ b → is_some row.taken ≡ true
+        by_due now clear true e = ap (λ o. is_some o) (S.taken_at k ready earlier m row made e)
+        by_due now clear false e = cc (sym e ∙ ap (λ b. b && not (remains (drop (suc (shape_of k).ex) (loaded_by k m)))) (interrupted_is k earlier m made.inv ∙ now), ap (λ b. not b) (cleared_remains clear))
+
   -- the row is lawful
-  pub lawful : LawfulRow (judged k) earlier row
-  lawful = record {
+  pub lawful : (left : Left k earlier m row) → LawfulRow (judged k) earlier row
+  lawful left = record {
     form = row_form;
     moves = row_moves;
     retires = row_retires;
     holds = λ stage c stands. shows k ready earlier row (seen_by k m) made.told stage c stands;
     successors = S.row_successors k ready earlier m row made;
     units = writes_unit k ready earlier m row made.inv made.is;
-    untaken = made.is.taken;
+    takes = row_takes left;
     stops = row_stops;
   }

@@ -56,12 +56,17 @@ pub mod Meeting
 pub mod Agreeing
 pub mod EachRow
 pub mod First
+pub mod EntryNext
 pub mod GoesOn
 pub mod Lawful
 pub mod NextCounts
+pub mod Answered
 pub mod OneMore
 pub mod Succeeding
 pub mod Turns
+pub mod Entered
+pub mod Carried
+pub mod Nearing
 pub mod WideFuture
 pub mod Promised
 pub mod Worded

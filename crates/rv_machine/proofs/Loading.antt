@@ -15,7 +15,7 @@ use Rattle.rv_tried.specs.declared.trial.Trial.{Trial}
 use Rattle.rv_tried.specs.Tried.{tried}
 use Rattle.rv_holds.specs.declared.token.Token.{Token}
 use Rattle.rv_holds.specs.Tokens.{Slots, or_else, stop_in, stop_of}
-use Rattle.rv_holds.specs.Holds.{oldest, is_late, does_store, operand, waits_for, operand_hold, custom, waits_for_custom, first_from, custom_hold, late, late_hold, waiting_hold, staying, drain, drain_hold, store_ahead, store_hold, memory_hold, own_hold, stops_now, is_blocked, shown, least_from, board_hold, reading_hold, ending_hold, left_behind, entering, numbered, board, lower_of, spawner, register_count, register_at}
+use Rattle.rv_holds.specs.Holds.{oldest, is_late, does_store, operand, waits_for, operand_hold, custom, waits_for_custom, first_from, custom_hold, late, late_hold, waiting_hold, staying, drain, drain_hold, store_ahead, store_hold, memory_hold, own_hold, stops_now, is_blocked, shown, least_from, board_hold, reading_hold, ending_hold, left_behind, entering, numbered, board, lower_of, spawner, register_count, register_at, trap_hold, leaving_hold}
 use Rattle.rv_engine.specs.Settings.{Setting, shape_of, tree_of}
 use Rattle.rv_engine.specs.Rows.{tried_with, is_loading, loading}
 use Rattle.rv_lawful.specs.Sight.{asked, IsSeen, IsEarly}
@@ -34,7 +34,7 @@ use Rattle.rv_lawful.specs.Outstanding.{has_target, touches}
 abbrev own_by : Shape → ℕ → Token → Option Hold → Option ℕ → Option ℕ → Option Hold
 own_by k stage t waiting stays stores =
     or_else waiting
-    (or_else (if stage == k.ex then (if is_some (stop_of t) then drain stays else None) else None)
+    (or_else (if stage == k.ex then or_else (trap_hold t) (if is_some (stop_of t) then drain stays else None) else None)
     (or_else (if stage == k.mem then or_else (memory_hold t) (if t.asks.loads then store_ahead stores else None) else None)
     (if suc stage == k.stages then ending_hold t else None)))
 
@@ -51,7 +51,7 @@ own_tried k stage x memory i t older e =
       by_test : Token → Bool → Option Hold
       by_test u b =
           or_else (waiting_hold k stage u older)
-          (or_else (if b then drain_hold u older else None)
+          (or_else (if b then leaving_hold u older else None)
           (or_else (if stage == k.mem then or_else (memory_hold u) (store_hold older u.asks) else None) (if suc stage == k.stages then ending_hold u else None)))
 
 -- ---- holds after the loads

@@ -23,7 +23,7 @@ owing_empty k rows [] [] (w ∷ owed) h e = absurd h
 owing_empty k rows (o ∷ outs) [] owed h e = absurd h
 owing_empty k rows outs (x ∷ entries) owed h e = cc
 
-module _ (k : Setting) where
+module _ (k : Setting) (now : Bool) where
   abbrev none : Outstanding
   none = outstanding_of k.design [] []
 
@@ -34,21 +34,21 @@ module _ (k : Setting) where
   free_port : (a : Asks) → retiring_hold none a ≡ None
   free_port a = ap (λ o. or_else o (port_hold None a.destination)) (not_frozen a.unit)
 
-  pub alone_beside : (stage : ℕ) (a : Asks) → beside_of (shape_of k) none stage a ≡ alone
+  pub alone_beside : (stage : ℕ) (a : Asks) → beside_of (shape_of k) now none stage a ≡ alone now
   alone_beside stage a =
-      ap (λ b. record { board = b; port = if suc stage == (shape_of k).stages then retiring_hold none a else None; left = None }) (unless_board (stage == (shape_of k).rd) a)
-      ∙ ap (λ p. record { board = None; port = if suc stage == (shape_of k).stages then p else None; left = None }) (free_port a)
+      ap (λ b. record { board = b; port = if suc stage == (shape_of k).stages then retiring_hold none a else None; left = None; trap = now }) (unless_board (stage == (shape_of k).rd) a)
+      ∙ ap (λ p. record { board = None; port = if suc stage == (shape_of k).stages then p else None; left = None; trap = now }) (free_port a)
       ∙ by_case (suc stage == (shape_of k).stages) where
-        by_case : (b : Bool) → ◌≡◌ {A = Beside} (record { board = None; port = if b then None else None; left = None }) alone
+        by_case : (b : Bool) → ◌≡◌ {A = Beside} (record { board = None; port = if b then None else None; left = None; trap = now }) (alone now)
         by_case true = refl
         by_case false = refl
 
   -- tokens that meet what is outstanding meet nothing then
-  pub are_lone : (o : Outstanding) (l : Slots) → o ≡ none → ((n : ℕ) (t : Token) (older : Slots) → drop n l ≡ Some t ∷ older → (stage : ℕ) × (t.beside ≡ beside_of (shape_of k) o stage t.asks)) → AreLone l
+  pub are_lone : (o : Outstanding) (l : Slots) → o ≡ none → ((n : ℕ) (t : Token) (older : Slots) → drop n l ≡ Some t ∷ older → (stage : ℕ) × (t.beside ≡ beside_of (shape_of k) now o stage t.asks)) → AreLone now l
   are_lone o [] e f = tt
   are_lone o (None ∷ l) e f = are_lone o l e (λ n t older d. f (suc n) t older d)
   are_lone o (Some t ∷ l) e f = (
-    let x = f 0 t l refl in x.1 ∙ ap (λ z. beside_of (shape_of k) z x.0 t.asks) e ∙ alone_beside x.0 t.asks,
+    let x = f 0 t l refl in x.1 ∙ ap (λ z. beside_of (shape_of k) now z x.0 t.asks) e ∙ alone_beside x.0 t.asks,
     are_lone o l e (λ n u older d. f (suc n) u older d),
   )
 

@@ -1,4 +1,6 @@
 -- Where the tokens stand after a row, and the address that is fetched next.
+use Rattle.rv_machine.proofs.Entered.{entry_empties, empty_placed}
+use Rattle.rv_machine.proofs.Turns.{plain_turn}
 use Rattle.std.proofs.Common.{◌≡◌, ℕ, zero, suc, ◌+◌, ◌-◌, ◌%◌, ◌^◌, ◌<◌, ◌≤◌, List, [], ◌∷◌, drop, take, length, Option, Some, None, Bool, true, false, refl, sym, ap, ◌∙◌, subst, arith}
 use Rattle.std.specs.Prelude.{if◌then◌else◌, ◌==◌, is_some, nat_lt}
 use Rattle.std.proofs.lemmas.Bool.Decides.{nat_tests}
@@ -9,7 +11,7 @@ use Rattle.rv_holds.specs.declared.flushing.Turn.{Turn}
 use Rattle.rv_holds.specs.Tokens.{Slots}
 use Rattle.rv_holds.specs.Flushing.{next_of, settled, nearest, mismatch, struck, redirect_of, cleared, fetch_after}
 use Rattle.rv_engine.specs.Settings.{Setting, Machine, shape_of}
-use Rattle.rv_engine.specs.Rows.{unless, waited, going, kept, advanced, leaving, first_slot, loaded_by, turn_by, seen_by, left_by, fetch_by}
+use Rattle.rv_engine.specs.Rows.{unless, waited, going, kept, advanced, leaving, first_slot, loaded_by, turn_by, seen_by, left_by, fetch_by, entered_by}
 use Rattle.rv_machine.specs.Placed.{run, one_more, count, tail, settling_stage, expected_after, expected, Placed, IsReady, Inv}
 use Rattle.rv_machine.specs.Told.{NoStops}
 use Rattle.rv_machine.proofs.Deciding.{test_eq}
@@ -58,7 +60,7 @@ module _ (k : Setting) (ready : IsReady k) (earlier : List Row) (m : Machine) (i
 
   -- ---- where nothing is turned
 
-  module _ (straight : turn_by k m ≡ None) where
+  module _ (plain : entered_by k m ≡ false) (straight : turn_by k m ≡ None) where
     same : seen_by k m ≡ loaded_by k m
     same = ap (λ o. cleared (struck o) (loaded_by k m)) straight
 
@@ -66,14 +68,14 @@ module _ (k : Setting) (ready : IsReady k) (earlier : List Row) (m : Machine) (i
     guess_right n t older at e free =
         let s : Settles k (0 + n) t older = record { at = at; free = free; runs = (seen_rest k r 0 n (seen_by k m) (Some t ∷ older) all e).stops.0 } in
         let found = settled_is k ready 0 n (seen_by k m) older t (omega (arith, length_is)) all.decided e s in
-        let turned : mismatch m.fetch (loaded_by k m) (settled (shape_of k) 0 (seen_by k m)) ≡ None = ap (λ l. mismatch m.fetch (loaded_by k m) (settled (shape_of k) 0 l)) same ∙ straight in
+        let turned : mismatch m.fetch (loaded_by k m) (settled (shape_of k) 0 (seen_by k m)) ≡ None = ap (λ l. mismatch m.fetch (loaded_by k m) (settled (shape_of k) 0 l)) same ∙ sym (plain_turn k m plain) ∙ straight in
         let equal = equal_test (next_of t) (nearest m.fetch (take (0 + n) (loaded_by k m))) (record { stage = 0 + n; address = next_of t }) (sym (ap (λ o. mismatch m.fetch (loaded_by k m) o) found) ∙ turned) in
         let some : 0 < n = positive n t at in
         let z : 0 + n ≡ n = omega arith in
         let rest = subst (λ b. AreSeen k r b (Some t ∷ older)) z (seen_rest k r 0 n (seen_by k m) (Some t ∷ older) all e) in
         let at' : n ≡ settling_stage k t = sym z ∙ at in
         let e' : drop n (loaded_by k m) ≡ Some t ∷ older = ap (λ l. drop n l) (sym same) ∙ e in
-        sym (settled_next k ready r n t older rest (subst (λ b. Settles k b t older) z s))
+        sym (settled_next k ready r n t older inv.past rest (subst (λ b. Settles k b t older) z s))
         ∙ equal
         ∙ ap (λ b. nearest m.fetch (take b (loaded_by k m))) z
         ∙ nearest_first k r n m.fetch (loaded_by k m) (B.loaded_placed k ready earlier m inv) loaded_fetch some (long n t older e')
@@ -112,9 +114,9 @@ module _ (k : Setting) (ready : IsReady k) (earlier : List Row) (m : Machine) (i
 
   -- ---- where the fetch is turned
 
-  module _ (turn : Turn) (turned : turn_by k m ≡ Some turn) where
+  module _ (plain : entered_by k m ≡ false) (turn : Turn) (turned : turn_by k m ≡ Some turn) where
     abbrev from : Turning k m.fetch (loaded_by k m) turn
-    from = turning k m.fetch (loaded_by k m) turn turned
+    from = turning k m.fetch (loaded_by k m) turn (sym (plain_turn k m plain) ∙ turned)
 
     abbrev n : ℕ
     n = from.by.index
@@ -207,7 +209,7 @@ module _ (k : Setting) (ready : IsReady k) (earlier : List Row) (m : Machine) (i
         let r' = r + one_more out 0 in
         ap (λ o. unless (redirect_of o) (fetch_after m.fetch (seen_by k m))) turned
         ∙ from.by.address
-        ∙ settled_next k ready r (0 + n) from.by.token from.by.older left now
+        ∙ settled_next k ready r (0 + n) from.by.token from.by.older inv.past left now
         ∙ sym (is_past (settling_stage k from.by.token) (0 + n) (run k (suc (r + count from.by.older))).pc from.by.token.guess now.at)
         ∙ ap (λ s. expected_after k (r + count from.by.older) (suc (0 + n)) s (expected k r (suc (0 + n)) from.by.older)) (sym going_is)
         ∙ sym (expected_advanced k ready r (suc (0 + n)) (going (Some from.by.token)) from.by.older short_rest left.decided.1 left.stops.1 behind_free right_past)
@@ -218,16 +220,25 @@ module _ (k : Setting) (ready : IsReady k) (earlier : List Row) (m : Machine) (i
         ∙ ap (λ l. expected k r' 1 (tail (advanced None l))) (sym seen_is)
         ∙ ap (λ o. expected k (r + one_more o 0) 1 (tail (advanced None (seen_by k m)))) (sym out_is)
 
+  -- ---- where the handler is entered
+
+  entry_seen : entered_by k m ≡ true → count (advanced None (seen_by k m)) ≡ 0
+  entry_seen e = entry_empties k ready m (B.loaded_length k ready earlier m inv) e
+
   -- the tokens stand in their places after the row
   pub next_placed : Placed k (r + one_more (left_by k m) 0) 0 (advanced None (seen_by k m))
-  next_placed = by_turn (turn_by k m) refl where
-    by_turn : (o : Option Turn) → turn_by k m ≡ o → Placed k (r + one_more (left_by k m) 0) 0 (advanced None (seen_by k m))
-    by_turn None e = straight_placed e
-    by_turn (Some turn) e = turned_placed turn e
+  next_placed = by_entry (entered_by k m) refl where
+    by_turn : entered_by k m ≡ false → (o : Option Turn) → turn_by k m ≡ o → Placed k (r + one_more (left_by k m) 0) 0 (advanced None (seen_by k m))
+    by_turn plain None e = straight_placed plain e
+    by_turn plain (Some turn) e = turned_placed plain turn e
+
+    by_entry : (b : Bool) → entered_by k m ≡ b → Placed k (r + one_more (left_by k m) 0) 0 (advanced None (seen_by k m))
+    by_entry false e = by_turn e (turn_by k m) refl
+    by_entry true e = empty_placed k (r + one_more (left_by k m) 0) 0 (advanced None (seen_by k m)) (entry_seen e)
 
   -- and the address that is fetched next is what is expected behind stage 0
-  pub next_fetch : fetch_by k m ≡ expected k (r + one_more (left_by k m) 0) 1 (tail (advanced None (seen_by k m)))
-  next_fetch = by_turn (turn_by k m) refl where
+  pub next_fetch : entered_by k m ≡ false → fetch_by k m ≡ expected k (r + one_more (left_by k m) 0) 1 (tail (advanced None (seen_by k m)))
+  next_fetch plain = by_turn (turn_by k m) refl where
     by_turn : (o : Option Turn) → turn_by k m ≡ o → fetch_by k m ≡ expected k (r + one_more (left_by k m) 0) 1 (tail (advanced None (seen_by k m)))
-    by_turn None e = straight_fetch e
-    by_turn (Some turn) e = turned_fetch turn e
+    by_turn None e = straight_fetch plain e
+    by_turn (Some turn) e = turned_fetch plain turn e

@@ -10,7 +10,7 @@ use Rattle.rv_holds.specs.declared.token.Token.{Token}
 use Rattle.rv_holds.specs.Tokens.{Slots, makes_access, cell_of, cells_of}
 use Rattle.rv_holds.specs.Flushing.{struck, slot_stop}
 use Rattle.rv_engine.specs.Settings.{Setting, Machine, shape_of, tree_of}
-use Rattle.rv_engine.specs.Rows.{advanced, first_slot, fill_first, next_after, new_by, loaded_by, turn_by, seen_by, left_by, fetch_by, accesses_after, stood_after, IsRowOf, machine_after}
+use Rattle.rv_engine.specs.Rows.{advanced, first_slot, fill_first, next_after, new_by, loaded_by, turn_by, seen_by, left_by, fetch_by, accesses_after, stood_after, IsRowOf, machine_after, entered_by}
 use Rattle.rv_lawful.specs.Settings as Lawful
 use Rattle.rv_lawful.specs.LawfulTrace.{IsWordOf}
 use Rattle.rv_machine.specs.Owing.{judged}
@@ -66,8 +66,8 @@ module _ (k : Setting) (ready : IsReady k) (earlier : List Row) (m : Machine) (r
   pub placed_next : row.stop ≡ None → Placed k (retirements (row ∷ earlier)) 0 (advanced None (seen_by k m))
   placed_next e = subst (λ n. Placed k n 0 (advanced None (seen_by k m))) retired_is (N.next_placed k ready earlier m inv (no_stop e))
 
-  pub fetch_next : row.stop ≡ None → fetch_by k m ≡ expected k (retirements (row ∷ earlier)) 1 (tail (advanced None (seen_by k m)))
-  fetch_next e = N.next_fetch k ready earlier m inv (no_stop e) ∙ ap (λ n. expected k n 1 (tail (advanced None (seen_by k m)))) retired_is
+  pub fetch_next : entered_by k m ≡ false → row.stop ≡ None → fetch_by k m ≡ expected k (retirements (row ∷ earlier)) 1 (tail (advanced None (seen_by k m)))
+  fetch_next plain e = N.next_fetch k ready earlier m inv (no_stop e) plain ∙ ap (λ n. expected k n 1 (tail (advanced None (seen_by k m)))) retired_is
 
   pub future_next : row.stop ≡ None → IsFuture k (retirements (row ∷ earlier)) (paid_file (machine_after k m).owed (machine_after k m).future) (past_ex k (advanced None (seen_by k m)))
   future_next e = subst (λ n. IsFuture k n (paid_file (machine_after k m).owed (machine_after k m).future) (past_ex k (advanced None (seen_by k m)))) retired_is (P.file_next k ready earlier m row inv is (no_stop e)).0

@@ -154,6 +154,20 @@ port_kind (UnitFull u) e = absurd (omega (arith, e))
 port_kind (Port j) e = (j, refl)
 port_kind Behind e = absurd (omega (arith, e))
 
+pub trap_kind : (h : Hold) → kind_of h ≡ 4 → h ≡ Trap
+trap_kind (Operand r j) e = absurd (omega (arith, e))
+trap_kind (Board t j) e = absurd (omega (arith, e))
+trap_kind (Custom r j) e = absurd (omega (arith, e))
+trap_kind (Late j) e = absurd (omega (arith, e))
+trap_kind Trap e = refl
+trap_kind (Drain j) e = absurd (omega (arith, e))
+trap_kind (Wait left) e = absurd (omega (arith, e))
+trap_kind (StoreAhead j) e = absurd (omega (arith, e))
+trap_kind (Tail left) e = absurd (omega (arith, e))
+trap_kind (UnitFull u) e = absurd (omega (arith, e))
+trap_kind (Port j) e = absurd (omega (arith, e))
+trap_kind Behind e = absurd (omega (arith, e))
+
 -- The first of a kind, and the first of a kind or a later one
 
 -- it is the first of the true holds of this kind, or there is none
@@ -187,28 +201,13 @@ joined k earlier row stage c n None (Some h) x y =
       ],
     )
 
--- without an interrupt line there is no Trap
-pub no_trap : (k : Setting) (earlier : List Row) (row : Row) (stage : ℕ) (c : Cell) (h : Hold) → kind_of h ≡ 4 → OwnHold k earlier row stage c h → ⊥
-no_trap k earlier row stage c (Operand r j) e o = omega (arith, e)
-no_trap k earlier row stage c (Board target j) e o = omega (arith, e)
-no_trap k earlier row stage c (Custom r j) e o = omega (arith, e)
-no_trap k earlier row stage c (Late j) e o = omega (arith, e)
-no_trap k earlier row stage c Trap e o = o
-no_trap k earlier row stage c (Drain j) e o = omega (arith, e)
-no_trap k earlier row stage c (Wait left) e o = omega (arith, e)
-no_trap k earlier row stage c (StoreAhead j) e o = omega (arith, e)
-no_trap k earlier row stage c (Tail left) e o = omega (arith, e)
-no_trap k earlier row stage c (UnitFull u) e o = omega (arith, e)
-no_trap k earlier row stage c (Port j) e o = omega (arith, e)
-no_trap k earlier row stage c Behind e o = omega (arith, e)
-
 -- whatever is true of a cell of its own comes before Behind
 pub own_kind : (k : Setting) (earlier : List Row) (row : Row) (stage : ℕ) (c : Cell) (h : Hold) → OwnHold k earlier row stage c h → kind_of h < 11
 own_kind k earlier row stage c (Operand r j) o = omega arith
 own_kind k earlier row stage c (Board target j) o = omega arith
 own_kind k earlier row stage c (Custom r j) o = omega arith
 own_kind k earlier row stage c (Late j) o = omega arith
-own_kind k earlier row stage c Trap o = absurd o
+own_kind k earlier row stage c Trap o = omega arith
 own_kind k earlier row stage c (Drain j) o = omega arith
 own_kind k earlier row stage c (Wait left) o = omega arith
 own_kind k earlier row stage c (StoreAhead j) o = omega arith

@@ -5,7 +5,7 @@ use Rattle.std.proofs.lemmas.Bool.{cases_lt}
 use Rattle.std.proofs.lemmas.Bool.Decides.{nat_tests}
 use Rattle.rv_trace.specs.declared.row.Cell.{Cell}
 use Rattle.rv_trace.specs.declared.row.Hold.{Hold}
-use Rattle.rv_trace.specs.declared.row.Hold.TheVariants.{Operand, Custom, Late, Drain, Wait, StoreAhead, Tail}
+use Rattle.rv_trace.specs.declared.row.Hold.TheVariants.{Operand, Custom, Late, Drain, Wait, StoreAhead, Tail, Trap}
 use Rattle.rv_trace.specs.declared.row.Row.{Row}
 use Rattle.rv_trace.specs.Trace.{is_retired, place, retirements}
 use Rattle.rv_trace.specs.RowParts.{IsOlder, ComesFirst}
@@ -16,9 +16,11 @@ use Rattle.rv_seq.specs.declared.answer.StepAnswer.TheVariants.{Done, Stopped}
 use Rattle.rv_tried.specs.declared.trial.Trial.{Trial}
 use Rattle.rv_asks.specs.declared.asks.Asks.{Asks}
 use Rattle.rv_waits.specs.Waits.{wait_at}
+use Rattle.rv_holds.specs.declared.token.Beside.{Beside}
 use Rattle.rv_holds.specs.declared.token.Token.{Token}
+use Rattle.rv_lawful.specs.Entering.{is_interrupted}
 use Rattle.rv_holds.specs.Tokens.{Slots, or_else, stop_in, tried_stop, stop_of, tried_access, makes_access, cells_of}
-use Rattle.rv_holds.specs.Holds.{oldest, withholds, withholder, writes_late, does_store, is_late, operand, waits_for, operand_hold, custom, waits_for_custom, first_from, custom_hold, late, late_hold, waiting_hold, board_hold, drain, left_behind, drain_hold, store_ahead, store_hold, memory_hold, tail_hold, ending_hold, own_hold, stops_now}
+use Rattle.rv_holds.specs.Holds.{oldest, withholds, withholder, writes_late, does_store, is_late, operand, waits_for, operand_hold, custom, waits_for_custom, first_from, custom_hold, late, late_hold, waiting_hold, board_hold, drain, left_behind, drain_hold, store_ahead, store_hold, memory_hold, tail_hold, ending_hold, own_hold, stops_now, trap_hold, leaving_hold}
 use Rattle.rv_engine.specs.Settings.{Setting, shape_of}
 use Rattle.rv_lawful.specs.Settings as Lawful
 use Rattle.rv_lawful.specs.Sight.{asked, IsEarly}
@@ -33,7 +35,7 @@ use Rattle.rv_machine.proofs.Places.{older_lower}
 use Rattle.rv_machine.proofs.BoardHolds.{board_where}
 use Rattle.rv_machine.proofs.DrainHolds.{OldestLeft, left_behind_is}
 use Rattle.rv_machine.proofs.UnitHolds.{from_ports as unit_from_ports}
-use Rattle.rv_machine.proofs.Ordering.{operand_kind, custom_kind, late_kind, drain_kind, wait_kind, store_kind, module_kind, FirstOf, FirstFrom, joined, no_trap, or_assoc, if_or, or_none}
+use Rattle.rv_machine.proofs.Ordering.{operand_kind, custom_kind, late_kind, drain_kind, wait_kind, store_kind, module_kind, FirstOf, FirstFrom, joined, trap_kind, or_assoc, if_or, or_none}
 use Rattle.rv_machine.proofs.Sixteen.{customs_few}
 
 -- of some tokens, the first of which stands in this stage, one with this serial withholds the register
@@ -602,6 +604,22 @@ module _ (k : Setting) (ready : IsReady k) (earlier : List Row) (row : Row) (see
     )
     by_case false c e z = no_module (λ left w. test_ne (suc stage) (shape_of k).stages e w.last)
 
+  -- Interrupts
+
+  trap_here : t.beside.trap ≡ is_interrupted (judged k) earlier
+  trap_here = ap (λ (b : Beside). b.trap) (told.beside.meets stage t older rest)
+
+  trap_where : Of 4 (if stage == (shape_of k).ex then trap_hold t else None)
+  trap_where = by_case (stage == (shape_of k).ex) t.beside.trap refl refl where
+    by_case : (b c : Bool) → (stage == (shape_of k).ex) ≡ b → t.beside.trap ≡ c → Of 4 (if b then (if c then Some Trap else None) else None)
+    by_case true true e z = (
+      refl,
+      record { executing = test_eq stage (shape_of k).ex e; interrupted = sym trap_here ∙ z },
+      λ g q own. subst (λ y. ComesFirst Trap y) (sym (trap_kind g q)) (inr (refl, inr (refl, omega arith))),
+    )
+    by_case true false e z = λ h q own. let w = subst (λ y. Own y) (trap_kind h q) own in cc (sym w.interrupted ∙ sym trap_here, z)
+    by_case false c e z = λ h q own. let w = subst (λ y. Own y) (trap_kind h q) own in test_ne stage (shape_of k).ex e w.executing
+
   -- The first of a cell's own holds
 
   abbrev operands : Option Hold
@@ -615,6 +633,9 @@ module _ (k : Setting) (ready : IsReady k) (earlier : List Row) (row : Row) (see
 
   abbrev jumps : Option Hold
   jumps = if stage == (shape_of k).ex then late_hold older else None
+
+  abbrev traps : Option Hold
+  traps = if stage == (shape_of k).ex then trap_hold t else None
 
   abbrev drains : Option Hold
   drains = if stage == (shape_of k).ex then drain_hold t older else None
@@ -649,15 +670,17 @@ module _ (k : Setting) (ready : IsReady k) (earlier : List Row) (row : Row) (see
   ends_are : ends ≡ or_else modules ports
   ends_are = if_or (suc stage == (shape_of k).stages) (tail_hold t) t.beside.port
 
-  own_order : own_hold (shape_of k) stage t older ≡ or_else operands (or_else boards (or_else customs (or_else jumps later)))
+  own_order : own_hold (shape_of k) stage t older ≡ or_else operands (or_else boards (or_else customs (or_else jumps (or_else traps later))))
   own_order =
-      ap (λ o. or_else (waiting_hold (shape_of k) stage t older) (or_else drains (or_else o ends))) (if_or (stage == (shape_of k).mem) (memory_hold t) (store_hold older t.asks))
-      ∙ ap (λ o. or_else (waiting_hold (shape_of k) stage t older) (or_else drains o)) (or_assoc waits stores ends)
-      ∙ ap (λ o. or_else (waiting_hold (shape_of k) stage t older) (or_else drains (or_else waits (or_else stores o)))) ends_are
-      ∙ ap (λ o. or_else o later) waiting_is
-      ∙ or_assoc operands (or_else boards (or_else customs jumps)) later
-      ∙ ap (λ o. or_else operands o) (or_assoc boards (or_else customs jumps) later)
-      ∙ ap (λ o. or_else operands (or_else boards o)) (or_assoc customs jumps later)
+      ap (λ o. or_else (waiting_hold (shape_of k) stage t older) (or_else o (or_else (if stage == (shape_of k).mem then or_else (memory_hold t) (store_hold older t.asks) else None) ends))) (if_or (stage == (shape_of k).ex) (trap_hold t) (drain_hold t older))
+      ∙ ap (λ o. or_else (waiting_hold (shape_of k) stage t older) o) (or_assoc traps drains (or_else (if stage == (shape_of k).mem then or_else (memory_hold t) (store_hold older t.asks) else None) ends))
+      ∙ ap (λ o. or_else (waiting_hold (shape_of k) stage t older) (or_else traps (or_else drains (or_else o ends)))) (if_or (stage == (shape_of k).mem) (memory_hold t) (store_hold older t.asks))
+      ∙ ap (λ o. or_else (waiting_hold (shape_of k) stage t older) (or_else traps (or_else drains o))) (or_assoc waits stores ends)
+      ∙ ap (λ o. or_else (waiting_hold (shape_of k) stage t older) (or_else traps (or_else drains (or_else waits (or_else stores o))))) ends_are
+      ∙ ap (λ o. or_else o (or_else traps later)) waiting_is
+      ∙ or_assoc operands (or_else boards (or_else customs jumps)) (or_else traps later)
+      ∙ ap (λ o. or_else operands o) (or_assoc boards (or_else customs jumps) (or_else traps later))
+      ∙ ap (λ o. or_else operands (or_else boards o)) (or_assoc customs jumps (or_else traps later))
 
   abbrev From : ℕ → Option Hold → Type 0
   From n o = FirstFrom (judged k) earlier row stage t.cell n o
@@ -675,11 +698,11 @@ module _ (k : Setting) (ready : IsReady k) (earlier : List Row) (row : Row) (see
   own_is : From 0 (own_hold (shape_of k) stage t older)
   own_is =
       subst (λ o. From 0 o) (sym own_order)
-      (joined (judged k) earlier row stage t.cell 0 operands (or_else boards (or_else customs (or_else jumps later))) operand_where
-      (λ a. joined (judged k) earlier row stage t.cell 1 boards (or_else customs (or_else jumps later)) (board_where k ready earlier row seen told stage t older rest placed)
-      (λ n. joined (judged k) earlier row stage t.cell 2 customs (or_else jumps later) custom_where
-      (λ b. joined (judged k) earlier row stage t.cell 3 jumps later late_where
-      (λ c. joined (judged k) earlier row stage t.cell 4 None later (no_trap (judged k) earlier row stage t.cell)
+      (joined (judged k) earlier row stage t.cell 0 operands (or_else boards (or_else customs (or_else jumps (or_else traps later)))) operand_where
+      (λ a. joined (judged k) earlier row stage t.cell 1 boards (or_else customs (or_else jumps (or_else traps later))) (board_where k ready earlier row seen told stage t older rest placed)
+      (λ n. joined (judged k) earlier row stage t.cell 2 customs (or_else jumps (or_else traps later)) custom_where
+      (λ b. joined (judged k) earlier row stage t.cell 3 jumps (or_else traps later) late_where
+      (λ c. joined (judged k) earlier row stage t.cell 4 traps later trap_where
       (λ m. from_drains (waiting_none a n b c)))))))
 
   pub own_free : (h : Hold) → own_hold (shape_of k) stage t older ≡ Some h → OwnHold (judged k) earlier row stage t.cell h × ((g : Hold) → OwnHold (judged k) earlier row stage t.cell g → ComesFirst h g)

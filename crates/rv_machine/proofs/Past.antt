@@ -1,4 +1,5 @@
 -- Past EX the slots of a row are those from before it: what is flushed stands there nowhere. So the future file goes on.
+use Rattle.rv_machine.proofs.Turns.{plain_turn, entry_turn}
 use Rattle.std.proofs.Common.{◌≡◌, ℕ, zero, suc, ◌+◌, ◌-◌, ◌<◌, ◌≤◌, List, [], ◌∷◌, drop, length, Option, Some, None, Bool, true, false, refl, sym, ap, ◌∙◌, subst, arith, get_or}
 use Rattle.std.specs.Prelude.{if◌then◌else◌, IfSome, is_some}
 use Rattle.rv_trace.specs.declared.row.Row.{Row}
@@ -7,9 +8,9 @@ use Rattle.rv_holds.specs.declared.token.Token.{Token}
 use Rattle.rv_holds.specs.declared.flushing.Turn.{Turn}
 use Rattle.rv_holds.specs.Tokens.{Slots}
 use Rattle.rv_holds.specs.Holds.{is_late, oldest, register_at}
-use Rattle.rv_holds.specs.Flushing.{struck, cleared}
-use Rattle.rv_engine.specs.Settings.{Setting, Machine, shape_of, tree_of, outstanding_in}
-use Rattle.rv_engine.specs.Rows.{going, advanced, leaving, first_slot, loaded_by, turn_by, seen_by, left_by, executed_by, file_early, file_late, IsRowOf, machine_after, file_paid, paid_by}
+use Rattle.rv_holds.specs.Flushing.{struck, cleared, turn_of}
+use Rattle.rv_engine.specs.Settings.{Setting, Machine, shape_of, tree_of, outstanding_in, interrupted_by}
+use Rattle.rv_engine.specs.Rows.{going, advanced, leaving, first_slot, loaded_by, turn_by, seen_by, left_by, executed_by, file_early, file_late, IsRowOf, machine_after, file_paid, paid_by, entered_by}
 use Rattle.rv_machine.specs.Placed.{run, one_more, count, expected, past_ex, IsFuture, IsPlacedSlot, Placed, IsReady, Inv, paid_file}
 use Rattle.rv_machine.specs.Told.{NoStops, Decided}
 use Rattle.rv_machine.proofs.Deciding.{settled_past}
@@ -52,7 +53,7 @@ drop_cleared zero n l le = let z : 0 + n ≡ n = omega arith in ap (λ i. cleare
 drop_cleared (suc j) n [] le = absurd (omega (arith, le))
 drop_cleared (suc j) n (s ∷ l) le = let z : suc j + n ≡ suc (j + n) = omega arith in ap (λ i. drop (suc j) (cleared i (s ∷ l))) z ∙ drop_cleared j n l (omega (arith, le))
 
-drop_drop : (i j : ℕ) (l : Slots) → drop j (drop i l) ≡ drop (i + j) l
+pub drop_drop : (i j : ℕ) (l : Slots) → drop j (drop i l) ≡ drop (i + j) l
 drop_drop zero j l = let z : j ≡ 0 + j = omega arith in ap (λ n. drop n l) z
 drop_drop (suc i) zero [] = let z : suc i ≡ suc i + 0 = omega arith in ap (λ n. drop n []) z
 drop_drop (suc i) (suc j) [] = let z : suc (i + suc j) ≡ suc i + suc j = omega arith in ap (λ n. drop n []) z
@@ -87,11 +88,11 @@ module _ (k : Setting) (ready : IsReady k) (earlier : List Row) (m : Machine) (r
   r = retirements earlier
 
   -- of the tokens past EX none is flushed
-  kept_past : Alike (drop (suc (shape_of k).ex) (loaded_by k m)) (drop (suc (shape_of k).ex) (seen_by k m))
-  kept_past = by_turn (turn_by k m) refl where
-    by_turn : (o : Option Turn) → turn_by k m ≡ o → Alike (drop (suc (shape_of k).ex) (loaded_by k m)) (drop (suc (shape_of k).ex) (cleared (struck o) (loaded_by k m)))
-    by_turn None e = alike_all (drop (suc (shape_of k).ex) (loaded_by k m))
-    by_turn (Some turn) e = by_late (turning k m.fetch (loaded_by k m) turn e) (turning k m.fetch (loaded_by k m) turn e).by.token.asks.late refl where
+  pub kept_past : Alike (drop (suc (shape_of k).ex) (loaded_by k m)) (drop (suc (shape_of k).ex) (seen_by k m))
+  kept_past = by_entry (entered_by k m) refl where
+    by_turn : (o : Option Turn) → turn_of (shape_of k) m.fetch (loaded_by k m) ≡ o → turn_by k m ≡ o → Alike (drop (suc (shape_of k).ex) (loaded_by k m)) (drop (suc (shape_of k).ex) (cleared (struck o) (loaded_by k m)))
+    by_turn None p e = alike_all (drop (suc (shape_of k).ex) (loaded_by k m))
+    by_turn (Some turn) p e = by_late (turning k m.fetch (loaded_by k m) turn p) (turning k m.fetch (loaded_by k m) turn p).by.token.asks.late refl where
       by_late : (x : Turning k m.fetch (loaded_by k m) turn) (b : Bool) → x.by.token.asks.late ≡ b → Alike (drop (suc (shape_of k).ex) (loaded_by k m)) (drop (suc (shape_of k).ex) (cleared turn.stage (loaded_by k m)))
       by_late x false q =
           let at = x.by.stage ∙ (settles_parts k ready (0 + x.by.index) x.by.token x.by.older x.by.settles_it).at ∙ ap (λ (b : Bool). if b then (shape_of k).stages - 1 else (shape_of k).ex) q in
@@ -111,6 +112,13 @@ module _ (k : Setting) (ready : IsReady k) (earlier : List Row) (m : Machine) (r
           let placed = placed_rest k r 0 (suc (shape_of k).ex) (loaded_by k m) (drop (suc (shape_of k).ex) (loaded_by k m)) (B.loaded_placed k ready earlier m inv) refl in
           subst (λ l. Alike (drop (suc (shape_of k).ex) (loaded_by k m)) l) (sym (drop_cleared (suc (shape_of k).ex) n (loaded_by k m) (omega (arith, far, s, inside))) ∙ ap (λ i. drop (suc (shape_of k).ex) (cleared i (loaded_by k m))) far)
           (quiet k r (0 + suc (shape_of k).ex) n (drop (suc (shape_of k).ex) (loaded_by k m)) x.by.older x.by.token (omega arith) placed there q)
+
+    by_entry : (b : Bool) → entered_by k m ≡ b → Alike (drop (suc (shape_of k).ex) (loaded_by k m)) (drop (suc (shape_of k).ex) (seen_by k m))
+    by_entry false e = by_turn (turn_by k m) (sym (plain_turn k m e)) refl
+    by_entry true e =
+        let s = ap (λ o. struck o) (entry_turn k m e) in
+        let inside = B.struck_inside k ready earlier m inv in
+        subst (λ l. Alike (drop (suc (shape_of k).ex) (loaded_by k m)) l) (sym (cleared_drop (struck (turn_by k m)) (suc (shape_of k).ex) (loaded_by k m) (omega (arith, s)) inside)) (alike_all (drop (suc (shape_of k).ex) (loaded_by k m)))
 
   pub past_alike : Alike (drop (suc (shape_of k).ex) m.slots) (drop (suc (shape_of k).ex) (seen_by k m))
   past_alike =
@@ -137,8 +145,8 @@ module _ (k : Setting) (ready : IsReady k) (earlier : List Row) (m : Machine) (r
   comes_apart none (Some t) gone some at d n out = by_hold (is_some t.cell.hold) refl out where
     here : IfSome (going (Some t)) (λ c. (shape_of k).rd < suc (shape_of k).ex → IsApart m.owed gone c)
     here =
-        goes_apart k (outstanding_in k m) (unpaid_among (lasts_of k.design.plans) m.entries m.entries m.owed) (λ i h. unpaid_holder i (lasts_of k.design.plans) m.entries m.entries m.owed h) (shape_of k).ex t gone d n
-        (meets_at (shape_of k) (outstanding_in k m) (shape_of k).ex (seen_by k m) gone t (seen_meets k m (B.struck_inside k ready earlier m inv)) at)
+        goes_apart k (interrupted_by k m) (outstanding_in k m) (unpaid_among (lasts_of k.design.plans) m.entries m.entries m.owed) (λ i h. unpaid_holder i (lasts_of k.design.plans) m.entries m.entries m.owed h) (shape_of k).ex t gone d n
+        (meets_at (shape_of k) (interrupted_by k m) (outstanding_in k m) (shape_of k).ex (seen_by k m) gone t (seen_meets k m (B.struck_inside k ready earlier m inv)) at)
         (subst (λ b. Apart k m.owed b (Some t ∷ gone)) (let z : 0 + (shape_of k).ex ≡ (shape_of k).ex = omega arith in z) (apart_rest k m.owed 0 (shape_of k).ex (seen_by k m) (Some t ∷ gone) (seen_apart k ready earlier m row inv is) at))
 
     by_hold : (b : Bool) → is_some t.cell.hold ≡ b → left_by k m ≡ leaving (if b then None else Some t) gone → AreApart (if b then None else Some t) gone
@@ -147,7 +155,7 @@ module _ (k : Setting) (ready : IsReady k) (earlier : List Row) (m : Machine) (r
         let lt = ready.rd_ex in
         let x : IsApart m.owed gone t = subst (λ (b : Bool). IfSome (if b then None else Some t) (λ c. (shape_of k).rd < suc (shape_of k).ex → IsApart m.owed gone c)) e here (omega (arith, lt)) in (
           x,
-          stays_apart k (outstanding_in k m) (unpaid_among (lasts_of k.design.plans) m.entries m.entries m.owed) (λ i h. unpaid_holder i (lasts_of k.design.plans) m.entries m.entries m.owed h) gone gone (left_by k m) t x (λ i h. h)
+          stays_apart k (interrupted_by k m) (outstanding_in k m) (unpaid_among (lasts_of k.design.plans) m.entries m.entries m.owed) (λ i h. unpaid_holder i (lasts_of k.design.plans) m.entries m.entries m.owed h) gone gone (left_by k m) t x (λ i h. h)
               (λ i h. subst (λ o. SilentSlot (λ a. has_target a (register_at i)) o) (sym (q ∙ leaving_any (Some t) gone some)) (silent_leaving (λ a. has_target a (register_at i)) None gone tt h)),
         )
 

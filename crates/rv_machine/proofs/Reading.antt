@@ -149,18 +149,18 @@ first_few word = omega arith
 pub second_few : (word : ℕ) → rs2_of word < 32
 second_few word = omega arith
 
-pub reading_placed : (k : Setting) (ready : IsReady k) (x : List ℕ) (owed : ℕ) (o : Outstanding) (r stage : ℕ) (slots : Slots) → ((reg : ℕ) → slice_index x reg < 2 ^ 32) → Placed k r stage slots → Placed k r stage (reading (shape_of k) x owed o stage slots)
-reading_placed k ready x owed o r stage [] ranged h = tt
-reading_placed k ready x owed o r stage (None ∷ older) ranged h = (tt, reading_placed k ready x owed o r (suc stage) older ranged h.1)
-reading_placed k ready x owed o r stage (Some t ∷ older) ranged h = (
-  placed_alike k r stage older later (read_with (shape_of k) (slot_operands (shape_of k) stage (Some t) older x) owed o stage t) (reading_alike (shape_of k) x owed o (suc stage) older)
-      (reading_guesses (shape_of k) x owed o (suc stage) older)
-      (read_one k ready (slot_operands (shape_of k) stage (Some t) older x) (if (stage == (shape_of k).mem) && makes_access t then owed else 0) (beside_of (shape_of k) o stage t.asks) (r + count older) (expected k r (suc stage) older) stage older t
+pub reading_placed : (k : Setting) (ready : IsReady k) (x : List ℕ) (owed : ℕ) (now : Bool) (o : Outstanding) (r stage : ℕ) (slots : Slots) → ((reg : ℕ) → slice_index x reg < 2 ^ 32) → Placed k r stage slots → Placed k r stage (reading (shape_of k) x owed now o stage slots)
+reading_placed k ready x owed now o r stage [] ranged h = tt
+reading_placed k ready x owed now o r stage (None ∷ older) ranged h = (tt, reading_placed k ready x owed now o r (suc stage) older ranged h.1)
+reading_placed k ready x owed now o r stage (Some t ∷ older) ranged h = (
+  placed_alike k r stage older later (read_with (shape_of k) (slot_operands (shape_of k) stage (Some t) older x) owed now o stage t) (reading_alike (shape_of k) x owed now o (suc stage) older)
+      (reading_guesses (shape_of k) x owed now o (suc stage) older)
+      (read_one k ready (slot_operands (shape_of k) stage (Some t) older x) (if (stage == (shape_of k).mem) && makes_access t then owed else 0) (beside_of (shape_of k) now o stage t.asks) (r + count older) (expected k r (suc stage) older) stage older t
       (below (stage == (shape_of k).rd)) (at (stage == (shape_of k).rd) refl) h.0),
-  reading_placed k ready x owed o r (suc stage) older ranged h.1,
+  reading_placed k ready x owed now o r (suc stage) older ranged h.1,
 ) where
   later : Slots
-  later = reading (shape_of k) x owed o (suc stage) older
+  later = reading (shape_of k) x owed now o (suc stage) older
 
   pair : Operands
   pair = operand_pair (shape_of k) (suc stage) older x t.inputs.word
@@ -222,14 +222,14 @@ operand_parts k stage older a reg h which =
       | inr e ↦ ap (λ i. waits_for k i stage older) e ∙ min_max_second (λ i. waits_for k i stage older) a.first a.second low high
     ]
 
-read_slot : (k : Setting) (ready : IsReady k) (x : List ℕ) (owed : ℕ) (o : Outstanding) (r stage : ℕ) (t : Token) (older : Slots) → Placed k r (suc stage) older → AreUnowed x (run k r).x o
-    → ReadSlot k r stage (Some (read_with (shape_of k) (slot_operands (shape_of k) stage (Some t) older x) owed o stage t)) (reading (shape_of k) x owed o (suc stage) older)
-read_slot k ready x owed o r stage t older placed same = λ at free path none spawns. by_case (stage == (shape_of k).rd) (same_test stage (shape_of k).rd at) at free path none spawns where
+read_slot : (k : Setting) (ready : IsReady k) (x : List ℕ) (owed : ℕ) (now : Bool) (o : Outstanding) (r stage : ℕ) (t : Token) (older : Slots) → Placed k r (suc stage) older → AreUnowed x (run k r).x o
+    → ReadSlot k r stage (Some (read_with (shape_of k) (slot_operands (shape_of k) stage (Some t) older x) owed now o stage t)) (reading (shape_of k) x owed now o (suc stage) older)
+read_slot k ready x owed now o r stage t older placed same = λ at free path none spawns. by_case (stage == (shape_of k).rd) (same_test stage (shape_of k).rd at) at free path none spawns where
   later : Slots
-  later = reading (shape_of k) x owed o (suc stage) older
+  later = reading (shape_of k) x owed now o (suc stage) older
 
   alike : Alike older later
-  alike = reading_alike (shape_of k) x owed o (suc stage) older
+  alike = reading_alike (shape_of k) x owed now o (suc stage) older
 
   pair : Operands
   pair = operand_pair (shape_of k) (suc stage) older x t.inputs.word
@@ -251,10 +251,10 @@ read_slot k ready x owed o r stage t older placed same = λ at free path none sp
   )
   by_case false h at free path none spawns = cc
 
-pub reading_read : (k : Setting) (ready : IsReady k) (x : List ℕ) (owed : ℕ) (o : Outstanding) (r stage : ℕ) (slots : Slots) → Placed k r stage slots → AreUnowed x (run k r).x o → Read k r stage (reading (shape_of k) x owed o stage slots)
-reading_read k ready x owed o r stage [] h same = tt
-reading_read k ready x owed o r stage (None ∷ older) h same = (tt, reading_read k ready x owed o r (suc stage) older h.1 same)
-reading_read k ready x owed o r stage (Some t ∷ older) h same = (read_slot k ready x owed o r stage t older h.1 same, reading_read k ready x owed o r (suc stage) older h.1 same)
+pub reading_read : (k : Setting) (ready : IsReady k) (x : List ℕ) (owed : ℕ) (now : Bool) (o : Outstanding) (r stage : ℕ) (slots : Slots) → Placed k r stage slots → AreUnowed x (run k r).x o → Read k r stage (reading (shape_of k) x owed now o stage slots)
+reading_read k ready x owed now o r stage [] h same = tt
+reading_read k ready x owed now o r stage (None ∷ older) h same = (tt, reading_read k ready x owed now o r (suc stage) older h.1 same)
+reading_read k ready x owed now o r stage (Some t ∷ older) h same = (read_slot k ready x owed now o r stage t older h.1 same, reading_read k ready x owed now o r (suc stage) older h.1 same)
 
 -- it has them before older ones that are alike, whatever it was tried to
 read_over : (k : Setting) (r stage : ℕ) (older later : Slots) (t u : Token) → Alike older later → u.beside ≡ t.beside → u.asks ≡ t.asks → ((y : List ℕ) → HasOperands y t.asks t.inputs → HasOperands y u.asks u.inputs) → ReadSlot k r stage (Some t) older → ReadSlot k r stage (Some u) later

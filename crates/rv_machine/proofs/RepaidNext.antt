@@ -22,7 +22,7 @@ use Rattle.rv_holds.specs.Holds.{register_at}
 use Rattle.rv_engine.specs.declared.owing.Owed.{Owed}
 use Rattle.rv_engine.specs.Owing.{holder, unpaid_among, owed_by_entering}
 use Rattle.rv_engine.specs.Settings.{Setting, Machine, shape_of, tree_of}
-use Rattle.rv_engine.specs.Rows.{fill_first, new_by, loaded_by, left_by, native_of, arch_retired, arch_paid, paid_by, into_unit, entering_of, machine_after, IsRowOf, seen_by}
+use Rattle.rv_engine.specs.Rows.{fill_first, new_by, loaded_by, left_by, native_of, arch_retired, arch_paid, paid_by, into_unit, entering_of, machine_after, IsRowOf, seen_by, written_by}
 use Rattle.rv_lawful.specs.Outstanding.{Decoupled, is_register, has_target, touches, outstanding}
 use Rattle.rv_lawful.specs.Sight.{asked, SpawnsNothing}
 use Rattle.rv_sight.specs.Written.{IsAskedFor}
@@ -236,7 +236,7 @@ module _ (k : Setting) (ready : IsReady k) (earlier : List Row) (m : Machine) (r
     now =
         let z : retirements earlier + 1 ≡ suc (retirements earlier) = omega arith in
         ap (λ j. run k j) (R.retired_now k ready earlier m row inv is ∙ ap (λ o. retirements earlier + o) goes ∙ z)
-        ∙ run_suc k (retirements earlier)
+        ∙ run_suc k (retirements earlier) (inv.past (suc (retirements earlier)) (omega arith))
         ∙ ap (λ a. after (tree_of k) (run k (retirements earlier)) a) y.recorded
 
     abbrev native_part : Commit
@@ -278,7 +278,7 @@ module _ (k : Setting) (ready : IsReady k) (earlier : List Row) (m : Machine) (r
         ∙ ap (λ w. resumed (is_return (tree_of k) w) (applied y.commit (run k (retirements earlier)))) (native_word (asked k.design y.token.cell.word) ((judged k).course.blocks (retirements earlier)) y.commit)
         ∙ sym now
 
-  pub repaid_next : repaid (machine_after k m).owed (machine_after k m).arch ≡ run k (retirements (row ∷ earlier))
+  pub repaid_next : repaid (machine_after k m).owed (written_by k m) ≡ run k (retirements (row ∷ earlier))
   repaid_next = elim (R.goes_out k ready earlier m row inv is) [
     | inl n ↦
         let z : retirements earlier + 0 ≡ retirements earlier = omega arith in

@@ -1,4 +1,6 @@
 -- What goes out of the last stage retires the next record of the run; and what is told of a row that the machine makes.
+use Rattle.rv_engine.specs.Owing.{beside_of}
+use Rattle.rv_machine.proofs.Entered.{interrupted_is}
 use Rattle.std.proofs.Common.{◌≡◌, ◌≢◌, ℕ, zero, suc, ◌+◌, ◌-◌, ◌<◌, ◌≤◌, List, [], ◌∷◌, drop, length, Option, Some, None, Bool, true, false, refl, sym, ap, ◌∙◌, subst, arith, add-zero, ◌⊎◌, inl, inr}
 use Rattle.std.specs.Prelude.{◌||◌, if◌then◌else◌, ◌==◌, is_some, nat_lt}
 use Rattle.std.proofs.lemmas.Bool.Decides.{nat_tests}
@@ -13,9 +15,9 @@ use Rattle.rv_trace.specs.Trace.{place, is_flushed, is_retired, retirements}
 use Rattle.rv_holds.specs.declared.token.Token.{Token}
 use Rattle.rv_holds.specs.Tokens.{Slots, stop_in, commit_in, tried_commit, commit_of}
 use Rattle.rv_holds.specs.Flushing.{next_of, settles, struck, cleared}
-use Rattle.rv_engine.specs.Settings.{Setting, Machine, shape_of, tree_of, outstanding_in}
-use Rattle.rv_engine.specs.Rows.{going, leaving, with_serial, retired_of, owed_by, turn_by, seen_by, left_by, IsRowOf, native_of, arch_retired, arch_paid, written_of, paid_by, native_in, native_tried, entering_of, machine_after, into_unit, owed_tried, owed_in}
-use Rattle.rv_lawful.specs.Outstanding.{architecture, after_retired, after_written}
+use Rattle.rv_engine.specs.Settings.{Setting, Machine, shape_of, tree_of, outstanding_in, interrupted_by}
+use Rattle.rv_engine.specs.Rows.{going, leaving, with_serial, retired_of, owed_by, turn_by, seen_by, left_by, IsRowOf, native_of, arch_retired, arch_paid, written_of, paid_by, native_in, native_tried, entering_of, machine_after, into_unit, owed_tried, owed_in, taken_by, written_by}
+use Rattle.rv_lawful.specs.Outstanding.{architecture, after_retired, after_written, after_entry}
 use Rattle.rv_machine.specs.Owing.{judged}
 use Rattle.rv_machine.specs.Placed.{run, one_more, count, settling_stage, Serials, IsPlaced, IsPlacedSlot, IsReady, Inv}
 use Rattle.rv_machine.specs.Told.{NoStops, out_of, Told, IsBeside}
@@ -98,7 +100,7 @@ module _ (k : Setting) (ready : IsReady k) (earlier : List Row) (m : Machine) (r
       let stops : NoStops k stage (Some t ∷ older) = (s.runs, past_ex k (suc stage) older (omega (arith, from))) in
       let stops' = subst (λ b. NoStops k b (drop stage (seen_by k m))) (sym z) (subst (λ l. NoStops k stage l) (sym e) stops) in
       let seen = subst (λ b. AreSeen k r b (Some t ∷ older)) z (subst (λ l. AreSeen k r (0 + stage) l) e (seen_at stage (omega (arith, lt)) stops')) in
-      settled_next k ready r stage t older seen s where
+      settled_next k ready r stage t older inv.past seen s where
         settles_from : (stage : ℕ) (t : Token) → stage ≡ settling_stage k t → (shape_of k).ex ≤ stage
         settles_from stage t e = by_case t.asks.late e where
           by_case : (b : Bool) → stage ≡ (if b then (shape_of k).stages - 1 else (shape_of k).ex) → (shape_of k).ex ≤ stage
@@ -278,7 +280,9 @@ module _ (k : Setting) (ready : IsReady k) (earlier : List Row) (m : Machine) (r
         written = is.written;
         paid = inv.paid;
         alive = F.kept_alive k ready earlier m row inv is;
-        meets = λ stage t older e. meets_at (shape_of k) (outstanding_in k m) stage (seen_by k m) older t (seen_meets k m (B.struck_inside k ready earlier m inv)) e;
+        meets = λ stage t older e.
+            meets_at (shape_of k) (interrupted_by k m) (outstanding_in k m) stage (seen_by k m) older t (seen_meets k m (B.struck_inside k ready earlier m inv)) e
+            ∙ ap (λ b. beside_of (shape_of k) b (outstanding_in k m) stage t.asks) (interrupted_is k earlier m inv);
       }
 
   pub told : Told k earlier row (seen_by k m)
@@ -332,7 +336,9 @@ module _ (k : Setting) (ready : IsReady k) (earlier : List Row) (m : Machine) (r
   pub architecture_now : architecture (tree_of k) (judged k) (row ∷ earlier) ≡ (machine_after k m).arch
   unfolding architecture
   architecture_now =
-      ap (λ w. after_written w (after_retired (tree_of k) (judged k) r row.retired (architecture (tree_of k) (judged k) earlier))) is.written
+      ap (λ o. after_entry (shape_of k).trap o (after_written row.written (after_retired (tree_of k) (judged k) r row.retired (architecture (tree_of k) (judged k) earlier)))) is.taken
+      ∙ ap (λ s. after_entry (shape_of k).trap (taken_by k m) s)
+      (ap (λ w. after_written w (after_retired (tree_of k) (judged k) r row.retired (architecture (tree_of k) (judged k) earlier))) is.written
       ∙ written_shown (paid_by k m) (after_retired (tree_of k) (judged k) r row.retired (architecture (tree_of k) (judged k) earlier))
       ∙ ap (λ s. arch_paid (paid_by k m) (after_retired (tree_of k) (judged k) r row.retired s)) inv.state
-      ∙ ap (λ s. arch_paid (paid_by k m) s) (retired_shown m.arch)
+      ∙ ap (λ s. arch_paid (paid_by k m) s) (retired_shown m.arch))

@@ -1,5 +1,7 @@
 -- The custom registers of a run's states have patterns of their widths.
-use Rattle.std.proofs.Common.{ℕ, zero, suc, List, length, Option, Some, None}
+use Rattle.std.specs.List.{list_any}
+use Rattle.std.specs.Prelude.{if◌then◌else◌, nat_eq}
+use Rattle.std.proofs.Common.{ℕ, zero, suc, List, length, Option, Some, None, Bool, true, false}
 use Rattle.ix_tree.specs.TypedTrees.{TypedTextTree}
 use Rattle.ix_extension.specs.Extensions.{ExtensionTree}
 use Rattle.ix_extension.specs.WellFormed.{IsOf}
@@ -14,8 +16,8 @@ use Rattle.rv_seq.specs.States.{first, inputs_at}
 use Rattle.rv_seq.specs.Commits.{commit_of, applied, slots_of}
 use Rattle.rv_seq.specs.Steps.{word_at, return_effect, of_return, attempted, of_decoded, of_word, step, after, unless_stopped, whole_effect, own_effect}
 use Rattle.rv_seq.specs.Stops.{stop_of}
-use Rattle.rv_seq.specs.Interrupts.{return_to}
-use Rattle.rv_seq.specs.Runs.{run_with, run}
+use Rattle.rv_seq.specs.Interrupts.{return_to, diverted}
+use Rattle.rv_seq.specs.Runs.{Entries, start, entered, run_with}
 use Rattle.rv_seq.proofs.Wide.{AreFit, wide_first, whole_fit, return_fit, slots_wide, wide_after}
 
 written_wide : (x : ExtensionTree) (s : Arch) (word : ℕ) (e : Effect) → AreWide x s.custom → AreFit x e.custom → AreWide x (applied (commit_of s.pc word e) s).custom
@@ -49,8 +51,20 @@ first_is_wide : (t : TypedTextTree) (x : ExtensionTree) → IsOf t x → AreWide
 unfolding first
 first_is_wide t x h = wide_first t x h
 
+-- the entry of the handler keeps the custom registers
+entered_wide : (x : ExtensionTree) (e : Option Entries) (p : ℕ) (s : Arch) → AreWide x s.custom → AreWide x (entered e p s).custom
+unfolding diverted
+entered_wide x None p s h = h
+entered_wide x (Some e) p s h = by_entry (list_any (λ q. nat_eq q p) e.places) where
+  by_entry : (b : Bool) → AreWide x (if b then diverted e.handler s else s).custom
+  by_entry true = h
+  by_entry false = h
+
 -- in each state of a run the custom registers have patterns of their widths
-pub run_wide : (t : TypedTextTree) (x : ExtensionTree) (image : List ℕ) (p : ℕ) → IsOf t x → AreWide x (run x image p).custom
+pub run_wide : (t : TypedTextTree) (x : ExtensionTree) (image : List ℕ) (e : Option Entries) (p : ℕ) → IsOf t x → AreWide x (run_with x image e p).custom
 unfolding run_with
-run_wide t x image zero h = first_is_wide t x h
-run_wide t x image (suc p) h = step_wide x image (run x image p) (run_wide t x image p h)
+run_wide t x image e zero h = entered_wide x e 0 (start x e) (started e) where
+  started : (e : Option Entries) → AreWide x (start x e).custom
+  started None = first_is_wide t x h
+  started (Some s) = first_is_wide t x h
+run_wide t x image e (suc p) h = entered_wide x e (suc p) (after x (run_with x image e p) (step x image (run_with x image e p))) (step_wide x image (run_with x image e p) (run_wide t x image e p h))

@@ -1,6 +1,7 @@
 -- The x registers and the pc of a run's states hold words.
 use Rattle.std.proofs.Common.{◌≡◌, ℕ, ℤ, zero, suc, ◌+◌, ◌-◌, ◌*◌, ◌/◌, ◌%◌, ◌^◌, ◌<◌, ◌≤◌, List, [], ◌∷◌, length, get_or, Option, Some, None, Bool, true, false, if◌then◌else◌, nat_eq, refl, sym, subst, arith, bit_and, lit<}
 use Rattle.std.specs.Prelude.{slice_set, replicate, IfSome, unwrap_or, option_map}
+use Rattle.std.specs.List.{list_any}
 use Rattle.std.specs.Option.{option_or as the_or}
 use Rattle.std.proofs.Math.Nat.{div-le_self}
 use Rattle.std.proofs.lemmas.Nat.{xor_of_32, or_of_32, and_le_l}
@@ -36,10 +37,11 @@ use Rattle.rv_seq.specs.declared.answer.StepAnswer.TheVariants.{Done}
 use Rattle.rv_seq.specs.declared.commit.Stop.{Stop}
 use Rattle.rv_seq.specs.States.{first, inputs_at}
 use Rattle.rv_seq.specs.Commits.{commit_of, applied, with_x, x_index, x_slot}
-use Rattle.rv_seq.specs.Interrupts.{return_to, is_return, enabled_again, resumed}
+use Rattle.rv_seq.specs.Interrupts.{mret, return_to, is_return, enabled_again, resumed, with_line, diverted}
 use Rattle.rv_seq.specs.Steps.{word_at, return_effect, of_return, attempted, of_decoded, of_word, step, after, unless_stopped, whole_effect, own_effect}
 use Rattle.rv_seq.specs.Stops.{stop_of}
-use Rattle.rv_seq.specs.Runs.{run_with, run}
+use Rattle.rv_seq.specs.Runs.{Entries, start, entered, run_with}
+use Rattle.rv_lawful.specs.Settings.{entries_at}
 use Rattle.rv_lawful.specs.Sight.{HasWords}
 
 -- ---- numbers below 2^32
@@ -247,11 +249,41 @@ first_words : (x : ExtensionTree) → HoldsWords (first x)
 unfolding first
 first_words x = record { registers = λ r. zeros_below 32 r; pc = lit< tt; back = λ word. tt }
 
+-- the handler begins at a word
+abbrev pub IsHandled : Option Entries → Type 0
+IsHandled None = Unit {0}
+IsHandled (Some e) = e.handler < 2 ^ 32
+
+pub handled : (handler : ℕ) (lines : Option (List ℕ)) (places : List ℕ) → handler < 2 ^ 32 → IsHandled (entries_at handler lines places)
+handled handler None places h = tt
+handled handler (Some l) places h = h
+
+back_below : (n word : ℕ) (enabled : Bool) → n < 2 ^ 32 → IsBelow (return_to word (Some (record { epc = n; enabled = enabled })))
+back_below n word enabled lt = by_test (nat_eq word mret) where
+  by_test : (b : Bool) → IsBelow (if b then Some n else None)
+  by_test true = lt
+  by_test false = tt
+
+with_line_words : (s : Arch) → HoldsWords s → HoldsWords (with_line s)
+with_line_words s h = record { registers = h.registers; pc = h.pc; back = λ word. back_below 0 word true (lit< tt) }
+
+-- the entry of the handler keeps words
+entered_words : (e : Option Entries) → IsHandled e → (p : ℕ) (s : Arch) → HoldsWords s → HoldsWords (entered e p s)
+unfolding diverted
+entered_words None below p s h = h
+entered_words (Some e) below p s h = by_entry (list_any (λ q. nat_eq q p) e.places) where
+  by_entry : (b : Bool) → HoldsWords (if b then diverted e.handler s else s)
+  by_entry true = record { registers = h.registers; pc = below; back = λ word. back_below s.pc word false h.pc }
+  by_entry false = h
+
 -- in each state of a run the registers and the pc hold words
-pub run_words : (x : ExtensionTree) (image : List ℕ) (p : ℕ) → HoldsWords (run x image p)
+pub run_words : (x : ExtensionTree) (image : List ℕ) (e : Option Entries) → IsHandled e → (p : ℕ) → HoldsWords (run_with x image e p)
 unfolding run_with
-run_words x image zero = first_words x
-run_words x image (suc p) = step_words x image (run x image p) (run_words x image p)
+run_words x image e below zero = entered_words e below 0 (start x e) (started e) where
+  started : (e : Option Entries) → HoldsWords (start x e)
+  started None = first_words x
+  started (Some s) = with_line_words (first x) (first_words x)
+run_words x image e below (suc p) = entered_words e below (suc p) (after x (run_with x image e p) (step x image (run_with x image e p))) (step_words x image (run_with x image e p) (run_words x image e below p))
 
 -- so is what is guessed: where blocks jump to, or the next word's address
 pub guess_below : (predict : Bool) (jump : Option ℕ) (at : ℕ) → IsBelow jump → guess_of predict jump at < 2 ^ 32

@@ -10,7 +10,7 @@ use Rattle.rv_trace.specs.declared.row.Row.{Row}
 use Rattle.rv_unit.specs.declared.entry.Entry.{Entry}
 use Rattle.rv_holds.specs.declared.token.Token.{Token}
 use Rattle.rv_holds.specs.Tokens.{Slots, or_else, stop_of}
-use Rattle.rv_holds.specs.Holds.{waiting_hold, drain, drain_hold, left_behind, own_hold, stops_now}
+use Rattle.rv_holds.specs.Holds.{waiting_hold, trap_hold, leaving_hold, drain, drain_hold, left_behind, own_hold, stops_now}
 use Rattle.rv_holds.specs.Flushing.{slot_stop, remains}
 use Rattle.rv_engine.specs.declared.owing.Owed.{Owed}
 use Rattle.rv_engine.specs.Settings.{Setting, Machine, shape_of}
@@ -44,8 +44,9 @@ none_behind k stage t older n = by_case (stage == (shape_of k).ex) (is_some (sto
   by_case true true e w None q y =
       drain_none (left_behind t older)
       (if_so (is_some (stop_of t)) (drain (left_behind t older)) w
-      (if_so (stage == (shape_of k).ex) (drain_hold t older) e
-      (or_else_none (if stage == (shape_of k).ex then drain_hold t older else None) _ (or_else_none_b (waiting_hold (shape_of k) stage t older) _ q))))
+      (or_else_none_b (trap_hold t) (drain_hold t older)
+      (if_so (stage == (shape_of k).ex) (leaving_hold t older) e
+      (or_else_none (if stage == (shape_of k).ex then leaving_hold t older else None) _ (or_else_none_b (waiting_hold (shape_of k) stage t older) _ q)))))
   by_case true true e w (Some h) q y = cc
   by_case true false e w o q y = cc
   by_case false d e w o q y = cc

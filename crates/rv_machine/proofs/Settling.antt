@@ -12,7 +12,7 @@ use Rattle.rv_holds.specs.Tokens.{Slots, stop_in, commit_in, tried_commit}
 use Rattle.rv_holds.specs.Holds.{oldest, is_late, stops_now}
 use Rattle.rv_holds.specs.Flushing.{next_in, next_of, settles_at, settles, settled}
 use Rattle.rv_engine.specs.Settings.{Setting, shape_of}
-use Rattle.rv_machine.specs.Placed.{run, count, settling_stage, expected, IsPlaced, IsReady}
+use Rattle.rv_machine.specs.Placed.{run, count, settling_stage, expected, IsPlaced, IsReady, is_entry, NonePast}
 use Rattle.rv_machine.specs.Told.{Decided}
 use Rattle.rv_machine.proofs.Deciding.{or_else_none, or_else_none_b, if_none, test_eq, same_test, own_none, no_waiting, waits_late, expected_run}
 use Rattle.rv_machine.proofs.Runs.{answer, goes_on}
@@ -124,8 +124,8 @@ same_done : (c d : Commit) → ◌≡◌ {A = StepAnswer} (Done c) (Done d) → 
 same_done c d e = cc
 
 -- a token past EX that writes the pc in time, or past MEM
-pub next_is : (k : Setting) (ready : IsReady k) (p address stage : ℕ) (older : Slots) (t : Token) → (shape_of k).ex < stage → IsPlaced k p address stage older t → word_at k.image (run k p).pc ≡ Some t.cell.word → (t.asks.late ≡ true → (shape_of k).mem < stage) → next_of t ≡ (run k (suc p)).pc
-next_is k ready p address stage older t lt i w past =
+pub next_is : (k : Setting) (ready : IsReady k) (p address stage : ℕ) (older : Slots) (t : Token) → is_entry k (suc p) ≡ false → (shape_of k).ex < stage → IsPlaced k p address stage older t → word_at k.image (run k p).pc ≡ Some t.cell.word → (t.asks.late ≡ true → (shape_of k).mem < stage) → next_of t ≡ (run k (suc p)).pc
+next_is k ready p address stage older t plain lt i w past =
     let g = i.gone lt in
     let early = (i.tried g.0 g.1).early in
     let c = done_of g.0.answer g.2 in
@@ -133,7 +133,7 @@ next_is k ready p address stage older t lt i w past =
     ap (λ o. next_in t (tried_commit o)) g.1
     ∙ ap (λ a. next_in t (commit_in a)) c.1
     ∙ by_case t.asks.late refl c.0 d.0 g.0.answer (λ l. (i.exact g.0 g.1 l).answer) c.1 d.1 early
-    ∙ sym (goes_on k ready p t.cell.word d.0 w d.1).pc where
+    ∙ sym (goes_on k ready p t.cell.word d.0 plain w d.1).pc where
       by_case : (b : Bool) → t.asks.late ≡ b → (c d : Commit) (x : StepAnswer) → ((t.asks.loads ≡ true → (shape_of k).mem < stage) → x ≡ answer k p) → x ≡ Done c → answer k p ≡ Done d → IsEarly t.asks x (answer k p) → c.next ≡ d.next
       by_case false e c d x exact ex ey h = early_next t.asks x (answer k p) c d ex ey h e
       by_case true e c d x exact ex ey h = ap (λ (z : Commit). z.next) (same_done c d (sym ex ∙ exact (λ l. past e) ∙ ey))
@@ -145,7 +145,7 @@ seen_rest k r base (suc n) (s ∷ l) rest h e =
     let z : suc base + n ≡ base + suc n = omega arith in
     subst (λ b. AreSeen k r b rest) z (seen_rest k r (suc base) n l rest (seen_tail k r base s l h) e)
 
-module _ (k : Setting) (ready : IsReady k) (r stage : ℕ) (t : Token) (older : Slots) (h : AreSeen k r stage (Some t ∷ older)) (s : Settles k stage t older) where
+module _ (k : Setting) (ready : IsReady k) (r stage : ℕ) (t : Token) (older : Slots) (none : NonePast k r) (h : AreSeen k r stage (Some t ∷ older)) (s : Settles k stage t older) where
   from_ex : (shape_of k).ex ≤ stage
   from_ex = by_case t.asks.late s.at where
     by_case : (b : Bool) → stage ≡ (if b then (shape_of k).stages - 1 else (shape_of k).ex) → (shape_of k).ex ≤ stage
@@ -169,4 +169,4 @@ module _ (k : Setting) (ready : IsReady k) (r stage : ℕ) (t : Token) (older : 
 
   -- the successor that is settled is the run's
   pub settled_next : next_of t ≡ (run k (suc (r + count older))).pc
-  settled_next = next_is k ready (r + count older) (expected k r (suc stage) older) (suc stage) older t (omega (arith, from_ex)) further path_word past_mem
+  settled_next = next_is k ready (r + count older) (expected k r (suc stage) older) (suc stage) older t (none (suc (r + count older)) (omega arith)) (omega (arith, from_ex)) further path_word past_mem

@@ -45,7 +45,7 @@ use Rattle.rv_lawful.specs.Forwarding.{x_written, writes_x, reach_of, is_there}
 use Rattle.rv_lawful.specs.Future.{cell_in, future_file}
 use Rattle.rv_core.specs.declared.Shape.{Shape}
 use Rattle.rv_machine.specs.Owing.{judged}
-use Rattle.rv_machine.specs.Placed.{run, count, expected, Placed, Serials, IsPlaced, IsReady, Inv}
+use Rattle.rv_machine.specs.Placed.{run, count, expected, Placed, Serials, IsPlaced, IsReady, Inv, entries_of}
 use Rattle.rv_machine.specs.Told.{NoStops}
 use Rattle.rv_machine.proofs.Before as B
 use Rattle.rv_machine.proofs.Clearing.{cleared_drop}
@@ -136,11 +136,11 @@ same_passed w a k i stage reach o p e h = ap (λ (x : Asks). if writes_x x i && 
   by_case false f true g true q = sym (h q (some a.destination i f g))
 
 same_forwarded : (k : Setting) (earlier : List Row) (row : Row) (i stage : ℕ) (l : Slots) (value : ℕ) → Placed k (retirements earlier) stage l → Passes k true (retirements earlier) stage l → Serials (row ∷ earlier) (retirements earlier) l
-    → rows_forwarded (drives_of k.design k.image k.waits) earlier row i stage (cells_of l) value ≡ forwarded (shape_of k) true i stage l value
+    → rows_forwarded (drives_of k.design k.image k.waits k.lines k.places) earlier row i stage (cells_of l) value ≡ forwarded (shape_of k) true i stage l value
 same_forwarded k earlier row i stage [] value placed passes serials = refl
 same_forwarded k earlier row i stage (None ∷ l) value placed passes serials = same_forwarded k earlier row i (suc stage) l value placed.1 passes.1 serials
 same_forwarded k earlier row i stage (Some t ∷ l) value placed passes serials =
-    let d = drives_of k.design k.image k.waits in
+    let d = drives_of k.design k.image k.waits k.lines k.places in
     let rest = same_forwarded k earlier row i (suc stage) l value placed.1 passes.1 serials.1 in
     ap (λ (b : Bool). if b then rows_forwarded d earlier row i (suc stage) (cells_of l) value else unwrap_or (rows_passed d earlier row i stage t.cell) (rows_forwarded d earlier row i (suc stage) (cells_of l) value)) (not_flushed row earlier t.cell.serial serials.0.1)
     ∙ ap (λ v. unwrap_or (rows_passed d earlier row i stage t.cell) v) rest
@@ -240,7 +240,7 @@ module _ (k : Setting) (ready : IsReady k) (earlier : List Row) (m : Machine) (r
   r = retirements earlier
 
   abbrev d : Drives
-  d = drives_of k.design k.image k.waits
+  d = drives_of k.design k.image k.waits k.lines k.places
 
   abbrev flushed : ℕ
   flushed = struck (turn_by k m)
@@ -473,7 +473,7 @@ module _ (k : Setting) (ready : IsReady k) (earlier : List Row) (m : Machine) (r
       let seen : slice_get (seen_by k m) (shape_of k).mem ≡ Some (Some after.0) = ap (λ i. slice_get (seen_by k m) i) (sym z) ∙ slice_first (suc ((shape_of k).mem - 1)) (seen_by k m) after.1 after.0 after.2 in
       (F.left_from k ready earlier m row inv is (shape_of k).mem after.0 seen).0
 
-  load_told : (t : Token) → get_or (loaded_by k m) (shape_of k).mem None ≡ Some t → slot_load (Some t) ≡ (run_trial (tree_of k) k.image (place (row ∷ earlier) t.cell.serial)).load
+  load_told : (t : Token) → get_or (loaded_by k m) (shape_of k).mem None ≡ Some t → slot_load (Some t) ≡ (run_trial (tree_of k) k.image (entries_of k) (place (row ∷ earlier) t.cell.serial)).load
   load_told t e =
       let n = (shape_of k).mem in
       let here = token_placed n t e in
@@ -482,7 +482,7 @@ module _ (k : Setting) (ready : IsReady k) (earlier : List Row) (m : Machine) (r
       let le = unflushed t e in
       let seen : drop n (seen_by k m) ≡ Some t ∷ drop (suc n) (loaded_by k m) = cleared_drop (struck (turn_by k m)) n (loaded_by k m) le inside ∙ drop_get (loaded_by k m) n t e in
       let serials = subst (λ l. Serials (row ∷ earlier) r l) seen (serials_drop (row ∷ earlier) r n (seen_by k m) (F.seen_serials k ready earlier m row inv is)) in
-      ap load_tried g.1 ∙ i.load ∙ ap (λ p. (run_trial (tree_of k) k.image p).load) (sym serials.0.0)
+      ap load_tried g.1 ∙ i.load ∙ ap (λ p. (run_trial (tree_of k) k.image (entries_of k) p).load) (sym serials.0.0)
 
   datum_told : loaded m.arch.mem (slot_load (get_or (loaded_by k m) (shape_of k).mem None)) ≡ datum_of d earlier row (cell_at (judged k) row (shape_of k).mem)
   datum_told = by_slot (get_or (loaded_by k m) (shape_of k).mem None) refl ∙ sym (ap (datum_of d earlier row) cell) where

@@ -1,4 +1,6 @@
 -- Successors: a token that settles turns the fetch exactly where another address than its successor's stands next.
+use Rattle.std.proofs.lemmas.List.{length-drop}
+use Rattle.rv_machine.proofs.Entered.{entry_seen, entry_struck, remains_at}
 use Rattle.std.proofs.Common.{◌≡◌, ◌≢◌, ℕ, suc, ◌+◌, ◌<◌, ◌≤◌, List, [], ◌∷◌, drop, take, length, Option, Some, None, Bool, true, false, refl, sym, ap, ◌∙◌, subst, arith, ◌⊎◌, inl, inr}
 use Rattle.std.specs.Prelude.{◌||◌, if◌then◌else◌, ◌==◌, is_some, slice_get}
 use Rattle.std.proofs.lemmas.Bool.{cases_lt}
@@ -11,13 +13,13 @@ use Rattle.rv_holds.specs.declared.token.Token.{Token}
 use Rattle.rv_holds.specs.declared.flushing.Turn.{Turn}
 use Rattle.rv_holds.specs.Tokens.{Slots, cells_of}
 use Rattle.rv_holds.specs.Holds.{is_late, stops_now}
-use Rattle.rv_holds.specs.Flushing.{next_of, settles_at, settles, nearest, mismatch, struck, redirect_of, unheld, cleared, fetch_after}
+use Rattle.rv_holds.specs.Flushing.{next_of, settles_at, settles, nearest, mismatch, struck, redirect_of, unheld, cleared, fetch_after, turn_of}
 use Rattle.rv_engine.specs.Settings.{Setting, Machine, shape_of}
 use Rattle.rv_engine.specs.Rows as Rows
-use Rattle.rv_engine.specs.Rows.{loaded_by, turn_by, seen_by, fetch_by, IsRowOf}
+use Rattle.rv_engine.specs.Rows.{loaded_by, turn_by, seen_by, fetch_by, IsRowOf, entered_by, written_by}
 use Rattle.rv_lawful.specs.Settings as Lawful
 use Rattle.rv_lawful.specs.Sight.{asked}
-use Rattle.rv_lawful.specs.LawfulTrace.{guessed, plain_fetch, fetch_address, StopsRun, IsSettlingStage, Settles, successor, IsNextYounger, HasNoYounger, IsMismatch, Successors}
+use Rattle.rv_lawful.specs.LawfulTrace.{guessed, plain_fetch, fetch_address, StopsRun, IsSettlingStage, Settles, successor, IsNextYounger, HasNoYounger, IsMismatch, Successors, IsFlushedByMismatch, IsFlushedByEntry}
 use Rattle.rv_machine.specs.Owing.{judged}
 use Rattle.rv_machine.specs.Placed.{run, Placed, IsReady}
 use Rattle.rv_machine.proofs.Before as B
@@ -28,7 +30,7 @@ use Rattle.rv_machine.proofs.OwnHolds.{ordered, then_stops, stops_then}
 use Rattle.rv_machine.proofs.Moving.{keeps_all}
 use Rattle.rv_machine.proofs.Filling.{fetch_told}
 use Rattle.rv_machine.proofs.Clearing.{cleared_drop, take_get, get_take, shown_as, shows_cell, oldest_of}
-use Rattle.rv_machine.proofs.Turns.{turner, settled_first, settles_parts, parts_settle, settles_where, none_before, struck_inside}
+use Rattle.rv_machine.proofs.Turns.{turner, settled_first, settles_parts, parts_settle, settles_where, none_before, plain_turn}
 
 module _ (k : Setting) (ready : IsReady k) (earlier : List Row) (m : Machine) (row : Row) (made : Made k earlier m row) where
   abbrev slots : Slots
@@ -38,7 +40,7 @@ module _ (k : Setting) (ready : IsReady k) (earlier : List Row) (m : Machine) (r
   flushed = struck (turn_by k m)
 
   inside : flushed ≤ length (loaded_by k m)
-  inside = struck_inside (shape_of k) m.fetch (loaded_by k m)
+  inside = B.struck_inside k ready earlier m made.inv
 
   pub seen_drop : (n : ℕ) → flushed ≤ n → drop n (seen_by k m) ≡ drop n (loaded_by k m)
   seen_drop n le = cleared_drop flushed n (loaded_by k m) le inside
@@ -130,7 +132,7 @@ module _ (k : Setting) (ready : IsReady k) (earlier : List Row) (m : Machine) (r
               absurd (s.runs x.0 (subst (λ d. StopsRun (judged k) earlier row stage d x.0) at.is x.2))
 
   turn_is : (stage : ℕ) (c : Cell) → Lawful.Stands (judged k) row stage c → Settles (judged k) earlier row stage c
-      → turn_by k m ≡ (if successor (judged k) (row ∷ earlier) c == nearest m.fetch (take stage (loaded_by k m)) then None else Some (record { stage = stage; address = successor (judged k) (row ∷ earlier) c }))
+      → turn_of (shape_of k) m.fetch (loaded_by k m) ≡ (if successor (judged k) (row ∷ earlier) c == nearest m.fetch (take stage (loaded_by k m)) then None else Some (record { stage = stage; address = successor (judged k) (row ∷ earlier) c }))
   turn_is stage c stands s =
       let x = settling stage c stands s in
       let low = (settling_inside (asked k.design c.word).late stage s.settling).1 in
@@ -186,7 +188,7 @@ module _ (k : Setting) (ready : IsReady k) (earlier : List Row) (m : Machine) (r
     by_case true e = absurd (ne (sym (test_eq b a e)))
     by_case false e = refl
 
-  turned : (stage : ℕ) (c : Cell) → IsMismatch (judged k) earlier row stage c → turn_by k m ≡ Some (record { stage = stage; address = successor (judged k) (row ∷ earlier) c })
+  turned : (stage : ℕ) (c : Cell) → IsMismatch (judged k) earlier row stage c → turn_of (shape_of k) m.fetch (loaded_by k m) ≡ Some (record { stage = stage; address = successor (judged k) (row ∷ earlier) c })
   turned stage c x =
       let near = nearest_is stage x.differs.0 x.differs.1 x.differs.2 in
       turn_is stage c x.stands x.settles
@@ -214,9 +216,9 @@ module _ (k : Setting) (ready : IsReady k) (earlier : List Row) (m : Machine) (r
     pub successor_is : successor (judged k) (row ∷ earlier) cell ≡ turn.address
     pub differs : (turn.address == nearest m.fetch (take turn.stage (loaded_by k m))) ≡ false
 
-  redirector : (turn : Turn) → turn_by k m ≡ Some turn → Redirector turn
-  redirector turn e =
-      let x = turner (shape_of k) m.fetch (loaded_by k m) turn e in
+  redirector : entered_by k m ≡ false → (turn : Turn) → turn_by k m ≡ Some turn → Redirector turn
+  redirector plain turn e =
+      let x = turner (shape_of k) m.fetch (loaded_by k m) turn (sym (plain_turn k m plain) ∙ e) in
       let le : flushed ≤ turn.stage = subst (λ o. struck o ≤ turn.stage) (sym e) (omega arith) in
       let rest : drop turn.stage (seen_by k m) ≡ Some x.token ∷ x.older = seen_drop turn.stage le ∙ x.rest in
       let here = here_of (seen_by k m) x.older x.token turn.stage rest in
@@ -268,30 +270,61 @@ module _ (k : Setting) (ready : IsReady k) (earlier : List Row) (m : Machine) (r
   redirected true stage a = refl
   redirected false stage a = refl
 
+  -- An entry
+
+  pub untaken : row.taken ≡ None → entered_by k m ≡ false
+  untaken none = by_case (entered_by k m) refl (sym made.is.taken ∙ none) where
+    by_case : (b : Bool) → entered_by k m ≡ b → (if b then Some (written_by k m).pc else None) ≡ None → entered_by k m ≡ false
+    by_case false e h = e
+    by_case true e h = cc
+
+  pub taken_at : entered_by k m ≡ true → row.taken ≡ Some (written_by k m).pc
+  taken_at e = made.is.taken ∙ ap (λ (b : Bool). if b then Some (written_by k m).pc else None) e
+
+  loaded_length : length (loaded_by k m) ≡ (shape_of k).stages
+  loaded_length = made.long
+
+  -- where the handler is entered no cell stands between EX and the last stage
+  none_between : entered_by k m ≡ true → (below : ℕ) (d : Cell) → flushed ≤ below → suc below < (shape_of k).stages → Lawful.Stands (judged k) row below d → ⊥
+  none_between e below d le lt stands =
+      let at = cell_at below d le stands in
+      let l = ap length at.rest in
+      let a = length-drop below (seen_by k m) in
+      let b = B.seen_length k ready earlier m made.inv in
+      cc (entry_seen k ready m made.long e, remains_at below (seen_by k m) at.older at.token at.rest (omega (arith, l, a, b, lt)))
+
   pub row_successors : Successors (judged k) earlier row
   row_successors =
       record {
-        flushes = λ stage c x below d lt stands. let n : flushed ≡ stage = ap struck (turned stage c x) in (gone_at below d (omega (arith, lt, n)) stands).1;
-        named = λ stage c x. made.is.redirect ∙ ap redirect_of (turned stage c x);
-        alone = λ stage c stands s alone.
+        flushes = λ stage c x below d lt stands. by_entry stage c x below d lt stands (entered_by k m) refl;
+        named = λ none stage c x. made.is.redirect ∙ ap redirect_of (plain_turn k m (untaken none) ∙ turned stage c x);
+        alone = λ none stage c stands s alone.
             let some = (settling_inside (asked k.design c.word).late stage s.settling).0 in
-            made.is.redirect ∙ ap redirect_of (turn_is stage c stands s)
+            made.is.redirect ∙ ap redirect_of (plain_turn k m (untaken none) ∙ turn_is stage c stands s)
             ∙ redirected (successor (judged k) (row ∷ earlier) c == nearest m.fetch (take stage (loaded_by k m))) stage (successor (judged k) (row ∷ earlier) c)
             ∙ ap (λ n. if successor (judged k) (row ∷ earlier) c == n then None else Some (successor (judged k) (row ∷ earlier) c)) (alone_next stage some alone);
-        flushed_only = λ s q. only s (turn_by k m) refl (made.flushed_from s q);
-        named_only = λ a q.
+        flushed_only = λ s q. only s (made.flushed_from s q) (entered_by k m) refl;
+        named_only = λ a none q.
             let t = named_turn (turn_by k m) a (sym made.is.redirect ∙ q) in
-            let x = redirector t.0 t.1 in
+            let x = redirector (untaken none) t.0 t.1 in
             (t.0.stage, x.cell, x.stands, x.settles_row, x.successor_is ∙ t.2, mismatch_or_none t.0 x);
       } where
-        only : (s : ℕ) (o : Option Turn) → turn_by k m ≡ o → ((i : ℕ) × (t : Token) × (i < flushed) × (slice_get (loaded_by k m) i ≡ Some (Some t)) × (t.cell.serial ≡ s))
-            → (stage : ℕ) × (c : Cell) × (below : ℕ) × (d : Cell) × IsMismatch (judged k) earlier row stage c × (below < stage) × Lawful.Stands (judged k) row below d × (d.serial ≡ s)
-        only s None e y =
+        by_entry : (stage : ℕ) (c : Cell) → IsMismatch (judged k) earlier row stage c → (below : ℕ) (d : Cell) → below < stage → Lawful.Stands (judged k) row below d → (b : Bool) → entered_by k m ≡ b → has_serial row.flushed d.serial ≡ true
+        by_entry stage c x below d lt stands false e =
+            let n : flushed ≡ stage = ap struck (plain_turn k m e ∙ turned stage c x) in
+            (gone_at below d (omega (arith, lt, n)) stands).1
+        by_entry stage c x below d lt stands true e = elim (cases_lt below flushed) [
+          | inl less ↦ (gone_at below d less stands).1
+          | inr le ↦ let low = (settling_inside (asked k.design c.word).late stage x.settles.settling).1 in absurd (none_between e below d le (omega (arith, lt, low)) stands)
+        ]
+
+        mismatched : (s : ℕ) → entered_by k m ≡ false → (o : Option Turn) → turn_by k m ≡ o → ((i : ℕ) × (t : Token) × (i < flushed) × (slice_get (loaded_by k m) i ≡ Some (Some t)) × (t.cell.serial ≡ s)) → IsFlushedByMismatch (judged k) earlier row s
+        mismatched s plain None e y =
             let n : flushed ≡ 0 = ap struck e in
             let lt = y.2 in
             absurd (omega (arith, lt, n))
-        only s (Some turn) e y =
-            let x = redirector turn e in
+        mismatched s plain (Some turn) e y =
+            let x = redirector plain turn e in
             let n : flushed ≡ turn.stage = ap struck e in
             let lt = y.2 in
             let under : y.0 < turn.stage = omega (arith, lt, n) in
@@ -300,6 +333,14 @@ module _ (k : Setting) (ready : IsReady k) (earlier : List Row) (m : Machine) (r
               | inl z ↦ (turn.stage, x.cell, y.0, b.1.0, z, under, b.1.1, b.1.3 ∙ y.4)
               | inr none ↦ absurd (none y.0 b.1.0 under b.1.1)
             ]
+
+        only : (s : ℕ) → ((i : ℕ) × (t : Token) × (i < flushed) × (slice_get (loaded_by k m) i ≡ Some (Some t)) × (t.cell.serial ≡ s)) → (b : Bool) → entered_by k m ≡ b → IsFlushedByMismatch (judged k) earlier row s ⊎ IsFlushedByEntry (judged k) row s
+        only s y false e = inl (mismatched s e (turn_by k m) refl y)
+        only s y true e =
+            let lt = y.2 in
+            let n = entry_struck k ready m made.long e in
+            let b = token_below flushed y.0 y.1 (take_get flushed y.0 (loaded_by k m) lt ∙ y.3) in
+            inr (ap (λ o. is_some o) (taken_at e), y.0, b.1.0, omega (arith, lt, n), b.1.1, b.1.3 ∙ y.4)
 
   -- The fetch address
 

@@ -6,7 +6,7 @@ use Rattle.rv_trace.specs.declared.row.Hold.{Hold}
 use Rattle.rv_holds.specs.declared.token.Token.{Token}
 use Rattle.rv_asks.specs.declared.asks.Asks.{Asks}
 use Rattle.rv_holds.specs.Tokens.{Slots, or_else, stop_of}
-use Rattle.rv_holds.specs.Holds.{custom_hold, late_hold, drain_hold, store_ahead, store_hold, memory_hold, shown, reading_hold, ending_hold}
+use Rattle.rv_holds.specs.Holds.{custom_hold, late_hold, leaving_hold, store_ahead, store_hold, memory_hold, shown, reading_hold, ending_hold}
 use Rattle.rv_engine.specs.Rows.{waited, going, advanced, first_slot}
 
 -- a token after the moves stood in its stage before and was held, or in the stage below and went on
@@ -70,7 +70,7 @@ last_hold k stage t e f g =
       own_by : Bool → Bool → Bool → Option Hold
       own_by a b c =
           or_else (or_else (if a then reading_hold k stage t [] else None) (if b then or_else (custom_hold [] t.asks) (late_hold []) else None))
-          (or_else (if b then drain_hold t [] else None)
+          (or_else (if b then leaving_hold t [] else None)
           (or_else (if stage == k.mem then or_else (memory_hold t) (store_hold [] t.asks) else None)
           (if c then ending_hold t else None)))
 

@@ -8,8 +8,8 @@ use Rattle.rv_trace.specs.declared.row.Hold.{Hold}
 use Rattle.rv_trace.specs.declared.row.Hold.TheVariants as H
 use Rattle.rv_holds.specs.declared.token.Token.{Token}
 use Rattle.rv_holds.specs.Tokens.{Slots, or_else, stop_of, cells_of}
-use Rattle.rv_holds.specs.Holds.{oldest, operand, withholder, waits_for, operand_hold, custom, writes_late, waits_for_custom, first_from, custom_hold, late, is_late, late_hold, waiting_hold, drain, drain_hold, store_ahead, does_store, store_hold, memory_hold, own_hold, stops_now, is_blocked, shown, board, reading_hold, left_behind, board_hold, ending_hold, lower_of, least_from, spawner, register_count}
-use Rattle.rv_engine.specs.Settings.{Setting, Machine, shape_of, outstanding_in}
+use Rattle.rv_holds.specs.Holds.{oldest, operand, withholder, waits_for, operand_hold, custom, writes_late, waits_for_custom, first_from, custom_hold, late, is_late, late_hold, waiting_hold, drain, drain_hold, store_ahead, does_store, store_hold, memory_hold, own_hold, stops_now, is_blocked, shown, board, reading_hold, left_behind, board_hold, ending_hold, lower_of, least_from, spawner, register_count, trap_hold, leaving_hold}
+use Rattle.rv_engine.specs.Settings.{Setting, Machine, shape_of, outstanding_in, interrupted_by}
 use Rattle.rv_engine.specs.Rows.{tail_after, advanced, seen_by, IsRowOf}
 use Rattle.rv_lawful.specs.Settings as Lawful
 use Rattle.rv_machine.specs.Owing.{judged}
@@ -94,7 +94,7 @@ plain_waiting k stage t older =
 plain_own : (k : Shape) (stage : ℕ) (t : Token) (older : Slots) → (suc stage == k.stages) ≡ false → IsPlain (own_hold k stage t older)
 plain_own k stage t older e =
     plain_or (waiting_hold k stage t older) _ (plain_waiting k stage t older)
-    (plain_or (if stage == k.ex then drain_hold t older else None) _ (plain_if (stage == k.ex) (drain_hold t older) (plain_if (is_some (stop_of t)) (drain (left_behind t older)) (plain_drain (left_behind t older))))
+    (plain_or (if stage == k.ex then leaving_hold t older else None) _ (plain_if (stage == k.ex) (leaving_hold t older) (plain_or (trap_hold t) (drain_hold t older) (plain_if t.beside.trap (Some H.Trap) refl) (plain_if (is_some (stop_of t)) (drain (left_behind t older)) (plain_drain (left_behind t older)))))
     (plain_or (if stage == k.mem then or_else (memory_hold t) (store_hold older t.asks) else None) (if suc stage == k.stages then ending_hold t else None)
     (plain_if (stage == k.mem) (or_else (memory_hold t) (store_hold older t.asks))
     (plain_or (memory_hold t) (store_hold older t.asks) (plain_unless (t.wait == 0) (Some (H.Wait t.wait)) refl) (plain_if t.asks.loads (store_ahead (oldest does_store older)) (plain_store (oldest does_store older)))))
@@ -106,8 +106,8 @@ plain_shown k stage t older e =
     (plain_or (own_hold k stage t older) (if is_blocked k (suc stage) older then Some H.Behind else None) (plain_own k stage t older e) (plain_if (is_blocked k (suc stage) older) (Some H.Behind) refl))
 
 -- nor is what is met beside the stages
-pub plain_met : (k : Shape) (o : Outstanding) (stage : ℕ) (a : Asks) → IsPlain (beside_of k o stage a).port
-plain_met k o stage a = plain_if (suc stage == k.stages) (retiring_hold o a) (plain_or (unit_hold o a.unit) (port_hold (port_serial (paying o)) a.destination) (plain_unit a.unit) (plain_port (port_serial (paying o)))) where
+pub plain_met : (k : Shape) (now : Bool) (o : Outstanding) (stage : ℕ) (a : Asks) → IsPlain (beside_of k now o stage a).port
+plain_met k now o stage a = plain_if (suc stage == k.stages) (retiring_hold o a) (plain_or (unit_hold o a.unit) (port_hold (port_serial (paying o)) a.destination) (plain_unit a.unit) (plain_port (port_serial (paying o)))) where
   plain_unit : (u : Option ℕ) → IsPlain (unit_hold o u)
   plain_unit None = refl
   plain_unit (Some u) = plain_if (is_frozen o.lasts o.entries u) (Some (H.UnitFull u)) refl
@@ -194,8 +194,8 @@ module _ (k : Setting) (ready : IsReady k) (earlier : List Row) (m : Machine) (r
   met_at : (i : ℕ) (t : Token) (rest : Slots) → drop i (seen_by k m) ≡ Some t ∷ rest → Lawful.is_tail t.beside.port ≡ false
   met_at i t rest d =
       let o = outstanding_in k m in
-      ap (λ b. Lawful.is_tail b.port) (meets_at (shape_of k) o i (seen_by k m) rest t (seen_meets k m (B.struck_inside k ready earlier m inv)) d)
-      ∙ plain_met (shape_of k) o i t.asks
+      ap (λ b. Lawful.is_tail b.port) (meets_at (shape_of k) (interrupted_by k m) o i (seen_by k m) rest t (seen_meets k m (B.struck_inside k ready earlier m inv)) d)
+      ∙ plain_met (shape_of k) (interrupted_by k m) o i t.asks
 
   stays_counted : (n : ℕ) (t : Token) (rest : Slots) → drop n (seen_by k m) ≡ Some t ∷ rest → (b : Bool) → (suc n == (shape_of k).stages) ≡ b → tail_after t.cell.hold t.tail + Lawful.tailed (judged k) (row ∷ earlier) t.cell.serial ≡ t.asks.tail
   stays_counted n t rest d false q =

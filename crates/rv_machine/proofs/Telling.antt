@@ -15,7 +15,7 @@ use Rattle.rv_holds.specs.Tokens.{Slots, makes_access, tried_access}
 use Rattle.rv_holds.specs.Holds.{decided, waiting_hold}
 use Rattle.rv_holds.specs.Flushing.{struck}
 use Rattle.rv_engine.specs.Owing.{Outstanding}
-use Rattle.rv_engine.specs.Settings.{Setting, Machine, shape_of, tree_of, outstanding_in}
+use Rattle.rv_engine.specs.Settings.{Setting, Machine, shape_of, tree_of, outstanding_in, interrupted_by}
 use Rattle.rv_engine.specs.Rows.{tried_with, seeing, is_ripe, slot_operands, read_with, reading, trying, is_loading, loading, fetched, fill_first, filled_by, owed_by, new_by, read_by, held_by, loaded_by, turn_by, seen_by, IsRowOf}
 use Rattle.rv_lawful.specs.Settings as Lawful
 use Rattle.rv_lawful.specs.LawfulTrace.{IsWordOf}
@@ -51,12 +51,12 @@ makes_of k p address stage older t lt i = let g = i.gone lt in ap (λ o. tried_a
 over_count : (k : Setting) (r owed stage : ℕ) (a b : Slots) (s : Option Token) → Alike a b → WaitSlot k (r + count a) owed stage s → WaitSlot k (r + count b) owed stage s
 over_count k r owed stage a b s h w = subst (λ n. WaitSlot k (r + n) owed stage s) (sym (alike_count a b h)) w
 
-reading_waits : (k : Setting) (ready : IsReady k) (x : List ℕ) (owed : ℕ) (o : Outstanding) (r stage : ℕ) (slots : Slots) → Placed k r stage slots → AreWaiting k r owed stage (reading (shape_of k) x owed o stage slots)
-reading_waits k ready x owed o r stage [] h = tt
-reading_waits k ready x owed o r stage (None ∷ older) h = (tt, reading_waits k ready x owed o r (suc stage) older h.1)
-reading_waits k ready x owed o r stage (Some t ∷ older) h = (
-  over_count k r owed stage older (reading (shape_of k) x owed o (suc stage) older) (Some (read_with (shape_of k) (slot_operands (shape_of k) stage (Some t) older x) owed o stage t)) (reading_alike (shape_of k) x owed o (suc stage) older) here,
-  reading_waits k ready x owed o r (suc stage) older h.1,
+reading_waits : (k : Setting) (ready : IsReady k) (x : List ℕ) (owed : ℕ) (now : Bool) (o : Outstanding) (r stage : ℕ) (slots : Slots) → Placed k r stage slots → AreWaiting k r owed stage (reading (shape_of k) x owed now o stage slots)
+reading_waits k ready x owed now o r stage [] h = tt
+reading_waits k ready x owed now o r stage (None ∷ older) h = (tt, reading_waits k ready x owed now o r (suc stage) older h.1)
+reading_waits k ready x owed now o r stage (Some t ∷ older) h = (
+  over_count k r owed stage older (reading (shape_of k) x owed now o (suc stage) older) (Some (read_with (shape_of k) (slot_operands (shape_of k) stage (Some t) older x) owed now o stage t)) (reading_alike (shape_of k) x owed now o (suc stage) older) here,
+  reading_waits k ready x owed now o r (suc stage) older h.1,
 ) where
   here : stage ≡ (shape_of k).mem → (if (stage == (shape_of k).mem) && makes_access t then owed else 0) ≡ (if accesses k (r + count older) then owed else 0)
   here at =
@@ -167,7 +167,7 @@ module _ (k : Setting) (ready : IsReady k) (earlier : List Row) (m : Machine) (r
       loading_waits k (tree_of k) m.arch.mem owed r 0 (held_by k m)
       (decided_waits k owed r 0 tried_slots
       (trying_waits k (tree_of k) m.future m.arch.mem owed r 0 (read_by k m)
-      (reading_waits k ready m.arch.x owed (outstanding_in k m) r 0 (filled_by k m) (B.filled_placed k ready earlier m inv))))
+      (reading_waits k ready m.arch.x owed (interrupted_by k m) (outstanding_in k m) r 0 (filled_by k m) (B.filled_placed k ready earlier m inv))))
 
   mem_loaded : (t : Token) (older : Slots) → drop (shape_of k).mem (seen_by k m) ≡ Some t ∷ older → (struck (turn_by k m) ≤ (shape_of k).mem) × (drop (shape_of k).mem (loaded_by k m) ≡ Some t ∷ older)
   mem_loaded t older e =

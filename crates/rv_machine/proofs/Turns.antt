@@ -1,4 +1,5 @@
 -- The token that settles its successor: there is one at most.
+use Rattle.rv_engine.specs.Rows.{entered_by, turn_by, loaded_by}
 use Rattle.std.proofs.Common.{◌≡◌, ℕ, zero, suc, ◌+◌, ◌-◌, ◌<◌, ◌≤◌, [], ◌∷◌, drop, take, length, Option, Some, None, Bool, true, false, refl, sym, ap, ◌∙◌, subst, arith}
 use Rattle.std.specs.Prelude.{◌&&◌, ◌||◌, not, if◌then◌else◌, ◌==◌, is_some}
 use Rattle.std.proofs.lemmas.List.{length-drop}
@@ -8,7 +9,7 @@ use Rattle.rv_holds.specs.declared.flushing.Turn.{Turn}
 use Rattle.rv_holds.specs.Tokens.{Slots}
 use Rattle.rv_holds.specs.Holds.{oldest, is_late, late, stops_now}
 use Rattle.rv_holds.specs.Flushing.{next_of, settles_at, settles, settled, nearest, mismatch, turn_of, struck}
-use Rattle.rv_engine.specs.Settings.{Setting, shape_of}
+use Rattle.rv_engine.specs.Settings.{Setting, shape_of, Machine}
 use Rattle.rv_machine.specs.Placed.{IsReady}
 use Rattle.rv_machine.specs.Told.{Decided}
 use Rattle.rv_machine.proofs.Deciding.{test_eq, late_here, late_behind, own_none, no_waiting, waits_late}
@@ -181,3 +182,10 @@ struck_inside k fetch slots = by_turn (turn_of k fetch slots) refl where
       let x = turner k fetch slots turn e in
       let lt = dropped_inside turn.stage slots x.older (Some x.token) x.rest in
       omega (arith, lt)
+
+-- the turn of a row in which the handler is not entered, and of one in which it is
+pub plain_turn : (k : Setting) (m : Machine) → entered_by k m ≡ false → turn_by k m ≡ turn_of (shape_of k) m.fetch (loaded_by k m)
+plain_turn k m e = ap (λ (b : Bool). if b then Some (record { stage = suc (shape_of k).ex; address = (shape_of k).trap }) else turn_of (shape_of k) m.fetch (loaded_by k m)) e
+
+pub entry_turn : (k : Setting) (m : Machine) → entered_by k m ≡ true → turn_by k m ≡ Some (record { stage = suc (shape_of k).ex; address = (shape_of k).trap })
+entry_turn k m e = ap (λ (b : Bool). if b then Some (record { stage = suc (shape_of k).ex; address = (shape_of k).trap }) else turn_of (shape_of k) m.fetch (loaded_by k m)) e

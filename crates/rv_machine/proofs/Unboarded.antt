@@ -1,5 +1,5 @@
 -- What a token may read that does not wait for an outstanding register.
-use Rattle.std.proofs.Common.{◌≡◌, ℕ, zero, suc, ◌+◌, ◌-◌, ◌<◌, ◌≤◌, List, Option, Some, None, Bool, true, false, refl, sym, ap, ◌∙◌, arith, ◌⊎◌, inl, inr}
+use Rattle.std.proofs.Common.{◌≡◌, ℕ, zero, suc, ◌+◌, ◌-◌, ◌<◌, ◌≤◌, List, Option, Some, None, Bool, true, false, refl, sym, ap, ◌∙◌, arith, ◌⊎◌, inl, inr, ◌^◌}
 use Rattle.std.specs.Prelude.{◌&&◌, ◌||◌, not, if◌then◌else◌, ◌==◌, nat_lt, slice_index}
 use Rattle.std.proofs.lemmas.Bool.{cases_lt}
 use Rattle.std.proofs.lemmas.Bool.Decides.{nat_tests}
@@ -14,7 +14,7 @@ use Rattle.rv_holds.specs.Tokens.{Slots}
 use Rattle.rv_holds.specs.Holds.{oldest, register_count, register_at, spawns_at, spawner, numbered, least_from, lower_of, board, board_hold}
 use Rattle.rv_engine.specs.declared.owing.Owed.{Owed}
 use Rattle.rv_engine.specs.Owing.{holder, board_of}
-use Rattle.rv_engine.specs.Settings.{Setting}
+use Rattle.rv_engine.specs.Settings.{Setting, shape_of}
 use Rattle.rv_lawful.specs.Outstanding.{Decoupled, touches}
 use Rattle.rv_machine.specs.Owing.{repaid, Owing}
 use Rattle.rv_machine.proofs.Deciding.{or_else_none, or_else_none_b, test_eq}
@@ -75,13 +75,13 @@ none_holds : (owed : List Owed) (a : Asks) (reg : ℕ) → board_of owed a ≡ N
 none_holds owed a reg h lt is nz = none_at (λ n. holder n owed) a reg h lt is nz
 
 -- so it is as it is with what is owed
-pub operand_unowed : (k : Setting) (rows : List Row) (outs : List Decoupled) (entries : List Entry) (owed : List Owed) (s : Arch) (a : Asks) (reg : ℕ) → Owing k rows outs entries owed → reg < 32 → board_of owed a ≡ None → IsOperand a reg → slice_index s.x reg ≡ slice_index (repaid owed s).x reg
-operand_unowed k rows outs entries owed s a reg h lt none is = by_case (reg == 0) refl where
+pub operand_unowed : (k : Setting) (rows : List Row) → (shape_of k).trap < 2 ^ 32 → (outs : List Decoupled) (entries : List Entry) (owed : List Owed) (s : Arch) (a : Asks) (reg : ℕ) → Owing k rows outs entries owed → reg < 32 → board_of owed a ≡ None → IsOperand a reg → slice_index s.x reg ≡ slice_index (repaid owed s).x reg
+operand_unowed k rows handler outs entries owed s a reg h lt none is = by_case (reg == 0) refl where
   by_case : (b : Bool) → (reg == 0) ≡ b → slice_index s.x reg ≡ slice_index (repaid owed s).x reg
   by_case true e =
       let z = test_eq reg 0 e in
-      ap (λ n. slice_index s.x n) z ∙ sym (unowed_zero k rows outs entries owed s h) ∙ ap (λ n. slice_index (repaid owed s).x n) (sym z)
-  by_case false e = sym (unowed k rows reg outs entries owed s lt h (none_holds owed a reg none lt is e))
+      ap (λ n. slice_index s.x n) z ∙ sym (unowed_zero k rows handler outs entries owed s h) ∙ ap (λ n. slice_index (repaid owed s).x n) (sym z)
+  by_case false e = sym (unowed k rows handler reg outs entries owed s lt h (none_holds owed a reg none lt is e))
 
 -- a token that Board does not hold waits for none
 pub board_parts : (t : Token) (older : Slots) → board_hold t older ≡ None → (t.beside.board ≡ None) × (least_from (spawner older t.asks) 0 register_count ≡ None)

@@ -18,7 +18,7 @@ use Rattle.rv_holds.specs.declared.token.Token.{Token}
 use Rattle.rv_holds.specs.Holds.{memory_hold, tail_hold, ending_hold, shown as shown_hold}
 use Rattle.rv_engine.specs.declared.owing.Owed.{Owed}
 use Rattle.rv_engine.specs.Owing.{paying, paying_among, unit_hold, port_serial, port_hold, retiring_hold, beside_of, unit_entered}
-use Rattle.rv_engine.specs.Settings.{Setting, Machine, shape_of, outstanding_in}
+use Rattle.rv_engine.specs.Settings.{Setting, Machine, shape_of, outstanding_in, interrupted_by}
 use Rattle.rv_engine.specs.Rows.{seen_by, left_by, going, into_unit, entering_of, owed_tried, machine_after, IsRowOf}
 use Rattle.rv_lawful.specs.Outstanding.{Decoupled, serial_written, in_unit, entering, units_after, outstanding}
 use Rattle.rv_lawful.specs.LawfulTrace.{serial_in}
@@ -75,7 +75,7 @@ module _ (k : Setting) (ready : IsReady k) (earlier : List Row) (m : Machine) (r
       let free = sym (last_hold (shape_of k) n t no_rd no_ex is_last) ∙ sym shows ∙ q in
       let ends = or_else_none_b (if n == (shape_of k).mem then memory_hold t else None) (ending_hold t) free in
       let port : t.beside.port ≡ None = or_else_none_b (tail_hold t) t.beside.port ends in
-      let meets : t.beside ≡ beside_of (shape_of k) o n t.asks = meets_at (shape_of k) o n (seen_by k m) [] t (seen_meets k m (B.struck_inside k ready earlier m inv)) d in
+      let meets : t.beside ≡ beside_of (shape_of k) (interrupted_by k m) o n t.asks = meets_at (shape_of k) (interrupted_by k m) o n (seen_by k m) [] t (seen_meets k m (B.struck_inside k ready earlier m inv)) d in
       let retiring : retiring_hold o t.asks ≡ None = sym (ap (λ (z : Bool). if z then retiring_hold o t.asks else None) is_last) ∙ sym (ap (λ b. b.port) meets) ∙ port in
       or_else_none (unit_hold o t.asks.unit) (port_hold (port_serial (paying o)) t.asks.destination) retiring where
         higher : (a b : ℕ) → b < a → (a == b) ≡ false

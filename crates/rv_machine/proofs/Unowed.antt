@@ -1,5 +1,5 @@
 -- A register that nothing outstanding has as its target is as it was.
-use Rattle.std.proofs.Common.{◌≡◌, ◌≢◌, ℕ, ◌-◌, ◌<◌, List, [], ◌∷◌, Option, Some, None, Bool, true, false, if◌then◌else◌, nat_eq, refl, sym, ap, ◌∙◌, arith}
+use Rattle.std.proofs.Common.{◌≡◌, ◌≢◌, ℕ, ◌-◌, ◌<◌, List, [], ◌∷◌, Option, Some, None, Bool, true, false, if◌then◌else◌, nat_eq, refl, sym, ap, ◌∙◌, arith, ◌^◌}
 use Rattle.std.specs.Prelude.{slice_index, nat_lt, slice_index_or}
 use Rattle.std.proofs.lemmas.Bool.Decides.{nat_tests}
 use Rattle.std.proofs.lemmas.List.{get_or-set_other}
@@ -25,13 +25,13 @@ use Rattle.rv_unit.specs.declared.entry.Entry.{Entry}
 use Rattle.rv_holds.specs.Holds.{register_at}
 use Rattle.rv_engine.specs.declared.owing.Owed.{Owed}
 use Rattle.rv_engine.specs.Owing.{holder}
-use Rattle.rv_engine.specs.Settings.{Setting, tree_of}
+use Rattle.rv_engine.specs.Settings.{Setting, tree_of, shape_of}
 use Rattle.rv_lawful.specs.Outstanding.{Decoupled, is_register, has_target}
 use Rattle.rv_lawful.specs.Sight.{asked}
 use Rattle.rv_machine.specs.Owing.{judged, repaid, IsOwing, Owing}
-use Rattle.rv_machine.specs.Placed.{run}
+use Rattle.rv_machine.specs.Placed.{run, entries_of}
 use Rattle.rv_machine.proofs.Deciding.{or_else_none, or_else_none_b, if_none, test_ne}
-use Rattle.rv_machine.proofs.RunWords.{run_words}
+use Rattle.rv_machine.proofs.RunWords.{run_words, handled}
 use Rattle.rv_machine.proofs.WrittenWords.{IsXWrite, step_write}
 
 -- the x register that a word spawns is that of its field
@@ -75,13 +75,13 @@ no_target_is n w older h = (
   or_else_none (holder n older) _ h,
 )
 
-module _ (k : Setting) (rows : List Row) where
+module _ (k : Setting) (rows : List Row) (handler : (shape_of k).trap < 2 ^ 32) where
   one_unowed : (reg : ℕ) (o : Decoupled) (e : Entry) (w : Owed) (s : Arch) → IsOwing k rows o e w → ((nat_eq (rd_of o.1) 0 ≡ false) → is_register w.asks.spawned reg ≡ false) → slice_index (paid w.writes s).x reg ≡ slice_index s.x reg
   one_unowed reg o e w s h none =
       let p = place rows o.0 in
       let c = h.commit in
       ap (λ v. slice_index (paid v s).x reg) h.writes
-      ∙ owed_write w.asks ((judged k).course.own p) c s reg (step_write (tree_of k) k.image (run k p) c (run_words (tree_of k) k.image p) h.step)
+      ∙ owed_write w.asks ((judged k).course.own p) c s reg (step_write (tree_of k) k.image (run k p) c (run_words (tree_of k) k.image (entries_of k) (handled (shape_of k).trap k.lines k.places handler) p) h.step)
       (λ n q. spawned_rd k.design o.1 n (ap (λ (a : Asks). a.spawned) (sym h.asks) ∙ q) ∙ ap rd_of (sym h.word))
       (λ q. none (ap (λ v. nat_eq (rd_of v) 0) (sym h.word) ∙ q))
 

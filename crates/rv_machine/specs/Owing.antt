@@ -22,9 +22,9 @@ use Rattle.rv_lawful.specs.Outstanding.{Decoupled, touches, has_target, targets_
 use Rattle.rv_lawful.specs.LawfulTrace.{IsWordOf}
 use Rattle.rv_lawful.specs.Sight.{asked}
 
--- what the rows of a setting are judged against
+-- what the rows of a setting are judged against, where the run goes to the handler at its places
 abbrev pub judged : Setting → Lawful.Setting
-judged k = Lawful.setting k.design k.image k.waits
+judged k = Lawful.setting k.design k.image k.waits k.lines k.places
 
 -- the state with what these owe, the oldest first
 abbrev pub repaid : List Owed → Arch → Arch

@@ -1,5 +1,6 @@
 -- Where the tokens of a pipeline with an extension stand in the sequential run, and what ties its machine to the rows before (this project's choice).
-use Rattle.std.specs.Prelude.{◌≡◌, ◌≢◌, ℕ, zero, suc, ◌+◌, ◌-◌, ◌%◌, ◌^◌, ◌<◌, ◌≤◌, List, [], ◌∷◌, drop, length, get_or, Option, Some, None, Bool, true, false, ◌&&◌, if◌then◌else◌, ◌==◌, nat_lt, slice_get, slice_index}
+use Rattle.std.specs.List.{list_any}
+use Rattle.std.specs.Prelude.{◌≡◌, ◌≢◌, ℕ, zero, suc, ◌+◌, ◌-◌, ◌%◌, ◌^◌, ◌<◌, ◌≤◌, List, [], ◌∷◌, drop, length, get_or, Option, Some, None, Bool, true, false, ◌&&◌, if◌then◌else◌, ◌==◌, is_some, nat_eq, nat_lt, slice_get, slice_index}
 use Rattle.ix_bits.specs.declared.number.Bits.{Bits}
 use Rattle.ix_extension.specs.Extensions.{ExtensionTree}
 use Rattle.rv_core.specs.declared.Shape.{Shape}
@@ -14,7 +15,7 @@ use Rattle.rv_seq.specs.declared.commit.Slot.TheVariants.{Absent}
 use Rattle.rv_seq.specs.Commits.{with_slot}
 use Rattle.rv_seq.specs.States.{zero_bit, state_at}
 use Rattle.rv_asks.specs.declared.asks.Asks.{Asks}
-use Rattle.rv_seq.specs.Interrupts.{return_to}
+use Rattle.rv_seq.specs.Interrupts.{return_to, is_enabled}
 use Rattle.rv_seq.specs.Steps.{word_at, step}
 use Rattle.rv_seq.specs.Runs as Runs
 use Rattle.rv_trace.specs.declared.row.Row.{Row}
@@ -27,12 +28,14 @@ use Rattle.rv_waits.specs.Waits.{greatest}
 use Rattle.rv_holds.specs.declared.token.Token.{Token}
 use Rattle.rv_holds.specs.Tokens.{Slots, cell_of, cells_of, stop_in}
 use Rattle.rv_holds.specs.Holds.{oldest, is_late, writes_late}
-use Rattle.rv_engine.specs.Settings.{Setting, Machine, shape_of, tree_of}
+use Rattle.rv_engine.specs.Settings.{Setting, Machine, shape_of, tree_of, pending_by}
 use Rattle.ix_eval.specs.Tables.{table}
 use Rattle.rv_engine.specs.declared.owing.Owed.{Owed}
 use Rattle.rv_engine.specs.Rows.{first_slot, owed_by}
 use Rattle.rv_lawful.specs.Forwarding.{x_written}
-use Rattle.rv_lawful.specs.Future.{is_pending, future_file}
+use Rattle.rv_trace.specs.declared.row.Cell.{Cell}
+use Rattle.rv_lawful.specs.Entering.{places, is_line_pending}
+use Rattle.rv_lawful.specs.Future.{is_pending, leaves_execute, future_file}
 use Rattle.rv_lawful.specs.Settings as Lawful
 use Rattle.rv_lawful.specs.Settings.{run_trial, jump_with}
 use Rattle.rv_machine.specs.Owing.{judged, repaid, paid_owed, Owing, RetiredAs, Distinct, Apart}
@@ -47,9 +50,25 @@ use Rattle.rv_lawful.specs.Sight.{asked, HasWords, AreWords, IsEarly, EarlyLaw, 
 use Rattle.rv_effect.specs.WordEffects.{AreWide}
 use Rattle.rv_sight.specs.Written.{WrittenLaw}
 
+-- where the run goes to the handler
+abbrev pub entries_of : Setting → Option Runs.Entries
+entries_of k = Lawful.entries_at (shape_of k).trap k.lines k.places
+
 -- the state after so many steps of the run
 abbrev pub run : Setting → ℕ → Arch
-run k p = Runs.run (tree_of k) k.image p
+run k p = Runs.run_with (tree_of k) k.image (entries_of k) p
+
+-- the same machine, its rows judged by the run that goes to the handler at these places
+abbrev pub at_places : Setting → List ℕ → Setting
+at_places k ps = record { design = k.design; image = k.image; waits = k.waits; lines = k.lines; places = ps }
+
+-- does the run go to the handler at this place?
+abbrev pub is_entry : Setting → ℕ → Bool
+is_entry k p = list_any (λ q. nat_eq q p) k.places
+
+-- it goes there at no place past this one
+abbrev pub NonePast : Setting → ℕ → Type 0
+NonePast k r = (p : ℕ) → r < p → is_entry k p ≡ false
 
 -- a word that is tried with what its instruction sees of a state answers as the step of that state
 abbrev pub AnswerLaw : Type 0
@@ -64,6 +83,7 @@ pub record IsReady (k : Setting) : Type 0 where
   pub mem_last : (shape_of k).mem < (shape_of k).stages
   pub ex_last : (shape_of k).ex + 1 < (shape_of k).stages
   pub most : (shape_of k).stages ≤ 5
+  pub handler : (shape_of k).trap < 2 ^ 32
   pub early : EarlyLaw k.design
   pub exact : ExactLaw k.design
   pub keeps : KeepsLaw k.design
@@ -114,7 +134,7 @@ pub record IsTried (k : Setting) (p : ℕ) (t : Token) (trial : Trial) : Type 0 
   pub tried : t.trial ≡ Some trial
   pub early : IsEarly t.asks trial.answer ((judged k).course.answer p)
   pub accesses : trial.accesses ≡ (judged k).course.accesses p
-  pub load : trial.load ≡ (run_trial (tree_of k) k.image p).load
+  pub load : trial.load ≡ (run_trial (tree_of k) k.image (entries_of k) p).load
   pub blocks : trial.blocks ≡ (judged k).course.blocks p
   pub x : t.asks.destination ≢ 0 → t.asks.x_time < (shape_of k).mem → x_written trial.answer ≡ x_written ((judged k).course.answer p)
 
@@ -221,21 +241,54 @@ to_go k most owed stage (s ∷ older) = first_of_two (to_go k most owed (suc sta
 abbrev pub rank : Shape → ℕ → ℕ → Slots → ℕ
 rank k most owed slots = first_of_two (to_go k most owed 0 slots) (suc (k.stages + most + 64))
 
+-- how many rows the oldest of these tokens needs to pass EX, where it stands there or below, and the first of them in this stage; 0 with none
+abbrev pub to_pass : ℕ → ℕ → Slots → ℕ
+to_pass ex stage [] = 0
+to_pass ex stage (None ∷ older) = to_pass ex (suc stage) older
+to_pass ex stage (Some t ∷ older) = first_of_two (to_pass ex (suc stage) older) (suc ex - stage)
+
+-- the same, with none those that the next one needs
+abbrev pub passing : Shape → Slots → ℕ
+passing k slots = first_of_two (to_pass k.ex 0 slots) (suc k.ex)
+
+-- the handler is entered as soon as the line is pending: there is one, interrupts are taken, and no token stands above EX
+abbrev pub may_enter : Setting → Machine → Bool
+may_enter k m = is_some k.lines && (is_enabled m.arch.trap && (count (drop (suc (shape_of k).ex) m.slots) == 0))
+
+-- the rows that may still pass in the stages: as long as the handler may be entered, those up to an entry, or until a token has passed EX, and then all
+abbrev pub stage_rank : Setting → ℕ → Machine → ℕ
+stage_rank k most m = if may_enter k m then passing (shape_of k) m.slots + suc ((shape_of k).stages + most + 64) else rank (shape_of k) most (owed_by k m) m.slots
+
 -- the same with the rows for which what stands in units may hold the stages back
 abbrev pub whole_rank : Setting → ℕ → Machine → ℕ
-whole_rank k most m = unit_rank (lasts_of k.design.plans) m.entries + rank (shape_of k) most (owed_by k m) m.slots
+whole_rank k most m = unit_rank (lasts_of k.design.plans) m.entries + stage_rank k most m
 
 -- units have no more entries than there are registers
 abbrev pub most_entries : Setting → ℕ
 most_entries k = 32 + length (tree_of k).registers
 
+-- with a line the stages may be filled anew
+abbrev pub more_rows : Setting → ℕ
+more_rows k = if is_some k.lines then (shape_of k).stages else 0
+
 -- the rank is never greater
 abbrev pub greatest_rank : Setting → ℕ
-greatest_rank k = (64 - (shape_of k).stages) + most_entries k + ((shape_of k).stages + greatest k.waits + 65)
+greatest_rank k = (64 - (shape_of k).stages) + most_entries k + ((shape_of k).stages + greatest k.waits + 65) + more_rows k
+
+-- each cell that left EX in these rows has a place below this one
+abbrev pub AreExecuted : Setting → List Row → ℕ → Type 0
+AreExecuted k [] bound = Unit {0}
+AreExecuted k (row ∷ earlier) bound = ((c : Cell) → leaves_execute (judged k) row ≡ Some c → place (row ∷ earlier) c.serial < bound) × AreExecuted k earlier bound
 
 -- what ties the machine to the rows before
 pub record Inv (k : Setting) (earlier : List Row) (m : Machine) : Type 0 where
   pub stages : length m.slots ≡ (shape_of k).stages
+  -- the run goes to the handler where these rows say so, and the line is pending where they do
+  pub entries : k.places ≡ places earlier
+  pub past : NonePast k (retirements earlier)
+  pub rows : m.rows ≡ length earlier
+  pub line : pending_by k m ≡ is_line_pending k.lines earlier
+  pub executed : AreExecuted k earlier (retirements earlier + count (drop (suc (shape_of k).ex) m.slots))
   -- with what is owed its state is the run's
   pub arch : repaid m.owed m.arch ≡ run k (retirements earlier)
   -- and each of its x registers has a word

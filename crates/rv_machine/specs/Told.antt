@@ -15,6 +15,7 @@ use Rattle.rv_unit.specs.Timed.{IsTimed}
 use Rattle.rv_lawful.specs.Outstanding as Out
 use Rattle.rv_engine.specs.Settings.{Setting, shape_of}
 use Rattle.rv_lawful.specs.Settings as Lawful
+use Rattle.rv_lawful.specs.Entering.{is_interrupted}
 use Rattle.rv_lawful.specs.LawfulTrace.{IsWordOf}
 use Rattle.rv_machine.specs.Owing.{judged, Owing, RetiredAs, Distinct}
 use Rattle.rv_machine.specs.Placed.{count, HasWord, IsTried, Placed, Serials}
@@ -54,7 +55,7 @@ pub record IsBeside (k : Setting) (earlier : List Row) (row : Row) (seen : Slots
   pub alive : (s : ℕ) → is_flushed earlier s ≡ false → is_retired earlier s ≡ true → is_flushed (row ∷ earlier) s ≡ false
   -- and what is written is retired
   pub paid : (s : ℕ) → Out.is_written earlier s ≡ true → is_retired earlier s ≡ true
-  pub meets : (stage : ℕ) (t : Token) (older : Slots) → drop stage seen ≡ Some t ∷ older → t.beside ≡ beside_of (shape_of k) o stage t.asks
+  pub meets : (stage : ℕ) (t : Token) (older : Slots) → drop stage seen ≡ Some t ∷ older → t.beside ≡ beside_of (shape_of k) (is_interrupted (judged k) earlier) o stage t.asks
 
 -- what is told of a row with these slots, of which the first stages are flushed
 pub record Told (k : Setting) (earlier : List Row) (row : Row) (seen : Slots) : Type 0 where

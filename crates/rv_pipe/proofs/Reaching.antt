@@ -1,6 +1,7 @@
 -- What the modules beside a machine show is what nets show that its rows drive.
-use Rattle.std.proofs.Common.{◌≡◌, ◌∙◌, refl, sym, ap, subst, ℕ, suc, pred, List, [], ◌∷◌, ◌++◌, length, Some}
+use Rattle.std.proofs.Common.{◌≡◌, ◌∙◌, refl, sym, ap, subst, ℕ, suc, pred, List, [], ◌∷◌, ◌++◌, length, Option, Some, None}
 use Rattle.std.specs.Prelude.{slice_get}
+use Rattle.std.proofs.lemmas.Option.{none-some}
 use Rattle.ix_net.specs.declared.netlist.Net.{Net}
 use Rattle.ix_plan.specs.declared.design.Design.{Design}
 use Rattle.ix_plan.specs.declared.design.Plan.{Plan}
@@ -40,13 +41,13 @@ ports_same d (w ∷ earlier) drivers e h = same_ports h.0 drivers w h.2 ∙ port
 
 -- ---- and what they show is what driven nets show
 
-pub inputs_same : (d : Design) (image waits : List ℕ) → IsRunnable d image → ShownLaw → (n : ℕ) (p : Plan) (rows : List Row) → AreRows (setting d image waits) rows
-    → inputs_with (module_at d n p) p (shown_over (setting d image waits) rows) ≡ inputs_over (drives_of d image waits) n p rows
+pub inputs_same : (d : Design) (image waits : List ℕ) → IsRunnable d image → ShownLaw → (n : ℕ) (p : Plan) (rows : List Row) → AreRows (setting d image waits None) rows
+    → inputs_with (module_at d n p) p (shown_over (setting d image waits None) rows) ≡ inputs_over (drives_of d image waits None []) n p rows
 unfolding inputs_over
 inputs_same d image waits can law n p [] are = refl
 inputs_same d image waits can law n p (row ∷ earlier) are =
-    ap (λ l. l ++ inputs_by (module_at d n p) p (shown_of (setting d image waits) (machine_at (setting d image waits) earlier)) ∷ []) (inputs_same d image waits can law n p earlier are.2)
-    ∙ ap (λ w. inputs_over (drives_of d image waits) n p earlier ++ inputs_by (module_at d n p) p w ∷ []) (law d image waits row earlier can are)
+    ap (λ l. l ++ inputs_by (module_at d n p) p (shown_of (setting d image waits None) (machine_at (setting d image waits None) earlier)) ∷ []) (inputs_same d image waits can law n p earlier are.2)
+    ∙ ap (λ w. inputs_over (drives_of d image waits None []) n p earlier ++ inputs_by (module_at d n p) p w ∷ []) (law d image waits None row earlier can are)
 
 long_over : (k : Setting) (rows : List Row) → length (shown_over k rows) ≡ length rows
 long_over k [] = refl
@@ -54,10 +55,10 @@ long_over k (row ∷ earlier) = ap suc (long_over k earlier)
 
 -- there are runs of the design's nets, driven by the rows, whose newest cycle shows what the modules do
 pub driven : (d : Design) (image waits : List ℕ) (row : Row) (earlier : List Row) (modules : List Driver) → IsRunnable d image → ShownLaw → NetsLaw → length d.plans ≡ length d.nets
-    → AreRows (setting d image waits) (row ∷ earlier) → Reached d (shown_over (setting d image waits) (row ∷ earlier)) modules
-    → (runs : List (List (List ℕ))) × AreDriven (drives_of d image waits) d.nets (row ∷ earlier) runs × (port_values d.nets runs (length earlier) ≡ ports_shown modules)
+    → AreRows (setting d image waits None) (row ∷ earlier) → Reached d (shown_over (setting d image waits None) (row ∷ earlier)) modules
+    → (runs : List (List (List ℕ))) × AreDriven (drives_of d image waits None []) d.nets (row ∷ earlier) runs × (port_values d.nets runs (length earlier) ≡ ports_shown modules)
 driven d image waits row earlier modules can shown nets e are reached =
-    let k = setting d image waits in
+    let k = setting d image waits None in
     let x = nets d (shown_of k (machine_at k earlier)) (shown_over k earlier) modules e reached in (
       x.0,
       record {
@@ -68,14 +69,20 @@ driven d image waits row earlier modules can shown nets e are reached =
     )
 
 -- so of a port by its number, and the outputs keep what is promised of them
-pub driven_port : (d : Design) (image waits : List ℕ) (rows earlier : List Row) (row : Row) (modules : List Driver) (k value : ℕ) → rows ≡ row ∷ earlier → IsRunnable d image → ShownLaw → NetsLaw → PromiseLaw → length d.plans ≡ length d.nets
-    → AreRows (setting d image waits) rows → Reached d (shown_over (setting d image waits) rows) modules → slice_get (ports_shown modules) k ≡ Some value
-    → (runs : List (List (List ℕ))) × AreDriven (drives_of d image waits) d.nets rows runs × AllPromised (drives_of d image waits) d.nets rows runs × (slice_get (port_values d.nets runs (length earlier)) k ≡ Some value)
-driven_port d image waits rows earlier row modules k value same can shown nets promise e are reached is =
-    let x = driven d image waits row earlier modules can shown nets e (subst (λ l. AreRows (setting d image waits) l) same are) (subst (λ l. Reached d (shown_over (setting d image waits) l) modules) same reached) in
-    let all : AreDriven (drives_of d image waits) d.nets rows x.0 = subst (λ l. AreDriven (drives_of d image waits) d.nets l x.0) (sym same) x.1 in (
+driven_plain : (d : Design) (image waits : List ℕ) (rows earlier : List Row) (row : Row) (modules : List Driver) (k value : ℕ) → rows ≡ row ∷ earlier → IsRunnable d image → ShownLaw → NetsLaw → PromiseLaw → length d.plans ≡ length d.nets
+    → AreRows (setting d image waits None) rows → Reached d (shown_over (setting d image waits None) rows) modules → slice_get (ports_shown modules) k ≡ Some value
+    → (runs : List (List (List ℕ))) × AreDriven (drives_of d image waits None []) d.nets rows runs × AllPromised (drives_of d image waits None []) d.nets rows runs × (slice_get (port_values d.nets runs (length earlier)) k ≡ Some value)
+driven_plain d image waits rows earlier row modules k value same can shown nets promise e are reached is =
+    let x = driven d image waits row earlier modules can shown nets e (subst (λ l. AreRows (setting d image waits None) l) same are) (subst (λ l. Reached d (shown_over (setting d image waits None) l) modules) same reached) in
+    let all : AreDriven (drives_of d image waits None []) d.nets rows x.0 = subst (λ l. AreDriven (drives_of d image waits None []) d.nets l x.0) (sym same) x.1 in (
       x.0,
       all,
       promise d image waits rows x.0 can are all,
       ap (λ l. slice_get l k) x.2 ∙ is,
     )
+
+pub driven_port : (d : Design) (image waits : List ℕ) (lines : Option (List ℕ)) → lines ≡ None → (rows earlier : List Row) (row : Row) (modules : List Driver) (k value : ℕ) → rows ≡ row ∷ earlier → IsRunnable d image → ShownLaw → NetsLaw → PromiseLaw
+    → length d.plans ≡ length d.nets → AreRows (setting d image waits lines) rows → Reached d (shown_over (setting d image waits lines) rows) modules → slice_get (ports_shown modules) k ≡ Some value
+    → (runs : List (List (List ℕ))) × AreDriven (drives_of d image waits None []) d.nets rows runs × AllPromised (drives_of d image waits None []) d.nets rows runs × (slice_get (port_values d.nets runs (length earlier)) k ≡ Some value)
+driven_port d image waits None none = driven_plain d image waits
+driven_port d image waits (Some lines) none = absurd (none-some lines (sym none))

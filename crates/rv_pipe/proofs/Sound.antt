@@ -78,6 +78,8 @@ module _ (k : Setting) (asking : Asking) (scratch scratch' : Scratch) (kept kept
       let few = sound.few in
       let few_accesses = sound.few_accesses in
       let few_stood = sound.few_stood in
+      let few_rows = sound.few_rows in
+      let rows_then : kept'.front.rows ≡ suc kept.front.rows = ap (λ (n : Machine). n.rows) after in
       record {
         well_formed = sound.well_formed;
         sheet = sound.sheet;
@@ -87,6 +89,7 @@ module _ (k : Setting) (asking : Asking) (scratch scratch' : Scratch) (kept kept
         few = omega (arith, next, a, few);
         few_accesses = omega (arith, accesses, b, few_accesses);
         few_stood = omega (arith, stood, c, few_stood);
+        few_rows = omega (arith, rows_then, few_rows);
         machine = machine_then;
         fit = fit;
         owing = owing;
@@ -103,6 +106,7 @@ sound_first k asking scratch kept cycles fits well_formed sheet asked ready firs
     let next : kept.front.next ≡ 0 = ap (λ (n : Machine). n.next) first in
     let accesses : kept.front.accesses ≡ 0 = ap (λ (n : Machine). n.accesses) first in
     let stood : kept.front.stood ≡ 0 = ap (λ (n : Machine). n.stood) first in
+    let none : kept.front.rows ≡ 0 = ap (λ (n : Machine). n.rows) first in
     record {
       well_formed = well_formed;
       sheet = sheet;
@@ -112,6 +116,7 @@ sound_first k asking scratch kept cycles fits well_formed sheet asked ready firs
       few = omega (arith, next);
       few_accesses = omega (arith, accesses);
       few_stood = omega (arith, stood);
+      few_rows = omega (arith, none);
       machine = first;
       fit = fit;
       owing = owing;

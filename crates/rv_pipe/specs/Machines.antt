@@ -38,6 +38,7 @@ pub record IsSound (k : Setting) (asking : Asking) (scratch : Scratch) (kept : K
   pub few : kept.front.next ≤ length rows
   pub few_accesses : kept.front.accesses ≤ length rows
   pub few_stood : kept.front.stood ≤ length rows
+  pub few_rows : kept.front.rows ≤ length rows
   pub machine : machine_of (shape_of k) kept ≡ machine_at k rows
   pub fit : IsFit k (machine_of (shape_of k) kept)
   pub owing : IsOwingOf k.design kept.owing

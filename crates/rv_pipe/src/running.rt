@@ -1,3 +1,4 @@
+ghost use Rattle.std.specs.Option.{option_copied};
 ghost use Rattle.std.specs.Prelude.{◌≡◌, ℕ, ◌≤◌, List, [], length, take, vec_capacity, None, OnOk, Err};
 ghost use Rattle.ix_standing.specs.Standing.{Stands};
 ghost use Rattle.ix_io.specs.Faults.{Rose};
@@ -5,6 +6,7 @@ ghost use Rattle.ix_io.specs.Sink.{Appends, AppendsFront};
 ghost use Rattle.rv_trace.specs.Trace.{newest};
 ghost use Rattle.rv_machine.specs.Running.{AreRows, machine_at};
 ghost use Rattle.rv_machine.specs.Owing.{targets_owed};
+ghost use Rattle.rv_engine.specs.Settings.{setting};
 ghost use Rattle.rv_machine.specs.DesignText.{most_targets, IsDesignText};
 
 use crate::machine::Machine;
@@ -12,7 +14,7 @@ use ix_io::{Out, Sink};
 use ix_plan::{Design, Target};
 use rv_isa::Image;
 use rv_text::{RunErr, write_trace};
-use rv_waits::Waits;
+use rv_waits::{Lines, Waits};
 use std::alloc::Global;
 
 /// So many registers can have an outstanding write: 32 of the base, and 16 custom ones.
@@ -49,19 +51,20 @@ fn list_outstanding(machine: &Machine<'_>, list: &mut Vec<(u32, Target)>)
     }
 }
 
-/// Runs an image on the core and with the extension of a design, over a memory with these waits, for so many cycles or to a stop, and writes the text of the
-/// run: the lines of each row, and the state. All memory is taken before the first cycle.
+/// Runs an image on the core and with the extension of a design, over a memory with these waits, and with this interrupt line, if there is one, for so many
+/// cycles or to a stop, and writes the text of the run: the lines of each row, and the state. All memory is taken before the first cycle.
 pub fn write_design_run<S: Sink>(
     alloc: Global,
     design: &Design,
     image: &Image,
     waits: &Waits,
+    lines: Option<&Lines>,
     cycles: u32,
     sink: &mut S,
 ) -> Result<(), RunErr>
     requires stands { Stands design.now }
-    ensures whole { OnOk result ((text : List ℕ) × IsDesignText (record { design = design.now; image = image.now; waits = waits.now }) cycles text × Appends (S.written sink.old) (S.written sink.new) text) }
-    ensures fault { result ≡ Err RunErr.Fault → Rose (S.faults sink.old) (S.faults sink.new) × ((text : List ℕ) × IsDesignText (record { design = design.now; image = image.now; waits = waits.now }) cycles text × AppendsFront (S.written sink.old) (S.written sink.new) text) }
+    ensures whole { OnOk result ((text : List ℕ) × IsDesignText (setting design.now image.now waits.now (option_copied lines.entry)) cycles text × Appends (S.written sink.old) (S.written sink.new) text) }
+    ensures fault { result ≡ Err RunErr.Fault → Rose (S.faults sink.old) (S.faults sink.new) × ((text : List ℕ) × IsDesignText (setting design.now image.now waits.now (option_copied lines.entry)) cycles text × AppendsFront (S.written sink.old) (S.written sink.new) text) }
     ensures memory { result ≡ Err RunErr.Memory → S.written sink.new ≡ S.written sink.old }
 {
     let Ok(mut out) = Out::new(alloc) else {
@@ -70,7 +73,7 @@ pub fn write_design_run<S: Sink>(
     let Ok(mut outstanding) = Vec::with_capacity(alloc, MOST_TARGETS as usize) else {
         return Err(RunErr::Memory);
     };
-    let Ok(mut machine) = Machine::new(alloc, design, image, waits, cycles) else {
+    let Ok(mut machine) = Machine::at_rest(alloc, design, image, waits, lines, cycles) else {
         return Err(RunErr::Memory);
     };
     run_machine(&mut machine, cycles);

@@ -142,7 +142,7 @@ module _ (d : Drives) (n : ℕ) (p : Plan) (net : Net) (last : ℕ) (core : IsCo
   not_both : (mode : Mode) → mode ≡ Tight → mode ≡ Decoupled → ⊥
   not_both mode e f = cc
 
-  module _ (past : Row) (older : List Row) (values : List ℕ) (going : past.stop ≡ None) (tells : Tells net values m (shown_by d older past) last) (lawful : Lawful k (past ∷ older))
+  module _ (past : Row) (older : List Row) (values : List ℕ) (going : past.stop ≡ None) (tells : Tells net values m (shown_by d older past) last) (lawful : Lawful (λ ps. k) (past ∷ older))
       (s word : ℕ) (untailed : Untailed (past ∷ older) s word) (row : Row) where
     -- the token of the row
     module _ (v : ℕ) (high : v ≤ last) (token : IsCellToken d n (past ∷ older) row s word v) where

@@ -143,9 +143,9 @@ module _ (d : Design) (image waits : List ℕ) (stands : Stands d) (n : ℕ) (p 
   x = view_extension d.extension
 
   abbrev drives : Drives
-  drives = drives_of d image waits
+  drives = drives_of d image waits None []
 
-  pub core_is : IsCore (drives_of d image waits).setting
+  pub core_is : IsCore (drives_of d image waits None []).setting
   core_is =
       let law = d.sheet.shape.lawful in
       let a = law.memory_late in

@@ -40,7 +40,7 @@ number_of (Some i) n e = ap (λ z. Some z) (equal_of i n e)
 
 module _ (few : FewLaw) (times : TimesLaw) (d : Design) (image waits : List ℕ) (stands : StandsFor d) (n : ℕ) (p : Plan) (net : Net) (plan : slice_get d.plans n ≡ Some p) (net_is : slice_get d.nets n ≡ Some net) where
   abbrev x : Drives
-  x = drives_of d image waits
+  x = drives_of d image waits None []
 
   abbrev k : Setting
   k = x.setting
@@ -96,10 +96,10 @@ module _ (few : FewLaw) (times : TimesLaw) (d : Design) (image waits : List ℕ)
         by_before (new z q o) = (let a = c.late in let b = core.rd_pos in omega (arith, a, b, z))
 
       -- nothing with a mode that is not Tight was held by Tail
-      untailed_in : (rows : List Row) → Lawful k rows → ((w : ℕ) → IsWordOf k rows s w → w ≡ word) → (p.mode ≡ Tight → ⊥) → x.number word ≡ Some n → tailed k rows s ≡ 0
+      untailed_in : (rows : List Row) → Lawful (λ ps. k) rows → ((w : ℕ) → IsWordOf k rows s w → w ≡ word) → (p.mode ≡ Tight → ⊥) → x.number word ≡ Some n → tailed k rows s ≡ 0
       untailed_in rows law only other own = tailed_none k rows law s (λ w y. own_tail d image waits stands n p net plan net_is w (ap x.number (only w y) ∙ own) other)
 
-      turn_at : (row past : Row) (older newer : List Row) → whole ≡ newer ++ (row ∷ past ∷ older) → Lawful k (row ∷ past ∷ older) → RetiresWords k (past ∷ older) → ((w : ℕ) → IsWordOf k (row ∷ past ∷ older) s w → w ≡ word) →
+      turn_at : (row past : Row) (older newer : List Row) → whole ≡ newer ++ (row ∷ past ∷ older) → Lawful (λ ps. k) (row ∷ past ∷ older) → RetiresWords k (past ∷ older) → ((w : ℕ) → IsWordOf k (row ∷ past ∷ older) s w → w ≡ word) →
           (v : ℕ) → v ≤ p.last → Token (past ∷ older) row v → Turn x m net cycles s word Token p.last token_stands (past ∷ older) row v
       turn_at row past older newer e law words only v high token = by_token token where
         one : newer ++ (row ∷ past ∷ older) ≡ (newer ++ row ∷ []) ++ (past ∷ older)
@@ -117,7 +117,7 @@ module _ (few : FewLaw) (times : TimesLaw) (d : Design) (image waits : List ℕ)
         by_token (inr u) =
             unit_turn x n p net p.last core few_times past older (cycle_at cycles (length older)) law.1 tells row law words bare s word (untailed_in older law.2.2 (λ w y. only w (inr (inr y)))) v high u (of_unit d image waits stands n p net plan net_is few u.unit u.own)
 
-      turns_of : (rows newer : List Row) → whole ≡ newer ++ rows → Lawful k rows → RetiresWords k rows → ((w : ℕ) → IsWordOf k rows s w → w ≡ word) → Turns x m net cycles s word Token p.last token_stands rows
+      turns_of : (rows newer : List Row) → whole ≡ newer ++ rows → Lawful (λ ps. k) rows → RetiresWords k rows → ((w : ℕ) → IsWordOf k rows s w → w ≡ word) → Turns x m net cycles s word Token p.last token_stands rows
       turns_of [] newer e law words only = tt
       turns_of (row ∷ []) newer e law words only = (λ v high token. absurd (none_first row law.0 v token), tt)
       turns_of (row ∷ past ∷ older) newer e law words only = (
@@ -127,7 +127,7 @@ module _ (few : FewLaw) (times : TimesLaw) (d : Design) (image waits : List ℕ)
 
     -- ---- what is watched
 
-    module _ (row : Row) (earlier : List Row) (law : Lawful k (row ∷ earlier)) (s word t : ℕ) (low : m.shape.rd ≤ t) where
+    module _ (row : Row) (earlier : List Row) (law : Lawful (λ ps. k) (row ∷ earlier)) (s word t : ℕ) (low : m.shape.rd ≤ t) where
       own_of : (mode : Mode) (stage : ℕ) (c : Cell) → is_token m.shape n mode (seat_of x earlier row stage c) ≡ true → c.word ≡ word → time_of k earlier stage c ≡ t → (x.number word ≡ Some n) ⊎ (t ≤ k.shape.ex)
       own_of InPipeline stage c e w q = inl (sym (ap x.number w) ∙ number_of (x.number c.word) n e)
       own_of Tight stage c e w q = inl (sym (ap x.number w) ∙ number_of (x.number c.word) n e)
@@ -151,7 +151,7 @@ module _ (few : FewLaw) (times : TimesLaw) (d : Design) (image waits : List ℕ)
       watched_word (inr u) = u.word_is
       watched_word (inl c) = inl (c.in_stage.stage, c.cell, c.in_stage.stands, c.serial, c.word_is)
 
-  pub has_life : (row : Row) (earlier : List Row) (cycles : List (List ℕ)) → IsDriven x n p net (row ∷ earlier) cycles → Lawful k (row ∷ earlier) → RetiresWords k (row ∷ earlier) → (s word t : ℕ) → IsWatched x m earlier row s word t →
+  pub has_life : (row : Row) (earlier : List Row) (cycles : List (List ℕ)) → IsDriven x n p net (row ∷ earlier) cycles → Lawful (λ ps. k) (row ∷ earlier) → RetiresWords k (row ∷ earlier) → (s word t : ℕ) → IsWatched x m earlier row s word t →
       m.shape.rd ≤ t → t ≤ p.last → HasLife x m net (row ∷ earlier) cycles s word t
   has_life row earlier cycles driven law words s word t watched low high =
       let whole : List Row = row ∷ earlier in

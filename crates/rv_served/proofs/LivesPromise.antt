@@ -1,5 +1,5 @@
 -- What is promised of outputs follows from lives and from what inputs carry in them.
-use Rattle.std.proofs.Common.{◌≡◌, ◌≢◌, ℕ, zero, suc, ◌+◌, ◌<◌, ◌≤◌, ◌^◌, List, [], ◌∷◌, ◌++◌, map, length, take, append_assoc, Some, Bool, refl, sym, ap, ◌∙◌, subst, arith, inl, inr}
+use Rattle.std.proofs.Common.{◌≡◌, ◌≢◌, ℕ, zero, suc, ◌+◌, ◌<◌, ◌≤◌, ◌^◌, List, [], ◌∷◌, ◌++◌, map, length, take, append_assoc, Some, Bool, refl, sym, ap, ◌∙◌, subst, arith, inl, inr, None}
 use Rattle.std.specs.Prelude.{slice_get, slice_index}
 use Rattle.std.proofs.lemmas.Bool.{cases_lt}
 use Rattle.std.proofs.lemmas.List.{length-map, get_or-take}
@@ -62,9 +62,9 @@ succession (a ∷ b ∷ rest) i lt = elim (cases_lt i (length rest)) [
 module _ (lives : LivesLaw) (reads : ReadsLaw) (served : ServedLaw) (d : Design) (image waits : List ℕ)
     (seen : (word p : ℕ) (w : Which) → word < 2 ^ 32 → AreInputs (targets_at (view_extension d.extension) w) (inputs_at word (run (view_extension d.extension) image p)))
     (n : ℕ) (p : Plan) (net : Net) (row : Row) (earlier : List Row) (cycles : List (List ℕ)) (h : IsDrivenBy d image waits n p net (row ∷ earlier) cycles)
-    (worded : (s word : ℕ) → IsWordOf (drives_of d image waits).setting (row ∷ earlier) s word → word < 2 ^ 32) where
+    (worded : (s word : ℕ) → IsWordOf (drives_of d image waits None []).setting (row ∷ earlier) s word → word < 2 ^ 32) where
   abbrev x : Drives
-  x = drives_of d image waits
+  x = drives_of d image waits None []
 
   abbrev m : Module
   m = module_of x n p
@@ -162,11 +162,11 @@ same_promised x n p net i cycles (row ∷ earlier) le h = (
 module _ (lives : LivesLaw) (reads : ReadsLaw) (served : ServedLaw) (d : Design) (image waits : List ℕ)
     (seen : (word p : ℕ) (w : Which) → word < 2 ^ 32 → AreInputs (targets_at (view_extension d.extension) w) (inputs_at word (run (view_extension d.extension) image p)))
     (runnable : IsRunnable d image) (n : ℕ) (p : Plan) (net : Net) (plan : slice_get d.plans n ≡ Some p) (net_is : slice_get d.nets n ≡ Some net) where
-  pub promised_rows : (rows : List Row) (cycles : List (List ℕ)) → AreRows (setting d image waits) rows → IsDriven (drives_of d image waits) n p net rows cycles
-      → ((s word : ℕ) → IsWordOf (drives_of d image waits).setting rows s word → word < 2 ^ 32) → Promised (drives_of d image waits) n p net rows cycles
+  pub promised_rows : (rows : List Row) (cycles : List (List ℕ)) → AreRows (setting d image waits None) rows → IsDriven (drives_of d image waits None []) n p net rows cycles
+      → ((s word : ℕ) → IsWordOf (drives_of d image waits None []).setting rows s word → word < 2 ^ 32) → Promised (drives_of d image waits None []) n p net rows cycles
   promised_rows [] cycles are driven worded = tt
   promised_rows (row ∷ earlier) cycles are driven worded = (
     promised_now lives reads served d image waits seen n p net row earlier cycles (record { runnable = runnable; are_rows = are; plan = plan; net_is = net_is; driven = driven }) worded,
-    same_promised (drives_of d image waits) n p net (length earlier) cycles earlier (omega arith)
-        (promised_rows earlier (take (length earlier) cycles) are.2 (driven_before (drives_of d image waits) n p net row earlier cycles driven) (λ s word y. worded s word (inr y))),
+    same_promised (drives_of d image waits None []) n p net (length earlier) cycles earlier (omega arith)
+        (promised_rows earlier (take (length earlier) cycles) are.2 (driven_before (drives_of d image waits None []) n p net row earlier cycles driven) (λ s word y. worded s word (inr y))),
   )

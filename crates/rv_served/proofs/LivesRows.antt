@@ -236,14 +236,14 @@ module _ (k : Setting) (row : Row) (earlier : List Row) (moves : Moves k earlier
   pub serial_before : (n : ℕ) (c : Cell) → Stands k row n c → next_serial k earlier ≤ c.serial → n ≡ 0
   serial_before n c e le = elim (was_below n c (stood k earlier row moves n c e)) [ inl l ↦ absurd (omega (arith, l, le)) | inr y ↦ y.0 ]
 
-pub ordered : (k : Setting) (rows : List Row) → Lawful k rows → IsOrdered k rows
+pub ordered : (k : Setting) (rows : List Row) → Lawful (λ ps. k) rows → IsOrdered k rows
 ordered k [] h = record { below = λ n c e. absurd (none_before k n c e); falls = λ a b c d lt e f. absurd (none_before k a c e); first = λ c e. absurd (none_before k 0 c e) }
 ordered k (row ∷ earlier) h = ordered_next k row earlier h.0.moves (ordered k earlier h.2)
 
 -- ---- a serial has one word
 
 -- what was named is below the next serial
-pub known_below : (k : Setting) (rows : List Row) → Lawful k rows → (s word : ℕ) → IsWordOf k rows s word → s < next_serial k rows
+pub known_below : (k : Setting) (rows : List Row) → Lawful (λ ps. k) rows → (s word : ℕ) → IsWordOf k rows s word → s < next_serial k rows
 known_below k [] h s word y = absurd y
 known_below k (row ∷ earlier) h s word (inl y) = (let l = (ordered k (row ∷ earlier) h).below y.0 y.1 y.2 in let q = y.3 in omega (arith, l, q))
 known_below k (row ∷ earlier) h s word (inr y) = (let l = known_below k earlier h.2 s word y in let q = next_above k row earlier h.0.moves (ordered k earlier h.2) in omega (arith, l, q))
@@ -263,14 +263,14 @@ one_in_row k rows h a b c d e f s = elim (cases_lt a b) [
 ]
 
 -- a cell of a row whose serial was there before had its word before
-carried_word : (k : Setting) (row : Row) (earlier : List Row) → Lawful k (row ∷ earlier) → (s v : ℕ) → ((n : ℕ) × (c : Cell) × Stands k row n c × (c.serial ≡ s) × (c.word ≡ v)) → (w : ℕ) → IsWordOf k earlier s w → IsWordOf k earlier s v
+carried_word : (k : Setting) (row : Row) (earlier : List Row) → Lawful (λ ps. k) (row ∷ earlier) → (s v : ℕ) → ((n : ℕ) × (c : Cell) × Stands k row n c × (c.serial ≡ s) × (c.word ≡ v)) → (w : ℕ) → IsWordOf k earlier s w → IsWordOf k earlier s v
 carried_word k row earlier h s v y w z = by_before (stood k earlier row h.0.moves y.0 y.1 y.2) where
   by_before : Before k earlier y.0 y.1 → IsWordOf k earlier s v
   by_before (held b g e f q alone) = known_newest k earlier y.0 b s v g (e ∙ y.3) (f ∙ y.4)
   by_before (went i q b g e f t l) = known_newest k earlier i b s v g (e ∙ y.3) (f ∙ y.4)
   by_before (new q e o) = (let l = known_below k earlier h.2 s w z in let t = y.3 in absurd (omega (arith, l, e, t)))
 
-pub one_word : (k : Setting) (rows : List Row) → Lawful k rows → (s v w : ℕ) → IsWordOf k rows s v → IsWordOf k rows s w → v ≡ w
+pub one_word : (k : Setting) (rows : List Row) → Lawful (λ ps. k) rows → (s v w : ℕ) → IsWordOf k rows s v → IsWordOf k rows s w → v ≡ w
 one_word k [] h s v w y z = absurd y
 one_word k (row ∷ earlier) h s v w (inr y) (inr z) = one_word k earlier h.2 s v w y z
 one_word k (row ∷ earlier) h s v w (inl y) (inl z) =
@@ -282,7 +282,7 @@ one_word k (row ∷ earlier) h s v w (inr y) (inl z) = one_word k earlier h.2 s 
 
 -- ---- words are words of the image
 
-cell_below : (k : Setting) (rows : List Row) → ((at word : ℕ) → word_at k.image at ≡ Some word → word < 2 ^ 32) → Lawful k rows → (n : ℕ) (c : Cell) → Stands k (newest rows) n c → c.word < 2 ^ 32
+cell_below : (k : Setting) (rows : List Row) → ((at word : ℕ) → word_at k.image at ≡ Some word → word < 2 ^ 32) → Lawful (λ ps. k) rows → (n : ℕ) (c : Cell) → Stands k (newest rows) n c → c.word < 2 ^ 32
 cell_below k [] image h n c e = absurd (none_before k n c e)
 cell_below k (row ∷ earlier) image h n c e = by_before (stood k earlier row h.0.moves n c e) (λ i b f. cell_below k earlier image h.2 i b f) where
   by_before : Before k earlier n c → ((i : ℕ) (b : Cell) → Stands k (newest earlier) i b → b.word < 2 ^ 32) → c.word < 2 ^ 32
@@ -290,7 +290,7 @@ cell_below k (row ∷ earlier) image h n c e = by_before (stood k earlier row h.
   by_before (went i z b f s w g l) rest = subst (λ z. z < 2 ^ 32) w (rest i b f)
   by_before (new z s o) rest = image (fetch_address k earlier) c.word o
 
-pub word_below : (k : Setting) (rows : List Row) → ((at word : ℕ) → word_at k.image at ≡ Some word → word < 2 ^ 32) → Lawful k rows → (s word : ℕ) → IsWordOf k rows s word → word < 2 ^ 32
+pub word_below : (k : Setting) (rows : List Row) → ((at word : ℕ) → word_at k.image at ≡ Some word → word < 2 ^ 32) → Lawful (λ ps. k) rows → (s word : ℕ) → IsWordOf k rows s word → word < 2 ^ 32
 word_below k [] image h s word y = absurd y
 word_below k (row ∷ earlier) image h s word (inl y) = subst (λ z. z < 2 ^ 32) y.4 (cell_below k (row ∷ earlier) image h y.0 y.1 y.2)
 word_below k (row ∷ earlier) image h s word (inr y) = word_below k earlier image h.2 s word y

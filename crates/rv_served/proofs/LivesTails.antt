@@ -70,7 +70,7 @@ tails_on k earlier row n c h e tails none = by_hold c.hold refl tails where
 -- ---- rows
 
 -- a serial whose words have no tail was never held for one
-pub tailed_none : (k : Setting) (rows : List Row) → Lawful k rows → (s : ℕ) → ((word : ℕ) → IsWordOf k rows s word → (k.asks word).tail ≡ 0) → tailed k rows s ≡ 0
+pub tailed_none : (k : Setting) (rows : List Row) → Lawful (λ ps. k) rows → (s : ℕ) → ((word : ℕ) → IsWordOf k rows s word → (k.asks word).tail ≡ 0) → tailed k rows s ≡ 0
 unfolding tailed
 tailed_none k [] h s none = refl
 tailed_none k (row ∷ earlier) h s none = by_test (has_tail (slice_get (stages_of k row) (k.shape.stages - 1)) s) refl (tailed_none k earlier h.2 s (λ word y. none word (inr y))) where
@@ -81,10 +81,10 @@ tailed_none k (row ∷ earlier) h s none = by_test (has_tail (slice_get (stages_
       absurd (tails_on k earlier row (k.shape.stages - 1) t.cell h.0 t.stands t.tails (none t.cell.word (inl (k.shape.stages - 1, t.cell, t.stands, t.serial, refl))))
 
 -- nor one that is not known
-pub tailed_new : (k : Setting) (rows : List Row) → Lawful k rows → (s : ℕ) → next_serial k rows ≤ s → tailed k rows s ≡ 0
+pub tailed_new : (k : Setting) (rows : List Row) → Lawful (λ ps. k) rows → (s : ℕ) → next_serial k rows ≤ s → tailed k rows s ≡ 0
 tailed_new k rows h s le = tailed_none k rows h s (λ word y. let l = known_below k rows h s word y in absurd (omega (arith, l, le)))
 
-low_next : (k : Setting) (row : Row) (earlier : List Row) → Lawful k (row ∷ earlier) → (n : ℕ) (c : Cell) → Stands k row n c → suc n < k.shape.stages
+low_next : (k : Setting) (row : Row) (earlier : List Row) → Lawful (λ ps. k) (row ∷ earlier) → (n : ℕ) (c : Cell) → Stands k row n c → suc n < k.shape.stages
     → ((i : ℕ) (b : Cell) → Stands k (newest earlier) i b → suc i < k.shape.stages → tailed k earlier b.serial ≡ 0) → tailed k (row ∷ earlier) c.serial ≡ 0
 low_next k row earlier h n c e lt rest = by_test (has_tail (slice_get (stages_of k row) (k.shape.stages - 1)) c.serial) refl where
   before : Before k earlier n c → tailed k earlier c.serial ≡ 0
@@ -101,7 +101,7 @@ low_next k row earlier h n c e lt rest = by_test (has_tail (slice_get (stages_of
       absurd (omega (arith, l, s))
 
 -- nor one that stands below the last stage
-pub tailed_low : (k : Setting) (rows : List Row) → Lawful k rows → (n : ℕ) (c : Cell) → Stands k (newest rows) n c → suc n < k.shape.stages → tailed k rows c.serial ≡ 0
+pub tailed_low : (k : Setting) (rows : List Row) → Lawful (λ ps. k) rows → (n : ℕ) (c : Cell) → Stands k (newest rows) n c → suc n < k.shape.stages → tailed k rows c.serial ≡ 0
 tailed_low k [] h n c e lt = absurd (none_before k n c e)
 tailed_low k (row ∷ earlier) h n c e lt = low_next k row earlier h n c e lt (λ i b f l. tailed_low k earlier h.2 i b f l)
 

@@ -1,4 +1,5 @@
 -- The law of lives, of the rows of machines.
+use Rattle.rv_served.proofs.ReadsClear.{IsGoing}
 use Rattle.std.proofs.Common.{◌≡◌, ℕ, suc, ◌-◌, ◌<◌, ◌^◌, List, [], ◌∷◌, Option, Some, None, refl, sym, ap, ◌∙◌, inl, inr}
 use Rattle.ix_behaviour.specs.Laws.{FewLaw}
 use Rattle.ix_depends.specs.Laws.{TimesLaw}
@@ -21,13 +22,13 @@ use Rattle.rv_lawful.specs.Sight.{asked}
 use Rattle.rv_engine.specs.Settings.{Setting, Machine, shape_of, tree_of, setting}
 use Rattle.rv_engine.specs.Rows.{IsRowOf}
 use Rattle.rv_machine.specs.Owing.{judged}
-use Rattle.rv_machine.specs.Placed.{IsReady, Inv}
+use Rattle.rv_machine.specs.Placed.{IsReady, Inv, run}
 use Rattle.rv_machine.specs.Running.{AreRows, machine_at}
 use Rattle.rv_machine.proofs.Flushing as F
 use Rattle.rv_machine.proofs.Recorded.{shown_word}
 use Rattle.rv_machine.proofs.Retiring as R
 use Rattle.rv_machine.proofs.Worded.{left_here}
-use Rattle.rv_machine.proofs.Promised.{Sights, ready_of, known}
+use Rattle.rv_machine.proofs.Promised.{Sights, ready_of, known, plain_inv}
 use Rattle.rv_served.specs.Lives.{LivesLaw, ReadsLaw, PromiseLaw}
 use Rattle.rv_served.proofs.LivesUnits.{RetiresWords}
 use Rattle.rv_served.proofs.LivesLaw.{has_life}
@@ -54,33 +55,36 @@ word_kept k ready earlier m row inv is s c n b e last stands serial = elim (R.go
       ap word_of retired ∙ shown_word (asked k.design token.cell.word) y.0.commit ∙ y.0.word ∙ code
 ]
 
-retires_words : (k : Setting) (ready : IsReady k) (rows : List Row) → AreRows k rows → RetiresWords (judged k) rows
+retires_words : (k : Setting) (ready : IsReady k) → IsGoing k → (rows : List Row) → AreRows k rows → RetiresWords (judged k) rows
 unfolding machine_at
-retires_words k ready [] are = tt
-retires_words k ready (row ∷ earlier) are = (
-  word_kept k ready earlier (machine_at k earlier) row ((known k ready earlier are.2).going are.1) are.0,
-  retires_words k ready earlier are.2,
+retires_words k ready goes [] are = tt
+retires_words k ready goes (row ∷ earlier) are = (
+  word_kept k ready earlier (machine_at k earlier) row (goes earlier are.2 are.1) are.0,
+  retires_words k ready goes earlier are.2,
 )
 
 pub lives_law_of : Sights → FewLaw → TimesLaw → LivesLaw
 lives_law_of sights few times d image waits n p net row earlier cycles h s word t watched low high =
-    let k = setting d image waits in
-    let ready = ready_of sights d image waits h.runnable in
+    let k = setting d image waits None in
+    let readies = ready_of sights d image waits None h.runnable in
+    let ready = readies [] in
+    let goes = plain_inv k readies refl in
     let rows : List Row = row ∷ earlier in
-    has_life few times d image waits h.runnable.stands n p net h.plan h.net_is row earlier cycles h.driven (known k ready rows h.are_rows).headline.lawful (retires_words k ready rows h.are_rows) s word t watched low high
+    has_life few times d image waits h.runnable.stands n p net h.plan h.net_is row earlier cycles h.driven (known k readies rows h.are_rows).headline.lawful (retires_words k ready goes rows h.are_rows) s word t watched low high
 
 -- ---- what is promised
 
 -- what a word sees of a state of the run fits the types of each behaviour
-seen_of : (k : Setting) → IsReady k → (word p : ℕ) (w : Which) → word < 2 ^ 32 → AreInputs (targets_at (tree_of k) w) (inputs_at word (Runs.run (tree_of k) k.image p))
+seen_of : (k : Setting) → IsReady k → (word p : ℕ) (w : Which) → word < 2 ^ 32 → AreInputs (targets_at (tree_of k) w) (inputs_at word (run k p))
 seen_of k ready word p w small =
-    let s = Runs.run (tree_of k) k.image p in
+    let s = run k p in
     are_inputs (tree_of k) w (state_at word s) (peeked s.mem) (ready.wide p) small (ready.words p (rs1_of word)) (ready.words p (rs2_of word)) (ready.pcs p)
 
 -- where inputs carry the run's values, the outputs of all modules show them
 pub promise_of : Sights → FewLaw → TimesLaw → ServedLaw → ReadsLaw → PromiseLaw
 promise_of sights few times served reads d image waits rows runs runnable are driven n p net cycles plan net_is cycles_are =
-    let k = setting d image waits in
-    let ready = ready_of sights d image waits runnable in
+    let k = setting d image waits None in
+    let readies = ready_of sights d image waits None runnable in
+    let ready = readies [] in
     promised_rows (lives_law_of sights few times) reads served d image waits (seen_of k ready) runnable n p net plan net_is rows cycles are (driven.each n p net cycles plan net_is cycles_are)
-    (word_below (judged k) rows runnable.words (known k ready rows are).headline.lawful)
+    (word_below (judged k) rows runnable.words (known k readies rows are).headline.lawful)

@@ -131,14 +131,14 @@ pub record IsRetired (k : Setting) (past : Row) (s : ℕ) (word : ℕ) : Type 0 
   pub serial : cell.serial ≡ s
   pub word_is : word ≡ cell.word
 
-pub retired_cell : (k : Setting) (past : Row) (older : List Row) → 0 < k.shape.stages → Lawful k (past ∷ older) → RetiresWords k (past ∷ older) → (s : ℕ) (c : Commit) → past.retired ≡ Some (s, c) → IsRetired k past s c.word
+pub retired_cell : (k : Setting) (past : Row) (older : List Row) → 0 < k.shape.stages → Lawful (λ ps. k) (past ∷ older) → RetiresWords k (past ∷ older) → (s : ℕ) (c : Commit) → past.retired ≡ Some (s, c) → IsRetired k past s c.word
 retired_cell k past older pos lawful words s c e =
     let last : suc (k.shape.stages - 1) ≡ k.shape.stages = omega (arith, pos) in
     let x = (lawful.0.retires (k.shape.stages - 1) last).leaver s c e in
     record { stage = k.shape.stages - 1; last = last; cell = x.0; stands = x.1; leaves_is = x.2; serial = x.3; word_is = words.0 s c (k.shape.stages - 1) x.0 e last x.1 x.3 }
 
 -- a serial in a unit has a word in these rows
-pub unit_known : (k : Setting) (rows : List Row) → 0 < k.shape.stages → AreBare k.units → Lawful k rows → RetiresWords k rows → (u a s : ℕ) (slots : Slots) → slice_get (units_after k rows) u ≡ Some slots → slice_get slots a ≡ Some (Some s)
+pub unit_known : (k : Setting) (rows : List Row) → 0 < k.shape.stages → AreBare k.units → Lawful (λ ps. k) rows → RetiresWords k rows → (u a s : ℕ) (slots : Slots) → slice_get (units_after k rows) u ≡ Some slots → slice_get slots a ≡ Some (Some s)
     → (word : ℕ) × IsWordOf k rows s word
 unfolding units_after
 unit_known k [] pos bare lawful words u a s slots e f = absurd (bare u slots a s e f)
@@ -263,7 +263,7 @@ module _ (d : Drives) (n : ℕ) (p : Plan) (net : Net) (last : ℕ) (core : IsCo
   TurnedIn past older values s word v = (v ≡ k.shape.rd) ⊎ ((u : ℕ) × IsToken older past s word u × (u ≤ v) × Moves net k.shape.rd values u v)
 
   module _ (past : Row) (older : List Row) (values : List ℕ) (going : past.stop ≡ None) (tells : Tells net values m (shown_by d older past) last)
-      (row : Row) (lawful : Lawful k (row ∷ past ∷ older)) (words : RetiresWords k (past ∷ older)) (bare : AreBare k.units) (s word : ℕ) (untailed : (p.mode ≡ Tight → ⊥) → d.number word ≡ Some n → tailed k older s ≡ 0)
+      (row : Row) (lawful : Lawful (λ ps. k) (row ∷ past ∷ older)) (words : RetiresWords k (past ∷ older)) (bare : AreBare k.units) (s word : ℕ) (untailed : (p.mode ≡ Tight → ⊥) → d.number word ≡ Some n → tailed k older s ≡ 0)
       (v : ℕ) (high : v ≤ last) (token : IsInUnit d m (past ∷ older) row v s word) (of : IsOfUnit d n p token.unit) where
     some_stage : 0 < k.shape.stages
     some_stage = (let a = core.ex_last in omega (arith, a))

@@ -179,13 +179,17 @@ none_clear : (k : Setting) (stage n : ℕ) → Clear k stage (replicate n None)
 none_clear k stage zero = tt
 none_clear k stage (suc n) = none_clear k (suc stage) n
 
-pub clear_at : (k : Setting) → IsReady k → (rows : List Row) → AreRows k rows → (newest rows).stop ≡ None → Clear k 0 (machine_at k rows).slots
+-- after rows of its machine without a stop, what ties it to them
+abbrev pub IsGoing : Setting → Type 0
+IsGoing k = (rows : List Row) → AreRows k rows → (newest rows).stop ≡ None → Inv k rows (machine_at k rows)
+
+pub clear_at : (k : Setting) → IsReady k → IsGoing k → (rows : List Row) → AreRows k rows → (newest rows).stop ≡ None → Clear k 0 (machine_at k rows).slots
 unfolding machine_at
-clear_at k ready [] are going = none_clear k 0 (shape_of k).stages
-clear_at k ready (row ∷ earlier) are going =
+clear_at k ready goes [] are going = none_clear k 0 (shape_of k).stages
+clear_at k ready goes (row ∷ earlier) are going =
     let m = machine_at k earlier in
-    let inv = (known k ready earlier are.2).going are.1 in
-    clear_next k ready earlier m row inv are.0 (N.no_stop k ready earlier m row inv are.0 going) (clear_at k ready earlier are.2 are.1)
+    let inv = goes earlier are.2 are.1 in
+    clear_next k ready earlier m row inv are.0 (N.no_stop k ready earlier m row inv are.0 going) (clear_at k ready goes earlier are.2 are.1)
 
 further : (k : Setting) (stage n : ℕ) (older : Slots) (t : Token) → operand_hold (shape_of k) (suc (suc stage + n)) older t.asks ≡ None → operand_hold (shape_of k) (suc (stage + suc n)) older t.asks ≡ None
 further k stage n older t h = (let z : suc stage + n ≡ stage + suc n = omega arith in subst (λ b. operand_hold (shape_of k) (suc b) older t.asks ≡ None) z h)

@@ -33,7 +33,7 @@ use Rattle.rv_lawful.specs.Sight.{asked}
 use Rattle.rv_engine.specs.Settings.{Setting, Machine, shape_of, tree_of}
 use Rattle.rv_engine.specs.Rows.{seen_by, IsRowOf}
 use Rattle.rv_machine.specs.Owing.{judged}
-use Rattle.rv_machine.specs.Placed.{run, count, IsReady, Inv}
+use Rattle.rv_machine.specs.Placed.{run, count, IsReady, Inv, entries_of}
 use Rattle.rv_machine.proofs.Standing.{At}
 use Rattle.rv_ports.specs.Drives.{Drives, drives_of}
 use Rattle.rv_ports.specs.Seats.{is_silent, seat_of, loaded, datum_of, cell_at, shown_by}
@@ -58,7 +58,7 @@ module _ (k : Setting) (ready : IsReady k) (earlier : List Row) (m : Machine) (r
     (file : future_file (judged k) earlier ≡ m.future) (clear : Clear k 0 m.slots)
     (n : ℕ) (c : Cell) (stands : Lawful.Stands (judged k) row n c) (alive : has_serial row.flushed c.serial ≡ false) (speaks : is_silent c.hold ≡ false) where
   abbrev d : Drives
-  d = drives_of k.design k.image k.waits
+  d = drives_of k.design k.image k.waits k.lines k.places
 
   -- its place
   abbrev p : ℕ
@@ -114,10 +114,10 @@ module _ (k : Setting) (ready : IsReady k) (earlier : List Row) (m : Machine) (r
             let after = ready.ex_mem in
             let place_is = R.place_is k ready earlier m row inv is n c stands alive in
             let cell : cell_at (judged k) row (shape_of k).mem ≡ Some c = ap (λ i. cell_in (slice_get (Lawful.stages_of (judged k) row) i)) (sym at) ∙ ap cell_in stands in
-            let datum : (shown_by d earlier row).datum ≡ loaded m.arch.mem (run_trial (tree_of k) k.image p).load =
+            let datum : (shown_by d earlier row).datum ≡ loaded m.arch.mem (run_trial (tree_of k) k.image (entries_of k) p).load =
             datum_shown ∙ ap (datum_of d earlier row) cell
-            ∙ ap (λ (s : Arch). loaded s.mem (run_trial (tree_of k) k.image (place (row ∷ earlier) c.serial)).load) inv.state
-            ∙ ap (λ q. loaded m.arch.mem (run_trial (tree_of k) k.image q).load) place_is in
+            ∙ ap (λ (s : Arch). loaded s.mem (run_trial (tree_of k) k.image (entries_of k) (place (row ∷ earlier) c.serial)).load) inv.state
+            ∙ ap (λ q. loaded m.arch.mem (run_trial (tree_of k) k.image (entries_of k) q).load) place_is in
             ap (λ z. read_by (shown_by d earlier row) (seat_of d earlier row n c) z % 2 ^ op.ty.width) same
             ∙ ap (λ v. v % 2 ^ op.ty.width) datum
             ∙ load_term k p c.word own.0 (R.word_there k ready earlier m row inv is n c stands alive speaks past) own.1 (R.no_stop k ready earlier m row inv is n c stands alive (omega (arith, after, at)))

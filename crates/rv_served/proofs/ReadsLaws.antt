@@ -57,7 +57,7 @@ use Rattle.rv_machine.specs.Told.{NoStops}
 use Rattle.rv_machine.proofs.Flushing as F
 use Rattle.rv_machine.proofs.NextRow as N
 use Rattle.rv_machine.proofs.Places.{one_token, lone_stage, unflushed_before}
-use Rattle.rv_machine.proofs.Promised.{Sights, ready_of, known, file_is}
+use Rattle.rv_machine.proofs.Promised.{Sights, ready_of, known, file_is, plain_inv}
 use Rattle.rv_ports.specs.declared.shown.Seat.{Seat}
 use Rattle.rv_ports.specs.Drives.{Drives, drives_of, own_number}
 use Rattle.rv_ports.specs.Driven.{IsDriven}
@@ -70,7 +70,7 @@ use Rattle.rv_served.proofs.ReadsInput.{read_at, carries_one, IsReadTerm, read_t
 use Rattle.rv_served.proofs.ReadsPlan.{IsNumbered, Behaves, behaves, ReadsAt, IsReadTime, read_time}
 use Rattle.rv_served.proofs.ReadsAsked.{AsksFor, own_word, own_asked, ReadsCustoms, block_asked}
 use Rattle.rv_served.proofs.ReadsSeat.{stage_inside, time_stage, token_is}
-use Rattle.rv_served.proofs.ReadsClear.{Clear, clear_at}
+use Rattle.rv_served.proofs.ReadsClear.{Clear, clear_at, IsGoing}
 use Rattle.rv_served.proofs.ReadsInputs.{GraphLaws, graph_of, run_inputs}
 use Rattle.rv_served.proofs.ReadsKinds as K
 use Rattle.rv_served.proofs.ReadsLoad.{OneLoad}
@@ -191,13 +191,13 @@ time_low s rows stage c lt =
 
 module _ (sights : Sights) (laws : GraphLaws) (d : Design) (image waits : List ℕ) (n : ℕ) (p : Plan) (net : Net) (row : Row) (earlier : List Row) (cycles : List (List ℕ)) (h : IsDrivenBy d image waits n p net (row ∷ earlier) cycles) where
   abbrev base : Setting
-  base = setting d image waits
+  base = setting d image waits None
 
   abbrev tree : ExtensionTree
   tree = view_extension d.extension
 
   abbrev driving : Drives
-  driving = drives_of d image waits
+  driving = drives_of d image waits None []
 
   abbrev text : TypedTextTree
   text = h.runnable.stands.well_formed.0
@@ -206,7 +206,10 @@ module _ (sights : Sights) (laws : GraphLaws) (d : Design) (image waits : List �
   of_text = h.runnable.stands.well_formed.1
 
   ready : IsReady base
-  ready = ready_of sights d image waits h.runnable
+  ready = ready_of sights d image waits None h.runnable []
+
+  goes_at : IsGoing base
+  goes_at = plain_inv base (ready_of sights d image waits None h.runnable) refl
 
   b : Behaves d n p net
   b = behaves d h.runnable.stands n p net h.plan h.net_is
@@ -295,11 +298,11 @@ module _ (sights : Sights) (laws : GraphLaws) (d : Design) (image waits : List �
   row_facts newer older past e =
       let are : AreRows base (past ∷ older) = S.rows_rest base newer (past ∷ older) (subst (λ l. AreRows base l) e h.are_rows) in
       record {
-        inv = (known base ready older are.2).going are.1;
+        inv = goes_at older are.2 are.1;
         is = are.0;
         goes = are.1;
-        file = file_is base ready older are.2 are.1;
-        clear = clear_at base ready older are.2 are.1;
+        file = (goes_at older are.2 are.1).file;
+        clear = clear_at base ready goes_at older are.2 are.1;
         inputs = driven_at driving n p net newer older past cycles (subst (λ l. IsDriven driving n p net l cycles) e h.driven);
       }
 
@@ -556,7 +559,7 @@ module _ (sights : Sights) (laws : GraphLaws) (d : Design) (image waits : List �
           subst (λ (m : Machine). S.Fate base (past ∷ older) m.slots least s token_past.cell.at token_past.cell.word) (sym machine_step)
           (subst (λ i. S.Fate base (past ∷ older) (machine_after base (machine_at base older)).slots least i token_past.cell.at token_past.cell.word) serial_past fate) in
           let f =
-          S.follows base ready mid.0 (past ∷ older) (subst (λ l. AreRows base l) mid.1 h.are_rows.2) (subst (λ l. (newest l).stop ≡ None) mid.1 h.are_rows.1) least s token_past.cell.at token_past.cell.word
+          S.follows base ready goes_at mid.0 (past ∷ older) (subst (λ l. AreRows base l) mid.1 h.are_rows.2) (subst (λ l. (newest l).stop ≡ None) mid.1 h.are_rows.1) least s token_past.cell.at token_past.cell.word
           (subst (λ l. is_flushed l s ≡ false) mid.1 before) start in
           let now : P earlier = subst P (sym mid.1) f.fate in
           record {

@@ -51,7 +51,7 @@ use Rattle.rv_holds.specs.Tokens.{stop_in}
 use Rattle.rv_lawful.specs.Settings.{run_trial}
 use Rattle.rv_ports.specs.Seats.{loaded}
 use Rattle.rv_engine.specs.Settings.{Setting, tree_of}
-use Rattle.rv_machine.specs.Placed.{run}
+use Rattle.rv_machine.specs.Placed.{run, entries_of}
 use Rattle.rv_machine.proofs.Runs.{answer, step_word, trial_word}
 
 -- ---- at most one operation loads
@@ -229,7 +229,7 @@ module _ (s : Setting) (p word n : ℕ) (there : word_at s.image (run s p).pc �
   unfolding tried tried_instruction
   tried_load = refl
 
-  pub run_load_is : (run_trial (tree_of s) s.image p).load ≡ option_map read_of (first_of (effect_reads (frame_at (tree_of s) (W.Instruction n)) (statement_at (tree_of s) (W.Instruction n)) i))
+  pub run_load_is : (run_trial (tree_of s) s.image (entries_of s) p).load ≡ option_map read_of (first_of (effect_reads (frame_at (tree_of s) (W.Instruction n)) (statement_at (tree_of s) (W.Instruction n)) i))
   run_load_is =
       ap (λ (t : Trial). t.load) (trial_word s p word there)
       ∙ ap (λ (o : Option Decoded). (tried (tree_of s) (state_at word (run s p)) (run s p).mem (return_to word (run s p).trap) o).load) own
@@ -239,7 +239,7 @@ module _ (s : Setting) (p word n : ℕ) (there : word_at s.image (run s p).pc �
 
   -- so it is what the graph reads
   pub load_term : (g : Graph) (terms : ℕ → ℕ) (mem : List ℕ) → IsValidGraph g → IsMeaning g terms → DoesTheSame (tree_of s) (W.Instruction n) i g terms → OneLoad g → mem ≡ (run s p).mem
-      → (j : ℕ) (op : Op) → slice_get g.ops j ≡ Some op → op.kind ≡ k.RdMem → loaded mem (run_trial (tree_of s) s.image p).load % 2 ^ op.ty.width ≡ memory_raw i op.ty (numbers_of g terms op)
+      → (j : ℕ) (op : Op) → slice_get g.ops j ≡ Some op → op.kind ≡ k.RdMem → loaded mem (run_trial (tree_of s) s.image (entries_of s) p).load % 2 ^ op.ty.width ≡ memory_raw i op.ty (numbers_of g terms op)
   load_term g terms mem valid means same one is j op e kind =
       let reads : effect_reads (frame_at (tree_of s) (W.Instruction n)) (statement_at (tree_of s) (W.Instruction n)) i ≡ accessed op.ty (numbers_of g terms op) =
       sym same.reads ∙ one_read g terms g.ops j op e kind (λ m q d h. one m j q op d e h kind) in

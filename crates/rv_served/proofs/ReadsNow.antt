@@ -16,10 +16,10 @@ use Rattle.rv_trace.specs.declared.row.Row.{Row}
 use Rattle.rv_trace.specs.Trace.{has_serial, is_flushed, place, retirements}
 use Rattle.rv_holds.specs.declared.token.Token.{Token}
 use Rattle.rv_holds.specs.Tokens.{Slots, or_else, stop_in, stop_of}
-use Rattle.rv_holds.specs.Holds.{oldest, is_late, withholder, operand, waits_for, operand_hold, register_count, register_at, spawner, least_from, lower_of, board, board_hold, custom, waits_for_custom, first_from, custom_hold, late, late_hold, reading_hold, waiting_hold, drain_hold, store_ahead, store_hold, memory_hold, ending_hold, own_hold, stops_now, is_blocked, shown}
+use Rattle.rv_holds.specs.Holds.{oldest, is_late, withholder, operand, waits_for, operand_hold, register_count, register_at, spawner, least_from, lower_of, board, board_hold, custom, waits_for_custom, first_from, custom_hold, late, late_hold, reading_hold, waiting_hold, drain_hold, store_ahead, store_hold, memory_hold, ending_hold, own_hold, stops_now, is_blocked, shown, leaving_hold}
 use Rattle.rv_holds.specs.Flushing.{struck}
 use Rattle.rv_engine.specs.Owing.{board_of}
-use Rattle.rv_engine.specs.Settings.{Setting, Machine, shape_of, outstanding_in}
+use Rattle.rv_engine.specs.Settings.{Setting, Machine, shape_of, outstanding_in, interrupted_by}
 use Rattle.rv_engine.specs.Rows.{loaded_by, turn_by, seen_by, IsRowOf}
 use Rattle.rv_holds.specs.Forwarding.{operand_in}
 use Rattle.rv_lawful.specs.Outstanding.{has_target, touches, outstanding}
@@ -212,7 +212,7 @@ module _ (k : Setting) (ready : IsReady k) (earlier : List Row) (m : Machine) (r
       | inr le ↦
           let same : n ≡ (shape_of k).rd = omega (arith, le, at) in
           A.reads_apart m.owed here.older here.token
-          (ap (λ b. b.board) (meets_at (shape_of k) (outstanding_in k m) n (seen_by k m) here.older here.token (seen_meets k m (B.struck_inside k ready earlier m inv)) here.rest)
+          (ap (λ b. b.board) (meets_at (shape_of k) (interrupted_by k m) (outstanding_in k m) n (seen_by k m) here.older here.token (seen_meets k m (B.struck_inside k ready earlier m inv)) here.rest)
           ∙ A.at_stage n (shape_of k).rd (board_of m.owed here.token.asks) None same)
           (waits_board (shape_of k) n here.token here.older waiting_none same)
     ]
@@ -230,16 +230,16 @@ module _ (k : Setting) (ready : IsReady k) (earlier : List Row) (m : Machine) (r
             by_case true e =
                 let zero_is = test_eq reg 0 e in
                 ap (λ i. slice_index m.arch.x i) zero_is
-                ∙ sym (unowed_zero k earlier (outstanding (judged k) earlier) m.entries m.owed m.arch inv.owing)
+                ∙ sym (unowed_zero k earlier ready.handler (outstanding (judged k) earlier) m.entries m.owed m.arch inv.owing)
                 ∙ repaid_is 0
                 ∙ ap (λ i. slice_index (run k r).x i) (sym zero_is)
             by_case false e =
                 let away = is_apart at in
                 let touched = operand_touched here.token.asks reg few which e in
-                sym (unowed k earlier reg (outstanding (judged k) earlier) m.entries m.owed m.arch few inv.owing (away.entries reg (omega (arith, few)) touched)) ∙ repaid_is reg
+                sym (unowed k earlier ready.handler reg (outstanding (judged k) earlier) m.entries m.owed m.arch few inv.owing (away.entries reg (omega (arith, few)) touched)) ∙ repaid_is reg
 
       -- so is what the row shows of it
-      shown_is : (reg : ℕ) → reg < 32 → (reg ≡ here.token.asks.first) ⊎ (reg ≡ here.token.asks.second) → operand_of (drives_of k.design k.image k.waits) earlier row n reg ≡ slice_index (run k (r + count here.older)).x reg
+      shown_is : (reg : ℕ) → reg < 32 → (reg ≡ here.token.asks.first) ⊎ (reg ≡ here.token.asks.second) → operand_of (drives_of k.design k.image k.waits k.lines k.places) earlier row n reg ≡ slice_index (run k (r + count here.older)).x reg
       shown_is reg few which =
           sym (operand_told k ready earlier m row inv is n reg)
           ∙ ap (λ b. operand_in (shape_of k) true b (drop b (loaded_by k m)) m.arch.x reg) first_is_next
@@ -253,10 +253,10 @@ module _ (k : Setting) (ready : IsReady k) (earlier : List Row) (m : Machine) (r
             kept_rest : drop (suc n) (seen_by k m) ≡ drop (suc n) (loaded_by k m)
             kept_rest = let le = kept_stage in cleared_drop (struck (turn_by k m)) (suc n) (loaded_by k m) (omega (arith, le)) (B.struck_inside k ready earlier m inv)
 
-      pub first_is : rs1_of c.word ≡ (asked k.design c.word).first → operand_of (drives_of k.design k.image k.waits) earlier row n (rs1_of c.word) ≡ slice_index (run k (r + count here.older)).x (rs1_of c.word)
+      pub first_is : rs1_of c.word ≡ (asked k.design c.word).first → operand_of (drives_of k.design k.image k.waits k.lines k.places) earlier row n (rs1_of c.word) ≡ slice_index (run k (r + count here.older)).x (rs1_of c.word)
       first_is e = shown_is (rs1_of c.word) (first_few c.word) (inl (e ∙ ap (λ (a : Asks). a.first) (sym asks_are)))
 
-      pub second_is : rs2_of c.word ≡ (asked k.design c.word).second → operand_of (drives_of k.design k.image k.waits) earlier row n (rs2_of c.word) ≡ slice_index (run k (r + count here.older)).x (rs2_of c.word)
+      pub second_is : rs2_of c.word ≡ (asked k.design c.word).second → operand_of (drives_of k.design k.image k.waits k.lines k.places) earlier row n (rs2_of c.word) ≡ slice_index (run k (r + count here.older)).x (rs2_of c.word)
       second_is e = shown_is (rs2_of c.word) (second_few c.word) (inr (e ∙ ap (λ (a : Asks). a.second) (sym asks_are)))
 
     -- at RD, below EX, a cell that is not held reads the run's
@@ -284,10 +284,10 @@ module _ (k : Setting) (ready : IsReady k) (earlier : List Row) (m : Machine) (r
       free_early : operand_hold (shape_of k) (suc n) here.older here.token.asks ≡ None
       free_early = waits_operand (shape_of k) n here.token here.older waiting_none at
 
-      pub first_early : rs1_of c.word ≡ (asked k.design c.word).first → operand_of (drives_of k.design k.image k.waits) earlier row n (rs1_of c.word) ≡ slice_index (run k (r + count here.older)).x (rs1_of c.word)
+      pub first_early : rs1_of c.word ≡ (asked k.design c.word).first → operand_of (drives_of k.design k.image k.waits k.lines k.places) earlier row n (rs1_of c.word) ≡ slice_index (run k (r + count here.older)).x (rs1_of c.word)
       first_early = first_is (omega (arith, at)) near ahead_early free_early
 
-      pub second_early : rs2_of c.word ≡ (asked k.design c.word).second → operand_of (drives_of k.design k.image k.waits) earlier row n (rs2_of c.word) ≡ slice_index (run k (r + count here.older)).x (rs2_of c.word)
+      pub second_early : rs2_of c.word ≡ (asked k.design c.word).second → operand_of (drives_of k.design k.image k.waits k.lines k.places) earlier row n (rs2_of c.word) ≡ slice_index (run k (r + count here.older)).x (rs2_of c.word)
       second_early = second_is (omega (arith, at)) near ahead_early free_early
 
     module _ (past : (shape_of k).ex ≤ n) where
@@ -313,10 +313,10 @@ module _ (k : Setting) (ready : IsReady k) (earlier : List Row) (m : Machine) (r
         late_enough : (shape_of k).rd ≤ n
         late_enough = let x = ready.rd_ex in omega (arith, x, at)
 
-        pub first_now : rs1_of c.word ≡ (asked k.design c.word).first → operand_of (drives_of k.design k.image k.waits) earlier row n (rs1_of c.word) ≡ slice_index (run k (r + count here.older)).x (rs1_of c.word)
+        pub first_now : rs1_of c.word ≡ (asked k.design c.word).first → operand_of (drives_of k.design k.image k.waits k.lines k.places) earlier row n (rs1_of c.word) ≡ slice_index (run k (r + count here.older)).x (rs1_of c.word)
         first_now = first_is late_enough (omega (arith, past)) path free
 
-        pub second_now : rs2_of c.word ≡ (asked k.design c.word).second → operand_of (drives_of k.design k.image k.waits) earlier row n (rs2_of c.word) ≡ slice_index (run k (r + count here.older)).x (rs2_of c.word)
+        pub second_now : rs2_of c.word ≡ (asked k.design c.word).second → operand_of (drives_of k.design k.image k.waits k.lines k.places) earlier row n (rs2_of c.word) ≡ slice_index (run k (r + count here.older)).x (rs2_of c.word)
         second_now = second_is late_enough (omega (arith, past)) path free
 
       -- where RD is EX it waits for no operand
@@ -354,8 +354,8 @@ module _ (k : Setting) (ready : IsReady k) (earlier : List Row) (m : Machine) (r
           let both = or_else (memory_hold here.token) (store_hold here.older here.token.asks) in
           let last : Option Hold = if suc n == (shape_of k).stages then ending_hold here.token else None in
           let own : own_hold (shape_of k) n here.token here.older ≡ or_else both last =
-          ap (λ o. or_else o (or_else (if n == (shape_of k).ex then drain_hold here.token here.older else None) (or_else (if n == (shape_of k).mem then both else None) last))) waiting_none
-          ∙ ap (λ (b : Bool). or_else (if b then drain_hold here.token here.older else None) (or_else (if n == (shape_of k).mem then both else None) last)) off
+          ap (λ o. or_else o (or_else (if n == (shape_of k).ex then leaving_hold here.token here.older else None) (or_else (if n == (shape_of k).mem then both else None) last))) waiting_none
+          ∙ ap (λ (b : Bool). or_else (if b then leaving_hold here.token here.older else None) (or_else (if n == (shape_of k).mem then both else None) last)) off
           ∙ ap (λ (b : Bool). or_else (if b then both else None) last) on in
           or_else_none_b (memory_hold here.token) (store_hold here.older here.token.asks) (shown_quiet (shape_of k) n here.token here.older both last own (memory_quiet here.token here.older) quiet_now) where
             other : (i ex mem : ℕ) → i ≡ mem → ex < mem → (i == ex) ≡ false

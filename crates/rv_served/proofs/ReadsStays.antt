@@ -1,4 +1,5 @@
 -- What becomes of a token from row to row: it stands in a stage with its name, or has been retired at its place, which stays.
+use Rattle.rv_served.proofs.ReadsClear.{IsGoing}
 use Rattle.std.proofs.Common.{◌≡◌, ◌∙◌, refl, sym, ap, subst, ℕ, zero, suc, ◌<◌, ◌≤◌, List, [], ◌∷◌, ◌++◌, Option, Some, None, Bool, true, false, inl, inr, ◌⊎◌, arith}
 use Rattle.std.specs.Prelude.{if◌then◌else◌, ◌||◌, ◌==◌, is_some, slice_get, nat_lt}
 use Rattle.std.proofs.lemmas.Bool.{cases_lt, false≢true}
@@ -255,14 +256,14 @@ pub record Follows (k : Setting) (newer base : List Row) (least s at word : ℕ)
   pub fate : Fate k (newer ++ base) (machine_at k (newer ++ base)).slots least s at word
   pub place_is : place (newer ++ base) s ≡ place base s
 
-pub follows : (k : Setting) → IsReady k → (newer base : List Row) → AreRows k (newer ++ base) → (newest (newer ++ base)).stop ≡ None → (least s at word : ℕ) → is_flushed (newer ++ base) s ≡ false
+pub follows : (k : Setting) → IsReady k → IsGoing k → (newer base : List Row) → AreRows k (newer ++ base) → (newest (newer ++ base)).stop ≡ None → (least s at word : ℕ) → is_flushed (newer ++ base) s ≡ false
     → Fate k base (machine_at k base).slots least s at word → Follows k newer base least s at word
 unfolding machine_at
-follows k ready [] base are going least s at word alive h = record { fate = h; place_is = refl }
-follows k ready (row ∷ newer) base are going least s at word alive h =
+follows k ready goes [] base are going least s at word alive h = record { fate = h; place_is = refl }
+follows k ready goes (row ∷ newer) base are going least s at word alive h =
     let rest = newer ++ base in
     let m = machine_at k rest in
-    let inv = (known k ready rest are.2).going are.1 in
-    let before = follows k ready newer base are.2 are.1 least s at word (unflushed_before row rest s alive) h in
+    let inv = goes rest are.2 are.1 in
+    let before = follows k ready goes newer base are.2 are.1 least s at word (unflushed_before row rest s alive) h in
     let next = fate_next k ready rest m row inv are.0 (N.no_stop k ready rest m row inv are.0 going) least s at word alive before.fate in
     record { fate = next.fate; place_is = next.place_is ∙ before.place_is }

@@ -1,6 +1,6 @@
 -- What a promise on outputs is put together from: a token that is watched has had a life in the module, and in that life the inputs carried the values of the run
 -- (SCAIE-V; that the run is the sequential one is this project's choice).
-use Rattle.std.specs.Prelude.{◌≡◌, ◌≢◌, ℕ, ◌+◌, ◌<◌, ◌≤◌, List, ◌∷◌, ◌++◌, length, Some, ◌⊎◌, slice_get, slice_index}
+use Rattle.std.specs.Prelude.{◌≡◌, ◌≢◌, ℕ, ◌+◌, ◌<◌, ◌≤◌, List, ◌∷◌, ◌++◌, length, Some, ◌⊎◌, slice_get, slice_index, None, []}
 use Rattle.ix_graph_laws.specs.GraphEffects.{values_under}
 use Rattle.ix_net.specs.declared.netlist.Net.{Net}
 use Rattle.ix_net.specs.Run.{cycle_at}
@@ -11,7 +11,7 @@ use Rattle.rv_engine.specs.Settings.{setting}
 use Rattle.rv_lawful.specs.Settings.{Stands}
 use Rattle.rv_machine.specs.Promises.{IsRunnable}
 use Rattle.rv_machine.specs.Running.{AreRows}
-use Rattle.rv_seq.specs.Runs.{run}
+use Rattle.rv_seq.specs.Runs.{run_with}
 use Rattle.rv_seq.specs.States.{inputs_at}
 use Rattle.rv_trace.specs.declared.row.Cell.{Cell}
 use Rattle.rv_trace.specs.declared.row.Row.{Row}
@@ -60,22 +60,22 @@ pub record HasLife (d : Drives) (m : Module) (net : Net) (rows : List Row) (cycl
 -- a behaviour of a design whose net is driven by rows
 pub record IsDrivenBy (d : Design) (image waits : List ℕ) (n : ℕ) (p : Plan) (net : Net) (rows : List Row) (cycles : List (List ℕ)) : Type 0 where
   pub runnable : IsRunnable d image
-  pub are_rows : AreRows (setting d image waits) rows
+  pub are_rows : AreRows (setting d image waits None) rows
   pub plan : slice_get d.plans n ≡ Some p
   pub net_is : slice_get d.nets n ≡ Some net
-  pub driven : IsDriven (drives_of d image waits) n p net rows cycles
+  pub driven : IsDriven (drives_of d image waits None []) n p net rows cycles
 
 -- each token that is watched has had a life, from RD to the last time of its behaviour
 abbrev pub LivesLaw : Type 0
 LivesLaw =
     (d : Design) (image waits : List ℕ) (n : ℕ) (p : Plan) (net : Net) (row : Row) (earlier : List Row) (cycles : List (List ℕ)) → IsDrivenBy d image waits n p net (row ∷ earlier) cycles →
-    (s word t : ℕ) → IsWatched (drives_of d image waits) (module_of (drives_of d image waits) n p) earlier row s word t → d.sheet.shape.rd ≤ t → t ≤ p.last →
-    HasLife (drives_of d image waits) (module_of (drives_of d image waits) n p) net (row ∷ earlier) cycles s word t
+    (s word t : ℕ) → IsWatched (drives_of d image waits None []) (module_of (drives_of d image waits None []) n p) earlier row s word t → d.sheet.shape.rd ≤ t → t ≤ p.last →
+    HasLife (drives_of d image waits None []) (module_of (drives_of d image waits None []) n p) net (row ∷ earlier) cycles s word t
 
 -- the inputs of a time carry the values of a word's behaviour at a place of the run
 abbrev pub CarriesRun : Drives → Plan → Net → List ℕ → ℕ → ℕ → ℕ → Type 0
 CarriesRun d p net values t word k =
-    Carries d.setting.shape p.graph p.times net (values_under p.graph (inputs_at word (run d.extension d.setting.image k))) t values
+    Carries d.setting.shape p.graph p.times net (values_under p.graph (inputs_at word (run_with d.extension d.setting.image d.setting.entries k))) t values
 
 -- of a token that is watched the inputs carry the run's values: now, from EX on, and in each row as which it left a time
 pub record HasRead (d : Drives) (m : Module) (p : Plan) (net : Net) (earlier : List Row) (row : Row) (cycles : List (List ℕ)) (s word t : ℕ) : Type 0 where
@@ -88,11 +88,11 @@ pub record HasRead (d : Drives) (m : Module) (p : Plan) (net : Net) (earlier : L
 abbrev pub ReadsLaw : Type 0
 ReadsLaw =
     (d : Design) (image waits : List ℕ) (n : ℕ) (p : Plan) (net : Net) (row : Row) (earlier : List Row) (cycles : List (List ℕ)) → IsDrivenBy d image waits n p net (row ∷ earlier) cycles →
-    (s word t : ℕ) → IsWatched (drives_of d image waits) (module_of (drives_of d image waits) n p) earlier row s word t →
-    HasRead (drives_of d image waits) (module_of (drives_of d image waits) n p) p net earlier row cycles s word t
+    (s word t : ℕ) → IsWatched (drives_of d image waits None []) (module_of (drives_of d image waits None []) n p) earlier row s word t →
+    HasRead (drives_of d image waits None []) (module_of (drives_of d image waits None []) n p) p net earlier row cycles s word t
 
 -- nets that are driven by the rows of a machine keep what is promised of their outputs
 abbrev pub PromiseLaw : Type 0
 PromiseLaw =
-    (d : Design) (image waits : List ℕ) (rows : List Row) (runs : List (List (List ℕ))) → IsRunnable d image → AreRows (setting d image waits) rows → AreDriven (drives_of d image waits) d.nets rows runs →
-    AllPromised (drives_of d image waits) d.nets rows runs
+    (d : Design) (image waits : List ℕ) (rows : List Row) (runs : List (List (List ℕ))) → IsRunnable d image → AreRows (setting d image waits None) rows → AreDriven (drives_of d image waits None []) d.nets rows runs →
+    AllPromised (drives_of d image waits None []) d.nets rows runs

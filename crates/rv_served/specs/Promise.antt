@@ -11,7 +11,7 @@ use Rattle.rv_lawful.specs.Settings.{Stands}
 use Rattle.rv_lawful.specs.LawfulTrace.{IsWordOf, IsDueToStop}
 use Rattle.rv_lawful.specs.Outstanding.{units_after}
 use Rattle.rv_seq.specs.declared.commit.Stop.{Stop}
-use Rattle.rv_seq.specs.Runs.{run}
+use Rattle.rv_seq.specs.Runs.{run_with}
 use Rattle.rv_seq.specs.States.{inputs_at}
 use Rattle.rv_trace.specs.declared.row.Cell.{Cell}
 use Rattle.rv_trace.specs.declared.row.Row.{Row}
@@ -45,7 +45,7 @@ pub record IsInUnit (d : Drives) (m : Module) (earlier : List Row) (row : Row) (
 -- with these values of the net's names its outputs of this time show the values of a word's behaviour at a place of the run
 abbrev pub ShowsRun : Drives → Plan → Net → List ℕ → ℕ → ℕ → ℕ → Type 0
 ShowsRun d p net values t word k =
-    Shows p.graph p.times net (values_under p.graph (inputs_at word (run d.extension d.setting.image k))) t values
+    Shows p.graph p.times net (values_under p.graph (inputs_at word (run_with d.extension d.setting.image d.setting.entries k))) t values
 
 -- so do they for each token that stands in the row
 pub record IsPromised (d : Drives) (n : ℕ) (p : Plan) (net : Net) (earlier : List Row) (row : Row) (values : List ℕ) : Type 0 where

@@ -1,8 +1,10 @@
-//! What becomes of sources, texts of waits and images. A case is a word, a line feed and a text,
-//! and a byte 30 ends it. The word says what is asked of the text:
+//! What becomes of sources, texts of waits, of interrupt lines and images. A case is a word, a line
+//! feed and a text, and a byte 30 ends it. The word says what is asked of the text:
 //!
 //! - `waits`: a line of the count of its waits, their sum and the last one, or its refusal. The
 //!   answers come from a reader in another language, written from the rules;
+//! - `lines`: a line of the count of its rows and the least that may follow, or its refusal. The
+//!   refusals come from a reader in another language, written from the rules;
 //! - `image`: the text of a source's image, or the line of its refusal, and a byte 30. The
 //!   answers come from an assembler in another language, written from the language's rules;
 //! - `run`: the text of the run of an image, one instruction at a time, and a byte 30. The
@@ -10,6 +12,7 @@
 #![tactic(auto)]
 
 mod image;
+mod lines;
 mod run;
 mod waits;
 
@@ -32,6 +35,7 @@ pub(crate) fn put_text(out: &mut String, bytes: &[u8]) -> Result<(), AllocError>
 fn put_answer(out: &mut String, alloc: Global, word: &[u8], text: &[u8]) -> Result<(), AllocError> {
     match word {
         b"waits" => waits::put_answer(out, alloc, text),
+        b"lines" => lines::put_answer(out, alloc, text),
         b"image" => image::put_answer(out, alloc, text),
         b"run" => run::put_answer(out, alloc, text),
         _ => out.push_str("unknown word\n"),

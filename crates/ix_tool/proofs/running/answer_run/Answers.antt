@@ -8,5 +8,5 @@ use Rattle.ix_tool.proofs.running.answer_run.Goals as goal
 pub returns : goal.returns
 returns g c =
     let vs : c.args.values.items ≡ value.Extension c.in-Extension.extension ∷ c.remove.new.self.items =
-    first_and_rest c.args.values.items c.remove.new.self.items c.remove.new.self.items (value.Extension c.in-Extension.extension) (some_values c.args.values.items c.requires) c.in-Extension.ensures.value c.in-Extension.ensures.items refl in
+    first_and_rest c.args.values.items c.remove.new.self.items c.remove.new.self.items (value.Extension c.in-Extension.extension) (some_values c.args.form c.args.values.items c.requires) c.in-Extension.ensures.value c.in-Extension.ensures.items refl in
     subst (λ us. Answered (command_in c.args.form) us (g.S.Sink.written c.args.sink.now) (g.S.Sink.written c.run_with.new.sink) (g.S.Sink.faults c.args.sink.now) (g.S.Sink.faults c.run_with.new.sink) c.run_with.result) (sym (ap (map reading_of) vs)) c.run_with.ensures

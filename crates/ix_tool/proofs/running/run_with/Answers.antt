@@ -10,5 +10,5 @@ pub returns : goal.returns
 returns g c =
     let x = view_extension c.args.extension in
     let vs : c.args.values.items ≡ value.Sheet c.in-Sheet.sheet ∷ c.as_slice.result.now =
-    first_and_rest c.args.values.items c.as_slice.result.now c.remove.new.self.items (value.Sheet c.in-Sheet.sheet) (some_behind x c.args.values.items c.requires) c.in-Sheet.ensures.value c.in-Sheet.ensures.items c.as_slice.ensures.value in
+    first_and_rest c.args.values.items c.as_slice.result.now c.remove.new.self.items (value.Sheet c.in-Sheet.sheet) (some_behind c.args.form x c.args.values.items c.requires) c.in-Sheet.ensures.value c.in-Sheet.ensures.items c.as_slice.ensures.value in
     subst (λ us. Answered (command_in c.args.form) (extension_read x ∷ us) (g.S.Sink.written c.args.sink.now) (g.S.Sink.written c.run_on_sheet.new.sink) (g.S.Sink.faults c.args.sink.now) (g.S.Sink.faults c.run_on_sheet.new.sink) c.run_on_sheet.result) (sym (ap (map reading_of) vs)) c.run_on_sheet.ensures

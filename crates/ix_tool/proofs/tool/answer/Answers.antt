@@ -13,6 +13,11 @@ returns-in-Bench g c =
     subst (λ k. Answered k (map reading_of c.args.values.items) (g.S.Sink.written c.args.sink.now) (g.S.Sink.written c.answer_bench.new.sink) (g.S.Sink.faults c.args.sink.now) (g.S.Sink.faults c.answer_bench.new.sink) c.answer_bench.result)
     (sym c.in-Bench.is) c.answer_bench.ensures
 
+pub returns-in-RunInterrupted : goal.returns-in-RunInterrupted
+returns-in-RunInterrupted g c =
+    subst (λ k. Answered k (map reading_of c.args.values.items) (g.S.Sink.written c.args.sink.now) (g.S.Sink.written c.answer_run-in-RunInterrupted.new.sink) (g.S.Sink.faults c.args.sink.now) (g.S.Sink.faults c.answer_run-in-RunInterrupted.new.sink) c.answer_run-in-RunInterrupted.result)
+    (sym c.in-RunInterrupted.is) c.answer_run-in-RunInterrupted.ensures
+
 pub returns-in-Wave : goal.returns-in-Wave
 returns-in-Wave g c =
     subst (λ k. Answered k (map reading_of c.args.values.items) (g.S.Sink.written c.args.sink.now) (g.S.Sink.written c.answer_run-in-Wave.new.sink) (g.S.Sink.faults c.args.sink.now) (g.S.Sink.faults c.answer_run-in-Wave.new.sink) c.answer_run-in-Wave.result)

@@ -17,6 +17,7 @@ asm_values (value.Report ∷ vs) h = absurd h
 asm_values (value.Source s ∷ vs) h = absurd h
 asm_values (value.Sheet s ∷ vs) h = absurd h
 asm_values (value.Waits w ∷ vs) h = absurd h
+asm_values (value.Lines w ∷ vs) h = absurd h
 asm_values (value.Extension x ∷ []) h = absurd h
 asm_values (value.Extension x ∷ value.Number n ∷ vs) h = absurd h
 asm_values (value.Extension x ∷ value.Image i ∷ vs) h = absurd h
@@ -24,6 +25,7 @@ asm_values (value.Extension x ∷ value.Report ∷ vs) h = absurd h
 asm_values (value.Extension x ∷ value.Extension y ∷ vs) h = absurd h
 asm_values (value.Extension x ∷ value.Sheet s ∷ vs) h = absurd h
 asm_values (value.Extension x ∷ value.Waits w ∷ vs) h = absurd h
+asm_values (value.Extension x ∷ value.Lines w ∷ vs) h = absurd h
 asm_values (value.Extension x ∷ value.Source s ∷ []) h = (x, s, refl)
 asm_values (value.Extension x ∷ value.Source s ∷ w ∷ vs) h = absurd h
 

@@ -1,4 +1,5 @@
-use Rattle.std.proofs.Common.{subst, inl, inr, List, ℕ}
+use Rattle.std.proofs.Common.{subst, inl, inr, List, ℕ, None}
+use Rattle.rv_engine.specs.Settings.{setting}
 use Rattle.rv_machine.specs.DesignText.{IsDesignText}
 use Rattle.ix_tool.proofs.tool.run_image.Goals as goal
 
@@ -11,7 +12,7 @@ returns-in-Ok g c = elim c.run_design.ensures [
         record {
           design = c.in-Ok.design;
           plain = c.in-Ok.ensures;
-          runs = subst (λ (w : List ℕ). IsDesignText (record { design = c.in-Ok.design; image = c.args.image.now; waits = w }) c.args.cycles done.0) c.new-waits.ensures done.1;
+          runs = subst (λ (w : List ℕ). IsDesignText (setting c.in-Ok.design c.args.image.now w None) c.args.cycles done.0) c.new-waits.ensures done.1;
         },
         done.2,
       )

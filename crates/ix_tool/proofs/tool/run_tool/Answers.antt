@@ -1,9 +1,10 @@
 use Rattle.ix_words.specs.CommandLine.{bytes_of}
-use Rattle.ix_tool.proofs.Clauses.{usage, read_fault, too_long_answer, image, extension, sheet, no_schedule, certificate, source, output, write_fault, memory_alone, waits, no_command, due_status, complete}
+use Rattle.ix_tool.proofs.Clauses.{usage, read_fault, too_long_answer, image, extension, sheet, no_schedule, certificate, source, output, write_fault, memory_alone, waits, lines, no_command, due_status, complete}
 use Rattle.ix_tool.proofs.Headlines.{headline, listed, certified, stepped, assembled, scheduled}
 use Rattle.ix_tool.proofs.ModulesShown.{modules}
 use Rattle.ix_tool.proofs.SweepsShown.{swept}
 use Rattle.ix_tool.proofs.PipelinesShown.{pipelined, waved}
+use Rattle.ix_tool.proofs.InterruptedShown.{interrupted}
 use Rattle.ix_tool.proofs.BenchesShown.{benched}
 use Rattle.ix_tool.proofs.tool.run_tool.Goals as goal
 
@@ -33,6 +34,9 @@ returns-clause-swept g c = λ e. swept (g.F.Shelf.files c.args.shelf.now) (bytes
 
 pub returns-clause-pipelined : goal.returns-clause-pipelined
 returns-clause-pipelined g c = λ e. pipelined c.rows_laws.ensures.text (g.F.Shelf.files c.args.shelf.now) (bytes_of c.args.words.now) (g.S.Sink.written c.args.sink.now) (g.S.Sink.written c.run_words.new.sink) (output (g.F.Shelf.files c.args.shelf.now) (g.F.Shelf.faults c.args.shelf.now) (g.F.Shelf.faults c.run_words.new.shelf) (bytes_of c.args.words.now) (g.S.Sink.written c.args.sink.now) (g.S.Sink.written c.run_words.new.sink) (g.S.Sink.faults c.args.sink.now) (g.S.Sink.faults c.run_words.new.sink) c.run_words.result c.run_words.ensures e)
+
+pub returns-clause-interrupted : goal.returns-clause-interrupted
+returns-clause-interrupted g c = λ e. interrupted c.rows_laws.ensures.text (g.F.Shelf.files c.args.shelf.now) (bytes_of c.args.words.now) (g.S.Sink.written c.args.sink.now) (g.S.Sink.written c.run_words.new.sink) (output (g.F.Shelf.files c.args.shelf.now) (g.F.Shelf.faults c.args.shelf.now) (g.F.Shelf.faults c.run_words.new.shelf) (bytes_of c.args.words.now) (g.S.Sink.written c.args.sink.now) (g.S.Sink.written c.run_words.new.sink) (g.S.Sink.faults c.args.sink.now) (g.S.Sink.faults c.run_words.new.sink) c.run_words.result c.run_words.ensures e)
 
 pub returns-clause-benched : goal.returns-clause-benched
 returns-clause-benched g c = λ e. benched c.rows_laws.ensures.rows c.drawn_laws.ensures.words (g.F.Shelf.files c.args.shelf.now) (bytes_of c.args.words.now) (g.S.Sink.written c.args.sink.now) (g.S.Sink.written c.run_words.new.sink) (output (g.F.Shelf.files c.args.shelf.now) (g.F.Shelf.faults c.args.shelf.now) (g.F.Shelf.faults c.run_words.new.shelf) (bytes_of c.args.words.now) (g.S.Sink.written c.args.sink.now) (g.S.Sink.written c.run_words.new.sink) (g.S.Sink.faults c.args.sink.now) (g.S.Sink.faults c.run_words.new.sink) c.run_words.result c.run_words.ensures e)
@@ -72,6 +76,9 @@ returns-clause-sheet g c = sheet (g.F.Shelf.files c.args.shelf.now) (g.F.Shelf.f
 
 pub returns-clause-waits : goal.returns-clause-waits
 returns-clause-waits g c = waits (g.F.Shelf.files c.args.shelf.now) (g.F.Shelf.faults c.args.shelf.now) (g.F.Shelf.faults c.run_words.new.shelf) (bytes_of c.args.words.now) (g.S.Sink.written c.args.sink.now) (g.S.Sink.written c.run_words.new.sink) (g.S.Sink.faults c.args.sink.now) (g.S.Sink.faults c.run_words.new.sink) c.run_words.result c.run_words.ensures
+
+pub returns-clause-lines : goal.returns-clause-lines
+returns-clause-lines g c = lines (g.F.Shelf.files c.args.shelf.now) (g.F.Shelf.faults c.args.shelf.now) (g.F.Shelf.faults c.run_words.new.shelf) (bytes_of c.args.words.now) (g.S.Sink.written c.args.sink.now) (g.S.Sink.written c.run_words.new.sink) (g.S.Sink.faults c.args.sink.now) (g.S.Sink.faults c.run_words.new.sink) c.run_words.result c.run_words.ensures
 
 pub returns-clause-no_schedule : goal.returns-clause-no_schedule
 returns-clause-no_schedule g c = no_schedule (g.F.Shelf.files c.args.shelf.now) (g.F.Shelf.faults c.args.shelf.now) (g.F.Shelf.faults c.run_words.new.shelf) (bytes_of c.args.words.now) (g.S.Sink.written c.args.sink.now) (g.S.Sink.written c.run_words.new.sink) (g.S.Sink.faults c.args.sink.now) (g.S.Sink.faults c.run_words.new.sink) c.run_words.result c.run_words.ensures

@@ -1,9 +1,10 @@
-use Rattle.std.proofs.Common.{◌≡◌, ◌≢◌, ◌∙◌, Bor, List, [], ℕ, sym, ap, subst, arith, get_or}
-use Rattle.std.proofs.Common.{◌+◌, ◌++◌, ◌∷◌, take, length-append, length}
-use Rattle.rv_waits.specs.Waits.{most_waits}
-use Rattle.rv_asm.specs.WaitsText.{parts_of, words_among, AreWaits}
+use Rattle.std.proofs.Common.{◌∙◌, Bor, List, [], ℕ, sym, ap, subst, arith, get_or}
+use Rattle.std.proofs.Common.{◌+◌, take, length}
+use Rattle.rv_asm.specs.NumbersText.{parts_of, words_among}
+use Rattle.rv_asm.specs.WaitsText.{wait_in, AreWaits}
 use Rattle.rv_asm.proofs.ImageLemmas.{line_at}
-use Rattle.rv_asm.proofs.WaitLemmas.{waits_after, waits_after_empty, refused_in, only_memory, some_part, no_part, one_text, all_waits, length-map}
+use Rattle.rv_asm.proofs.NumberLemmas.{after_word, after_empty, some_part, no_part, length-map}
+use Rattle.rv_asm.proofs.WaitLemmas.{refused_in, only_memory, one_text, all_waits}
 use Rattle.rv_asm.proofs.waits_text.read_waits.Goals as goal
 use Rattle.rv_asm.proofs.waits_text.read_waits.Goals.{then-not-is_empty+in-Ok-take_wait, else-not-is_empty}
 
@@ -32,13 +33,13 @@ loop-part-preserved c =
           record {
             parts_are = c.loop-part.invariant.parts_are;
             waits_are = subst (λ l. AreWaits (words_among (take (i + 1) all)) l) (sym (w.waits-is ∙ t.2))
-                (waits_after all i t.0 part c.loop-part.waits at (some_part part w.if-not-is_empty.ensures) t.1 c.loop-part.invariant.waits_are);
+                (after_word wait_in all i t.0 part c.loop-part.waits at (some_part part w.if-not-is_empty.ensures) t.1 c.loop-part.invariant.waits_are);
             few = omega (arith, w.waits.invariant, ap length w.waits.view_is, ap length w.waits-is);
           }
       | else-not-is_empty w ↦ record {
         parts_are = c.loop-part.invariant.parts_are;
         waits_are = subst (λ l. AreWaits (words_among (take (i + 1) all)) l) (sym w.waits-is)
-            (waits_after_empty all i part c.loop-part.waits at (no_part part w.if-not-is_empty.ensures) c.loop-part.invariant.waits_are);
+            (after_empty wait_in all i part c.loop-part.waits at (no_part part w.if-not-is_empty.ensures) c.loop-part.invariant.waits_are);
         few = omega (arith, ap length w.waits-is, c.loop-part.invariant.few);
       }
     ]

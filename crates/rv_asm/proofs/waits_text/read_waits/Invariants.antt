@@ -1,6 +1,7 @@
 use Rattle.std.proofs.Common.{◌≡◌, ◌≤◌, take, length}
 use Rattle.std.specs.Prelude.{map}
-use Rattle.rv_asm.specs.WaitsText.{parts_of, words_among, AreWaits}
+use Rattle.rv_asm.specs.NumbersText.{parts_of, words_among}
+use Rattle.rv_asm.specs.WaitsText.{AreWaits}
 use Rattle.rv_asm.proofs.waits_text.read_waits.Given as goal
 
 abbrev pub invariant-loop-part : goal.invariant-loop-part

@@ -1,4 +1,4 @@
-use Rattle.std.proofs.Common.{◌∙◌, sym, subst, []}
+use Rattle.std.proofs.Common.{◌∙◌, sym, subst, [], None}
 use Rattle.rv_engine.specs.Settings.{setting}
 use Rattle.rv_nets.specs.Modules.{drivers_of}
 use Rattle.rv_wave.specs.Sent.{IsSent, IsEnded}
@@ -8,7 +8,7 @@ use Rattle.rv_wave.proofs.writing.write_design_wave.Goals as goal
 pub returns-clause-whole : goal.returns-clause-whole
 returns-clause-whole g c =
     let d = c.args.design.now in
-    let k = setting d c.args.image.now c.args.waits.now in
+    let k = setting d c.args.image.now c.args.waits.now None in
     let first = g.S.Sink.written c.args.sink.now in
     let faults = g.S.Sink.faults c.args.sink.now in
     let headed = c.begin-headed in
@@ -29,7 +29,7 @@ returns-clause-whole g c =
 pub returns-clause-fault : goal.returns-clause-fault
 returns-clause-fault g c =
     let d = c.args.design.now in
-    let k = setting d c.args.image.now c.args.waits.now in
+    let k = setting d c.args.image.now c.args.waits.now None in
     let first = g.S.Sink.written c.args.sink.now in
     let faults = g.S.Sink.faults c.args.sink.now in
     let headed = c.begin-headed in

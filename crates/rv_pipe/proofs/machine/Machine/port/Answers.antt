@@ -1,4 +1,5 @@
-use Rattle.std.proofs.Common.{◌≡◌, ◌∙◌, ◌<◌, ap, sym, subst, ℕ, List, ◌∷◌, length, Some}
+use Rattle.std.proofs.Common.{◌≡◌, ◌∙◌, ◌<◌, ap, sym, subst, ℕ, List, ◌∷◌, length, Some, None, []}
+use Rattle.std.specs.Option.{option_copied}
 use Rattle.std.specs.Prelude.{reverse, slice_get}
 use Rattle.rv_engine.specs.Settings.{setting}
 use Rattle.rv_machine.specs.Promises.{IsRunnable}
@@ -13,14 +14,14 @@ use Rattle.rv_pipe.proofs.machine.Machine.port.Goals as goal
 
 pub port-requires : goal.port-requires
 port-requires c =
-    let k = setting c.self.inside.design.now c.self.inside.words.now c.self.inside.waits.now in
+    let k = setting c.self.inside.design.now c.self.inside.words.now c.self.inside.waits.now (option_copied c.self.inside.lines) in
     let same = ports_same c.self.inside.design.now (shown_over k (reverse c.self.inside.trace.rows)) c.self.inside.modules c.self.invariant.nets c.self.invariant.reached in
     let view = ap (λ (v : Running). ports_of v.setting.design.nets) c.self.view_is in
     subst (λ l. c.args.k < length l) (sym (same ∙ view)) c.requires.inside
 
 pub returns-clause-width : goal.returns-clause-width
 returns-clause-width c = λ p e.
-    let k = setting c.self.inside.design.now c.self.inside.words.now c.self.inside.waits.now in
+    let k = setting c.self.inside.design.now c.self.inside.words.now c.self.inside.waits.now (option_copied c.self.inside.lines) in
     let same = ports_same c.self.inside.design.now (shown_over k (reverse c.self.inside.trace.rows)) c.self.inside.modules c.self.invariant.nets c.self.invariant.reached in
     let view = ap (λ (v : Running). ports_of v.setting.design.nets) c.self.view_is in
     c.port.ensures.width p (ap (λ l. slice_get l c.args.k) (same ∙ view) ∙ e)
@@ -28,11 +29,11 @@ returns-clause-width c = λ p e.
 -- what is promised of this port, of a machine as its callers see it
 abbrev IsShown : ℕ → ℕ → Running → Type 0
 IsShown k value v =
-    (row : Row) (earlier : List Row) → v.rows ≡ row ∷ earlier → IsRunnable v.setting.design v.setting.image →
-    (runs : List (List (List ℕ))) × AreDriven (drives_of v.setting.design v.setting.image v.setting.waits) v.setting.design.nets v.rows runs × AllPromised (drives_of v.setting.design v.setting.image v.setting.waits) v.setting.design.nets v.rows runs × (slice_get (port_values v.setting.design.nets runs (length earlier)) k ≡ Some value)
+    (row : Row) (earlier : List Row) → v.setting.lines ≡ None → v.rows ≡ row ∷ earlier → IsRunnable v.setting.design v.setting.image →
+    (runs : List (List (List ℕ))) × AreDriven (drives_of v.setting.design v.setting.image v.setting.waits None []) v.setting.design.nets v.rows runs × AllPromised (drives_of v.setting.design v.setting.image v.setting.waits None []) v.setting.design.nets v.rows runs × (slice_get (port_values v.setting.design.nets runs (length earlier)) k ≡ Some value)
 
 pub returns-clause-driven : goal.returns-clause-driven
 returns-clause-driven c =
-    subst (IsShown c.args.k c.port.result.raw) c.self.view_is (λ row earlier e can.
-    driven_port c.self.inside.design.now c.self.inside.words.now c.self.inside.waits.now (reverse c.self.inside.trace.rows) earlier row c.self.inside.modules c.args.k c.port.result.raw e can
+    subst (IsShown c.args.k c.port.result.raw) c.self.view_is (λ row earlier none e can.
+    driven_port c.self.inside.design.now c.self.inside.words.now c.self.inside.waits.now (option_copied c.self.inside.lines) none (reverse c.self.inside.trace.rows) earlier row c.self.inside.modules c.args.k c.port.result.raw e can
     c.rows_laws.ensures.shown c.nets_law.ensures.newest c.promise_law.ensures c.self.invariant.nets c.self.invariant.are_rows c.self.invariant.reached c.port.ensures.value)
