@@ -209,6 +209,8 @@ for script in trace_summary.py trace_picture.py 'trace_picture.py --kanata'; do
 done
 ends 0 "$user/trace_summary.py" no-rows.trace
 refused "has 0 rows" "$user/trace_picture.py" no-rows.trace
+printf '0 - - - stop Fetch\nstate\npc 00000000\n' > empty-row.trace
+ends 0 "$user/trace_picture.py" empty-row.trace -o empty-row.svg
 refused "none from row 99" "$user/trace_picture.py" good.trace --from 99
 ends 2 "$user/trace_picture.py" good.trace --rows 41
 ends 2 "$user/trace_picture.py" good.trace --rows 0

@@ -131,10 +131,10 @@ class Layout:
         lives = window.lives.values()
         self.size = 10
         self.left = 8
-        self.serials = text_width(str(max(window.lives)), self.size)
+        self.serials = text_width(str(max(window.lives, default=0)), self.size)
         names = [name_text(it, source) for it in lives]
-        self.names = min(max(text_width(it, self.size) for it in names), 190)
-        self.whys = min(max(text_width(why_text(it), 9) for it in lives), 200)
+        self.names = min(max((text_width(it, self.size) for it in names), default=0), 190)
+        self.whys = min(max((text_width(why_text(it), 9) for it in lives), default=0), 200)
         self.grid = self.left + self.serials + 8 + self.names + 10
         room = LYING[0] - self.grid - self.whys - 26
         self.cell = min(24, room / window.count)

@@ -36,6 +36,78 @@ impl Core for Late {
     ghost lawful = { late_lawful };
 }
 
+/// A core of a user with four stages, in which instructions execute where they read their operands.
+pub(crate) struct Early;
+
+impl Core for Early {
+    const STAGES: u8 = 4;
+
+    const RD: u8 = 1;
+
+    const EX: u8 = 1;
+
+    const MEM: u8 = 2;
+
+    const FORWARD: bool = false;
+
+    type Next = Plain;
+
+    const TRAP: u32 = 16;
+
+    ghost use Rattle.std.specs.Prelude.{false};
+    ghost use Rattle.library_tests.specs.Stages.{early_lawful};
+
+    ghost STAGES = { 4 };
+
+    ghost RD = { 1 };
+
+    ghost EX = { 1 };
+
+    ghost MEM = { 2 };
+
+    ghost FORWARD = { false };
+
+    ghost TRAP = { 16 };
+
+    ghost lawful = { early_lawful };
+}
+
+/// The core `Late` without forwarding.
+pub(crate) struct Deep;
+
+impl Core for Deep {
+    const STAGES: u8 = 5;
+
+    const RD: u8 = 2;
+
+    const EX: u8 = 3;
+
+    const MEM: u8 = 4;
+
+    const FORWARD: bool = false;
+
+    type Next = Plain;
+
+    const TRAP: u32 = 64;
+
+    ghost use Rattle.std.specs.Prelude.{false};
+    ghost use Rattle.rv_core.specs.Stages.{late_lawful};
+
+    ghost STAGES = { 5 };
+
+    ghost RD = { 2 };
+
+    ghost EX = { 3 };
+
+    ghost MEM = { 4 };
+
+    ghost FORWARD = { false };
+
+    ghost TRAP = { 64 };
+
+    ghost lawful = { late_lawful };
+}
+
 fn numbers(shape: Shape) -> (u8, u8, u8, u8) {
     (shape.stages, shape.rd, shape.ex, shape.mem)
 }
@@ -66,7 +138,9 @@ fn guesses(rt: HostRuntime) {
 }
 
 #[test]
-fn a_core_of_a_user(rt: HostRuntime) {
+fn cores_of_a_user(rt: HostRuntime) {
+    assert_eq!(rt; numbers(shape_of::<Early>()), (4, 1, 1, 2));
+    assert_eq!(rt; numbers(shape_of::<Deep>()), (5, 2, 3, 4));
     let late = shape_of::<Late>();
     assert_eq!(rt; numbers(late), (5, 2, 3, 4));
     assert!(rt; late.forward && !late.predict);

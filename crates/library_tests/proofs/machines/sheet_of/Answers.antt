@@ -2,11 +2,11 @@ use Rattle.std.proofs.Common.{◌≤◌, List, ℕ, subst, sym, lit≤}
 use Rattle.std.proofs.lemmas.List.Elements.{All-replicate}
 use Rattle.ix_sheet.specs.Sheets.{native_windows_of, window_at, IsInside}
 use Rattle.library_tests.proofs.Windows.{native_inside}
-use Rattle.library_tests.proofs.machines.sheet_of_late.Goals as goal
+use Rattle.library_tests.proofs.machines.sheet_of.Goals as goal
 
 pub returns : goal.returns
 returns c =
-    let shape = c.shape_of-shape.result in
+    let shape = c.args.shape in
     record {
       some_period = lit≤ tt;
       most_period = lit≤ tt;
