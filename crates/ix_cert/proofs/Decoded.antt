@@ -2,8 +2,6 @@
 use Rattle.std.proofs.Common.{◌≡◌, ℕ, zero, suc, ◌+◌, ◌<◌, ◌≤◌, ◌^◌, ◌==◌, List, [], ◌∷◌, refl, sym, ap, ◌∙◌, arith, lit<, Option, Some, None, Bool, true, false}
 use Rattle.std.specs.Prelude.{map, All, decimal, if◌then◌else◌}
 use Rattle.std.specs.List.{slice_split}
-use Rattle.std.specs.Str.Parse.{digits_value}
-use Rattle.std.proofs.lemmas.Fmt.{decimal_is_IsNumeral}
 use Rattle.std.proofs.lemmas.List.Elements.{All-head, All-tail}
 use Rattle.ix_graph.specs.declared.graph.Mode.{Mode}
 use Rattle.ix_graph.specs.declared.graph.Mode.TheVariants.{InPipeline, Tight, Decoupled, Always}
@@ -16,12 +14,7 @@ use Rattle.ix_cert.specs.declared.item.Operation.{Operation}
 use Rattle.ix_cert.specs.Layout.{Line, mode_text}
 use Rattle.ix_cert.specs.Items.{IsItem, IsOperation, IsBound, IsWide, IsTime, item_words, item_line, bound_words, time_words, op_words, operation}
 use Rattle.ix_cert.proofs.Shown.{item_cut}
-
-abbrev value : Line → ℕ
-value w = digits_value 10 w
-
-value_decimal : (n most : ℕ) → n ≤ most → most < 2 ^ 64 → value (decimal n) ≡ n
-value_decimal n most h w = (decimal_is_IsNumeral n (omega (arith, h, w))).1
+use Rattle.ix_lines.proofs.Numerals.{value, value_decimal}
 
 value_wide : (n : ℕ) → IsWide n → value (decimal n) ≡ n
 value_wide n h = value_decimal n 4294967295 h (lit< tt)

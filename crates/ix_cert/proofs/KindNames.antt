@@ -19,7 +19,8 @@ use Rattle.ix_graph.specs.declared.kind.Kind.{Kind}
 use Rattle.ix_graph.specs.declared.kind.Kind.TheVariants.{RdInstr, RdRS1, RdRS2, RdPC, RdCustReg, RdMem, WrRD, WrPC, WrCustReg, WrMem, Add, Sub, Mul, And, Or, Xor, Not, Neg, Shl, Shr, Eq, Ne, Lt, Le, Gt, Ge, Land, Lor, Lnot, Concat, Range, Cast, Mux, Rom}
 use Rattle.ix_graph.specs.Kinds.{kind_words, register_of, printed_name, number_of}
 use Rattle.ix_cert.specs.Layout.{Line, IsName, is_letter, is_name_byte, IsKindName, IsSmallRegister}
-use Rattle.ix_cert.specs.Items.{IsPlainKind, IsRegister, Tells}
+use Rattle.ix_cert.specs.Items.{IsPlainKind, IsRegister}
+use Rattle.ix_lines.specs.Readings.{Tells}
 
 pub record IsRegisterOf (front text : Line) : Type 0 where
   pub register : ℕ

@@ -11,7 +11,6 @@ pub mod Kept
 pub mod KindNames
 pub mod Lined
 pub mod Lists
-pub mod Numerals
 pub mod Outcomes
 pub mod Printed
 pub mod Problems

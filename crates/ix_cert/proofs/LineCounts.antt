@@ -1,7 +1,8 @@
 -- How many lines a report has, and how many bytes they take; what a report in form is ready for.
 use Rattle.std.proofs.Common.{◌≡◌, ℕ, ◌+◌, ◌*◌, ◌≤◌, ◌<◌, ◌==◌, Bool, List, [], ◌∷◌, ◌++◌, length, get_or, map, Some, None, refl, sym, ap, subst, arith, codes, inl, inr}
 use Rattle.std.specs.Prelude.{Option, All, sum_by}
-use Rattle.std.specs.List.{flat_map, slice_split, onto_first}
+use Rattle.std.specs.List.{flat_map, slice_split}
+use Rattle.ix_lines.proofs.Widths.{wide, width, width_split}
 use Rattle.std.proofs.lemmas.Bool.{cases_Bool}
 use Rattle.std.proofs.lemmas.List.{length-append, length-map}
 use Rattle.std.proofs.lemmas.List.Sums.{sum_by-cons}
@@ -17,34 +18,6 @@ use Rattle.ix_cert.proofs.Problems.{valid_problem}
 use Rattle.ix_cert.specs.Checks.{lines_in, IsReadyIn}
 
 -- ---- bytes and lines
-abbrev wide : Line → ℕ
-wide line = length line + 1
-
-abbrev width : List Line → ℕ
-width lines = sum_by wide lines
-
-width_onto : (x : ℕ) (lines : List Line) → 1 ≤ length lines → width (onto_first x lines) ≡ width lines + 1
-width_onto x [] h = absurd (omega arith)
-width_onto x (l ∷ lines) h = omega (arith, sum_by-cons wide (x ∷ l) lines, sum_by-cons wide l lines)
-
-some_split : (p : ℕ → Bool) (xs : List ℕ) → 1 ≤ length (slice_split p xs)
-some_split p [] = omega arith
-some_split p (x ∷ xs) = elim (cases_Bool (p x)) [
-  | inl here ↦ rw here (omega arith)
-  | inr other ↦ rw other (some_onto x (slice_split p xs))
-]
-  where
-    some_onto : (x : ℕ) (lines : List Line) → 1 ≤ length (onto_first x lines)
-    some_onto x [] = omega arith
-    some_onto x (l ∷ lines) = omega arith
-
-width_split : (p : ℕ → Bool) (xs : List ℕ) → width (slice_split p xs) ≡ length xs + 1
-width_split p [] = omega (arith, sum_by-cons wide [] [])
-width_split p (x ∷ xs) = elim (cases_Bool (p x)) [
-  | inl here ↦ rw here (omega (arith, sum_by-cons wide [] (slice_split p xs), width_split p xs))
-  | inr other ↦ rw other (omega (arith, width_onto x (slice_split p xs) (some_split p xs), width_split p xs))
-]
-
 width_last : (lines : List Line) → width (without_last_empty lines) ≤ width lines
 width_last [] = omega arith
 width_last ([] ∷ []) = omega (arith, sum_by-cons wide [] [])

@@ -12,25 +12,19 @@ use Rattle.ix_cert.specs.declared.report.Report.{Report}
 use Rattle.ix_cert.specs.declared.state.Place.TheVariants as place
 use Rattle.ix_cert.specs.declared.state.Reading.{Reading}
 use Rattle.ix_cert.specs.Layout.{Line, IsInForm, BeginReport, IsReportText, IsBadLine, report_lines, lines_of, first_line, behind_refusal, without_last_empty, is_refusal}
-use Rattle.ix_cert.specs.Items.{IsItem, item_line, report_items, texts}
-use Rattle.ix_cert.specs.Printing.{text_of}
+use Rattle.ix_cert.specs.Items.{IsItem, item_line, report_items}
+use Rattle.ix_lines.specs.Readings.{texts}
+use Rattle.ix_lines.specs.Lines.{text_of}
 use Rattle.ix_cert.specs.Steps.{MayFollow, after, reading, run, start, AllFollow}
 use Rattle.ix_cert.specs.Refusals.{IsNext, NoNext, IsBadAt, TellsLine, bytes_in, report_of}
 use Rattle.ix_cert.proofs.Lined.{EachItem, report_are, report_each}
-use Rattle.ix_cert.proofs.Shown.{plain_item, no_feed}
+use Rattle.ix_cert.proofs.Shown.{plain_item}
+use Rattle.ix_lines.proofs.Cuts.{AllPlain, split_text}
 use Rattle.ix_cert.proofs.Walked.{report_leads}
-use Rattle.ix_cert.proofs.Lists.{take_whole}
+use Rattle.ix_lines.proofs.Fronts.{take_whole, take_texts, length_texts}
 use Rattle.ix_cert.proofs.Viable.{Reached, reached_more, refuted, reached_begins, whole_between, IsReport, reached_whole, lines_one}
 
 -- ---- one line after another
-pub at_none : {X : Type 0} (P : Type 0) (Q : X → Type 0) (o : Option X) → o ≡ None → MatchOption o P Q → P
-at_none P Q None e h = h
-at_none P Q (Some x) e h = absurd cc
-
-pub at_some : {X : Type 0} (P : Type 0) (Q : X → Type 0) (o : Option X) (x : X) → o ≡ Some x → MatchOption o P Q → Q x
-at_some P Q None x e h = absurd cc
-at_some P Q (Some y) x e h = let same : y ≡ x = cc in subst Q same h
-
 pub is_zero : (t : Bool) (n : ℕ) → t ≡ (n == 0) → t ≡ true → n ≡ 0
 is_zero t n e h = eqb-true n 0 (sym e ∙ h)
 
@@ -46,15 +40,6 @@ pub next_ok : {E : Type 0} (result : Result (Option Reading) E) (r : Reading) (x
     → IfOk result (λ found. MatchOption found (MayFollow r.version r.place x → ⊥) (λ more. MayFollow r.version r.place x × (more ≡ after r x))) → IfOk result (λ found. MatchOption found (NoNext r line) (λ more. IsNext r line more))
 next_ok (Ok found) r x line w e u h = next_of found r x line w e u h
 next_ok (Err e2) r x line w e u h = tt
-
-take_texts : (lines : List (Bor Line)) (i : ℕ) (d : Bor Line) → i < length lines → take (suc i) (texts lines) ≡ take i (texts lines) ++ (get_or lines i d).now ∷ []
-take_texts [] i d l = absurd (omega (arith, l))
-take_texts (v ∷ lines) zero d l = refl
-take_texts (v ∷ lines) (suc i) d l = ap (λ t. v.now ∷ t) (take_texts lines i d (omega (arith, l)))
-
-length_texts : (lines : List (Bor Line)) → length (texts lines) ≡ length lines
-length_texts [] = refl
-length_texts (v ∷ lines) = ap suc (length_texts lines)
 
 pub reached_next : (lines : List (Bor Line)) (i : ℕ) (d : Bor Line) (r more : Reading) → i < length lines → Reached (take i (texts lines)) r → IsNext r (get_or lines i d).now more → Reached (take (i + 1) (texts lines)) more
 reached_next lines i d r more l h n =
@@ -293,12 +278,9 @@ pub err_moved : (A B : Type 0) {E : Type 0} (e f g : E) → ((r : Result A E) ×
 err_moved A B e f g h s is = elim h.2 [ inl x ↦ inl (is ∙ ap (λ k. Err k) (err_same e f h.0 h.1 x)) | inr x ↦ inr (is ∙ ap (λ k. Err k) (err_same e g h.0 h.1 x)) ]
 
 -- ---- the text that is printed
-split_text : (xs : List Item) → EachItem xs → slice_split (λ b. b == 10) (text_of (map item_line xs)) ≡ map item_line xs ++ [] ∷ []
-split_text [] w = refl
-split_text (x ∷ xs) w =
-    ap (λ l. slice_split (λ b. b == 10) l) (append_assoc (item_line x) (10 ∷ []) (text_of (map item_line xs)))
-    ∙ slice_split_at (λ b. b == 10) (item_line x) 10 (text_of (map item_line xs)) (no_feed (item_line x) (plain_item x w.0)) refl
-    ∙ ap (λ l. item_line x ∷ l) (split_text xs w.1)
+plain_items : (xs : List Item) → EachItem xs → AllPlain (map item_line xs)
+plain_items [] w = tt
+plain_items (x ∷ xs) w = (plain_item x w.0, plain_items xs w.1)
 
 without_end : (ls : List Line) → without_last_empty (ls ++ [] ∷ []) ≡ ls
 without_end [] = refl
@@ -310,7 +292,7 @@ pub printed : (text : List ℕ) (r : Report) → IsInForm r → text ≡ text_of
 printed text r f e =
     let lines : lines_of text ≡ report_lines r =
     ap lines_of (e ∙ ap text_of (report_are r))
-    ∙ ap without_last_empty (split_text (report_items r) (report_each r f))
+    ∙ ap without_last_empty (split_text (map item_line (report_items r)) (plain_items (report_items r) (report_each r f)))
     ∙ without_end (map item_line (report_items r))
     ∙ sym (report_are r) in
     record { lines = ap behind_refusal lines; in_form = f }

@@ -11,8 +11,10 @@ use Rattle.ix_graph.specs.declared.graph.Mode.{Mode}
 use Rattle.ix_sheet.specs.declared.problem.Node.{Node}
 use Rattle.ix_cert.specs.declared.report.ReportBlock.{ReportBlock}
 use Rattle.ix_cert.specs.Layout.{Line, op_line, timed_lines, untimed_lines, op_lines}
-use Rattle.ix_cert.proofs.Lists.{take_next, take_whole, run_on, node_parts}
-use Rattle.ix_cert.specs.Printing.{text_of, time_field, time_at, HasTimes}
+use Rattle.ix_cert.proofs.Lists.{run_on, node_parts}
+use Rattle.ix_lines.proofs.Fronts.{take_next, take_whole}
+use Rattle.ix_cert.specs.Printing.{time_field, time_at, HasTimes}
+use Rattle.ix_lines.specs.Lines.{text_of}
 
 -- one piece more
 pub piece_more : {X : Type 0} (f : X → List ℕ) (before out new : List ℕ) (xs : List X) (k : ℕ) (d : X) → out ≡ before ++ flat_map f (take k xs) → new ≡ out ++ f (get_or xs k d) → k < length xs

@@ -16,31 +16,10 @@ use Rattle.ix_cert.specs.declared.item.Item.{Item}
 use Rattle.ix_cert.specs.declared.item.Item.TheVariants.{Title, Period, Behaviour, Op, Edge, Cost, Flow, Cycle, End}
 use Rattle.ix_cert.specs.declared.item.Operation.{Operation}
 use Rattle.ix_cert.specs.Layout.{Line, mode_text, IsWeight, IsName, IsKindName, is_letter, is_name_byte}
-use Rattle.ix_cert.specs.Items.{IsReading, IsItem, IsOperation, IsBound, IsWide, IsTime, item_words, item_line, bound_words, time_words, width_words, op_words}
+use Rattle.ix_cert.specs.Items.{IsItem, IsOperation, IsBound, IsWide, IsTime, item_words, item_line, bound_words, time_words, width_words, op_words}
+use Rattle.ix_lines.specs.Readings.{IsReading}
+use Rattle.ix_lines.proofs.Cuts.{Shown, AllShown, shown_append, shown_by_test, shown_decimal, cut_words, line_read_ok as read_ok, Plain, plain_joined}
 use Rattle.ix_cert.proofs.KindNames.{kind_form, reads, writes}
-
--- each byte is one that is shown, none a space
-abbrev pub Shown : Line → Type 0
-Shown [] = Unit {0}
-Shown (b ∷ rest) = (32 < b) × Shown rest
-
-abbrev pub AllShown : List Line → Type 0
-AllShown [] = Unit {0}
-AllShown (w ∷ ws) = Shown w × AllShown ws
-
-shown_append : (xs ys : Line) → Shown xs → Shown ys → Shown (xs ++ ys)
-shown_append [] ys a b = b
-shown_append (x ∷ xs) ys a b = (a.0, shown_append xs ys a.1 b)
-
-above_32 : (b : ℕ) → nat_lt 32 b ≡ true → 32 < b
-above_32 b e = grind (arith, nat_tests)
-
-shown_by_test : (w : Line) → list_all (λ b. nat_lt 32 b) w ≡ true → Shown w
-shown_by_test [] e = tt
-shown_by_test (b ∷ rest) e = let p = and_parts (nat_lt 32 b) (list_all (λ b. nat_lt 32 b) rest) e in (above_32 b p.0, shown_by_test rest p.1)
-
-pub shown_decimal : (n : ℕ) → n < 2 ^ 64 → Shown (decimal n)
-shown_decimal n h = decimal_by_steps (λ n ds. Shown ds) (λ n l. (omega arith, tt)) (λ n ds l s. shown_append ds ((48 + n % 10) ∷ []) s (omega arith, tt)) n h
 
 shown_words : agree_below (λ k. list_all (λ b. nat_lt 32 b) (get_or kind_words k [])) (λ _. true) 34 ≡ true
 unfolding kind_words
@@ -145,22 +124,6 @@ shown_item (Flow amount bound) w = (label (codes "flow") refl, (great_number amo
 shown_item (Cycle bound) w = (label (codes "cycle") refl, shown_bound bound w)
 shown_item End w = (label (codes "end") refl, tt)
 
--- ---- cutting at the spaces
-other_byte : (b : ℕ) → 32 < b → (b == 32) ≡ false
-other_byte b h = grind (arith, nat_tests)
-
-no_space : (w : Line) → Shown w → All (λ b. (b == 32) ≡ false) w
-no_space [] s = All-nil (λ b. (b == 32) ≡ false)
-no_space (b ∷ rest) s = All-cons (λ b. (b == 32) ≡ false) b rest (other_byte b s.0) (no_space rest s.1)
-
-pub cut_joined : (w : Line) (ws : List Line) → AllShown (w ∷ ws) → slice_split (λ b. b == 32) (join_with_byte 32 (w ∷ ws)) ≡ w ∷ ws
-cut_joined w [] s = slice_split_none (λ b. b == 32) w (no_space w s.0)
-cut_joined w (v ∷ ws) s = slice_split_at (λ b. b == 32) w 32 (join_with_byte 32 (v ∷ ws)) (no_space w s.0) refl ∙ ap (λ l. w ∷ l) (cut_joined v ws s.1)
-
-cut_words : (ws : List Line) → ws ≢ [] → AllShown ws → slice_split (λ b. b == 32) (join_with_byte 32 ws) ≡ ws
-cut_words [] n s = absurd (n refl)
-cut_words (w ∷ ws) n s = cut_joined w ws s
-
 some_words : (x : Item) → item_words x ≢ []
 some_words (Title version) = λ e. grind (arith, e)
 some_words (Period period) = λ e. grind (arith, e)
@@ -177,39 +140,10 @@ pub item_cut : (x : Item) → IsItem x → slice_split (λ b. b == 32) (item_lin
 item_cut x w = cut_words (item_words x) (some_words x) (shown_item x w)
 
 -- what was read of the words was read of the line
-pub line_read : (line : Line) (words : List Line) (found : Option Item) → words ≡ slice_split (λ b. b == 32) line → IsReading IsItem item_words words found → IsReading IsItem item_line line found
-line_read line words None c r = λ x w e. r x w (sym (item_cut x w) ∙ ap (λ l. slice_split (λ b. b == 32) l) e ∙ sym c)
-line_read line words (Some x) c r = (r.0, ap (λ l. join_with_byte 32 l) (r.1 ∙ c) ∙ join_with_byte-slice_split 32 line)
-
 pub line_read_ok : {E : Type 0} (r : Result (Option Item) E) (line : Line) (words : List Line) → words ≡ slice_split (λ b. b == 32) line → IfOk r (λ found. IsReading IsItem item_words words found)
     → IfOk r (λ found. IsReading IsItem item_line line found)
-line_read_ok (Ok found) line words c r = line_read line words found c r
-line_read_ok (Err e) line words c r = tt
+line_read_ok r line words c h = read_ok IsItem item_words item_cut r line words c h
 
 -- ---- no line feed in a line
-abbrev pub Plain : Line → Type 0
-Plain [] = Unit {0}
-Plain (b ∷ rest) = (10 < b) × Plain rest
-
-plain_shown : (w rest : Line) → Shown w → Plain rest → Plain (w ++ rest)
-plain_shown [] rest s p = p
-plain_shown (b ∷ w) rest s p = (omega (arith, s.0), plain_shown w rest s.1 p)
-
-plain_word : (w : Line) → Shown w → Plain w
-plain_word [] s = tt
-plain_word (b ∷ w) s = (omega (arith, s.0), plain_word w s.1)
-
-plain_joined : (ws : List Line) → AllShown ws → Plain (join_with_byte 32 ws)
-plain_joined [] s = tt
-plain_joined (w ∷ []) s = plain_word w s.0
-plain_joined (w ∷ v ∷ ws) s = plain_shown w (32 ∷ join_with_byte 32 (v ∷ ws)) s.0 (lit< tt, plain_joined (v ∷ ws) s.1)
-
 pub plain_item : (x : Item) → IsItem x → Plain (item_line x)
 plain_item x w = plain_joined (item_words x) (shown_item x w)
-
-no_feed_byte : (b : ℕ) → 10 < b → (b == 10) ≡ false
-no_feed_byte b h = grind (arith, nat_tests)
-
-pub no_feed : (w : Line) → Plain w → All (λ b. (b == 10) ≡ false) w
-no_feed [] s = All-nil (λ b. (b == 10) ≡ false)
-no_feed (b ∷ rest) s = All-cons (λ b. (b == 10) ≡ false) b rest (no_feed_byte b s.0) (no_feed rest s.1)

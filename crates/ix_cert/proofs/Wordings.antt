@@ -3,14 +3,16 @@ use Rattle.std.proofs.Common.{◌≡◌, ℕ, zero, suc, ◌+◌, ◌<◌, ◌�
 use Rattle.std.specs.Prelude.{map, All, codes, decimal}
 use denote.Ref.{Bor}
 use Rattle.std.specs.Prelude.{◌^◌}
-use Rattle.std.proofs.lemmas.Fmt.{decimal_injective}
+use Rattle.ix_lines.proofs.Numerals.{no_zero}
 use Rattle.std.proofs.lemmas.List.Elements.{All-head, All-tail}
 use Rattle.ix_sheet.specs.declared.problem.Bound.{Bound}
 use Rattle.ix_sheet.specs.declared.problem.Bound.TheVariants.{Early, Late, Dep, Chain}
 use Rattle.ix_cert.specs.declared.item.Item.{Item}
 use Rattle.ix_cert.specs.declared.item.Item.TheVariants.{Title, Period, Behaviour, Op, Edge, Cost, Flow, Cycle, End}
 use Rattle.ix_cert.specs.Layout.{Line}
-use Rattle.ix_cert.specs.Items.{IsWide, AreWide, IsBound, IsItem, texts, bound_words, item_words, pair_words}
+use Rattle.ix_cert.specs.Items.{IsWide, AreWide, IsBound, IsItem, bound_words, item_words, pair_words}
+use Rattle.ix_lines.specs.Readings.{texts}
+use Rattle.ix_lines.proofs.Fronts.{take_texts}
 
 pub no_dep : (ws : List Line) → ((x : ℕ × ℕ) → AreWide x → pair_words x ≡ ws → ⊥) → (x : Bound) → IsBound x → bound_words x ≡ codes "dep" ∷ ws → ⊥
 no_dep ws h (Early k) w e = grind (arith, e)
@@ -28,14 +30,6 @@ no_edge ws h (Cost cost) w e = grind (arith, e)
 no_edge ws h (Flow amount bound) w e = grind (arith, e)
 no_edge ws h (Cycle bound) w e = grind (arith, e)
 no_edge ws h End w e = grind (arith, e)
-
-no_zero : (p n : ℕ) (all : List Line) (ps bs : List Line) → n ≡ 0 → 1 ≤ p → p < 2 ^ 64 → decimal p ∷ ps ≡ all → decimal n ∷ bs ≡ all → ⊥
-no_zero p n all ps bs z h w e f =
-    let same : decimal p ≡ decimal n = cc in
-    let is = decimal_injective p n w (omega (arith, z, lit)) same in
-    omega (arith, is, z, h) where
-      lit : 0 < 2 ^ 64
-      lit = lit< tt
 
 pub no_title : (n : ℕ) (ws rest : List Line) → n ≡ 0 → codes "report" ∷ decimal n ∷ rest ≡ ws → (x : Item) → IsItem x → item_words x ≡ codes "longnail" ∷ ws → ⊥
 no_title n ws rest z f (Title version) w e =
@@ -103,11 +97,6 @@ number_at [] (v ∷ ws) i d e w l = absurd (grind (arith, e))
 number_at (n ∷ x) (v ∷ ws) zero d e w l = let t : decimal n ≡ v.now = cc in record { number = n; wide = All-head IsWide n x w; is = t }
 number_at (n ∷ x) (v ∷ ws) (suc i) d e w l = let t : map decimal x ≡ texts ws = cc in number_at x ws i d t (All-tail IsWide n x w) (omega (arith, l))
 
-take_more : (ws : List (Bor Line)) (i : ℕ) (d : Bor Line) → i < length ws → take (suc i) (texts ws) ≡ take i (texts ws) ++ (get_or ws i d).now ∷ []
-take_more [] i d l = absurd (omega (arith, l))
-take_more (v ∷ ws) zero d l = refl
-take_more (v ∷ ws) (suc i) d l = ap (λ t. v.now ∷ t) (take_more ws i d (omega (arith, l)))
-
 map_behind : (x : List ℕ) (n : ℕ) → map decimal (x ++ n ∷ []) ≡ map decimal x ++ decimal n ∷ []
 map_behind [] n = refl
 map_behind (m ∷ x) n = ap (λ t. decimal m ∷ t) (map_behind x n)
@@ -117,4 +106,4 @@ pub path_more : (x : List ℕ) (n : ℕ) (ws : List (Bor Line)) (i : ℕ) (d : B
     → map decimal (x ++ n ∷ []) ≡ take (i + 1) (texts ws)
 path_more x n ws i d e s l =
     let j : i + 1 ≡ suc i = omega arith in
-    map_behind x n ∙ ap (λ t. t ++ decimal n ∷ []) e ∙ ap (λ w. take i (texts ws) ++ w ∷ []) s ∙ sym (take_more ws i d l) ∙ ap (λ k. take k (texts ws)) (sym j)
+    map_behind x n ∙ ap (λ t. t ++ decimal n ∷ []) e ∙ ap (λ w. take i (texts ws) ++ w ∷ []) s ∙ sym (take_texts ws i d l) ∙ ap (λ k. take k (texts ws)) (sym j)

@@ -12,24 +12,8 @@ use Rattle.ix_cert.specs.declared.item.Item.TheVariants.{Title, Period, Behaviou
 use Rattle.ix_cert.specs.declared.item.Operation.{Operation}
 use Rattle.ix_cert.specs.declared.report.Report.{Report}
 use Rattle.ix_cert.specs.declared.report.ReportBlock.{ReportBlock}
+use Rattle.ix_lines.specs.Readings.{texts}
 use Rattle.ix_cert.specs.Layout.{Line, is_weighted, mode_text, IsName, IsKindName, IsNodeInForm, IsWeight, HasWeight}
-
--- What was found has this form and these words; or nothing that has this form has these words.
-abbrev pub IsReading : {X Y : Type 0} → (X → Type 0) → (X → Y) → Y → Option X → Type 0
-IsReading {X} good shown all found = MatchOption found ((x : X) → good x → shown x ≡ all → ⊥) (λ x. good x × (shown x ≡ all))
-
--- each value has this form
-abbrev pub IsAny : {X : Type 0} → X → Type 0
-IsAny x = Unit {0}
-
--- an answer tells whether something holds
-abbrev pub Tells : Bool → Type 0 → Type 0
-Tells true P = P
-Tells false P = P → ⊥
-
--- the words, as texts
-abbrev pub texts : List (Bor Line) → List Line
-texts words = map (λ (word : Bor Line). word.now) words
 
 -- the words of a weight, where weights are told, before others
 abbrev pub width_words : Bool → ℕ → List Line → List Line
@@ -151,22 +135,6 @@ pub record IsPlainKind (word : Line) : Type 0 where
   pub is : word ≡ slice_index_or kind_words place []
 
 -- ---- words behind the first of a line
--- the first word, and those behind it
-abbrev pub IsParted : List Line → Option (Bor Line × Bor (List (Bor Line))) → Type 0
-IsParted words found = MatchOption found (words ≡ []) (λ x. words ≡ x.0.now ∷ texts x.1.now)
-
--- a number of at most `most`, and the words behind it
-abbrev pub IsCounted : ℕ → List Line → Option (ℕ × Bor (List (Bor Line))) → Type 0
-IsCounted most words found =
-    MatchOption found ((n : ℕ) (rest : List Line) → n ≤ most → decimal n ∷ rest ≡ words → ⊥)
-    (λ x. (x.0 ≤ most) × (decimal x.0 ∷ texts x.1.now ≡ words))
-
--- a label, a number of at most `most`, and the words behind it
-abbrev pub IsLabelled : Line → ℕ → List Line → Option (ℕ × Bor (List (Bor Line))) → Type 0
-IsLabelled label most words found =
-    MatchOption found ((n : ℕ) (rest : List Line) → n ≤ most → label ∷ decimal n ∷ rest ≡ words → ⊥)
-    (λ x. (x.0 ≤ most) × (label ∷ decimal x.0 ∷ texts x.1.now ≡ words))
-
 -- a weight from 1 to 128 behind its label, and the words behind it
 abbrev pub IsWidthRead : List Line → Option (ℕ × Bor (List (Bor Line))) → Type 0
 IsWidthRead words found =

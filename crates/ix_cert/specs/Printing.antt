@@ -1,13 +1,8 @@
 -- What the printing of a report puts behind what stands already.
-use Rattle.std.specs.Prelude.{◌≡◌, ◌<◌, ℕ, List, [], ◌∷◌, ◌++◌, length, All, Option, Some, None, slice_index}
-use Rattle.std.specs.List.{flat_map}
+use Rattle.std.specs.Prelude.{◌≡◌, ◌<◌, ℕ, List, [], length, All, Option, Some, None, slice_index}
 use Rattle.ix_graph.specs.declared.graph.Mode.{Mode}
 use Rattle.ix_cert.specs.declared.report.ReportBlock.{ReportBlock}
 use Rattle.ix_cert.specs.Layout.{Line, time_text}
-
--- the lines, each with a line feed behind it
-abbrev pub text_of : List Line → List ℕ
-text_of lines = flat_map (λ line. line ++ 10 ∷ []) lines
 
 abbrev pub time_field : Option ℕ → Line
 time_field None = []

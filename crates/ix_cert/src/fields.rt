@@ -1,60 +1,16 @@
 ghost use Rattle.std.specs.Prelude.{◌≡◌, ℕ, ◌≤◌, [], ◌∷◌, map, decimal, codes, All, IfOk};
-ghost use Rattle.ix_cert.specs.Items.{IsReading, IsParted, IsCounted, IsLabelled, IsWidthRead, IsWeightRead, IsNodeRead, IsTime, IsWide, AreWide, IsBound, IsItem, IsOperation, Tells, texts, time_words, op_words, bound_words, item_words, pair_words};
+ghost use Rattle.ix_cert.specs.Items.{IsWidthRead, IsWeightRead, IsNodeRead, IsTime, IsWide, AreWide, IsBound, IsItem, IsOperation, time_words, op_words, bound_words, item_words, pair_words};
+ghost use Rattle.ix_lines.specs.Readings.{IsReading, IsParted, IsCounted, IsLabelled, Tells, texts};
 
 use crate::item::{Item, Operation};
-use crate::word::{is_kind, is_label, is_name, mode, name, number};
+use crate::word::{is_kind, name};
 use ix_bits::{List, Memory};
+use ix_lines::{counted, is_end, is_label, labelled, number, parted};
 use ix_sheet::{Bound, Node};
 use std::alloc::Global;
 
 /// The greatest number of an operation that a bound or an edge can tell.
 const MOST: u64 = 0xffff_ffff;
-
-/// The first word, and those behind it.
-pub fn parted<'a, 'b>(words: &'a [&'b [u8]]) -> Option<(&'b [u8], &'a [&'b [u8]])>
-    ensures { IsParted (texts words.now) result }
-{
-    match words {
-        [first, rest @ ..] => Some((*first, rest)),
-        [] => None,
-    }
-}
-
-pub fn is_end(words: &[&[u8]]) -> bool
-    ensures { Tells result (texts words.now ≡ []) }
-{
-    words.is_empty()
-}
-
-/// The first word as a number of at most `most`, and the words behind it.
-pub fn counted<'a, 'b>(words: &'a [&'b [u8]], most: u64) -> Option<(u64, &'a [&'b [u8]])>
-    ensures { IsCounted most (texts words.now) result }
-{
-    let Some((first, rest)) = parted(words) else {
-        return None;
-    };
-    match number(first, most) {
-        Some(number) => Some((number, rest)),
-        None => None,
-    }
-}
-
-/// The number behind a label, at most `most`, and the words behind it.
-pub fn labelled<'a, 'b>(
-    words: &'a [&'b [u8]],
-    label: &[u8],
-    most: u64,
-) -> Option<(u64, &'a [&'b [u8]])>
-    ensures { IsLabelled label.now most (texts words.now) result }
-{
-    let Some((first, rest)) = parted(words) else {
-        return None;
-    };
-    if !is_label(first, label) {
-        return None;
-    }
-    counted(rest, most)
-}
 
 /// The weight behind `width`, from 1 to 128, and the words behind it.
 fn width<'a, 'b>(words: &'a [&'b [u8]]) -> Option<(u8, &'a [&'b [u8]])>

@@ -1,10 +1,12 @@
 ghost use Rattle.std.specs.Prelude.{◌≡◌, [], ◌∷◌, codes, IfOk};
-ghost use Rattle.ix_cert.specs.Items.{IsReading, IsItem, item_words, texts};
+ghost use Rattle.ix_cert.specs.Items.{IsItem, item_words};
+ghost use Rattle.ix_lines.specs.Readings.{IsReading, texts};
 
-use crate::fields::{bound, counted, is_end, labelled, operation, parted, two};
+use crate::fields::{bound, operation, two};
 use crate::item::Item;
-use crate::word::{is_label, is_name, mode, name};
+use crate::word::{is_name, mode, name};
 use ix_bits::Memory;
+use ix_lines::{counted, is_end, is_label, labelled, parted};
 use std::alloc::Global;
 
 /// The least amount of a bound in a flow.

@@ -1,7 +1,8 @@
 ghost use Rattle.std.specs.Prelude.{◌≡◌, ◌++◌, [], ◌∷◌, map, length, codes, decimal, IfOk, OnOk, Some, None};
 ghost use Rattle.std.specs.List.{flat_map};
 ghost use Rattle.ix_cert.specs.Layout.{mode_text, field, width_text, bound_text, op_line, edge_line, flow_line, cycle_line, block_lines, report_lines, op_lines, certificate_lines, IsInForm, IsBlockInForm, IsReportText};
-ghost use Rattle.ix_cert.specs.Printing.{text_of, time_field, time_at as specified_time_at, IsWithin, IsPrintable, ArePrintable};
+ghost use Rattle.ix_cert.specs.Printing.{time_field, time_at as specified_time_at, IsWithin, IsPrintable, ArePrintable};
+ghost use Rattle.ix_lines.specs.Lines.{text_of};
 
 use crate::report::{Report, ReportBlock};
 use crate::state::is_weighted;

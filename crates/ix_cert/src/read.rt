@@ -1,8 +1,8 @@
-ghost use Rattle.std.specs.Prelude.{◌≡◌, ◌≢◌, ℕ, ◌+◌, ◌^◌, ◌<◌, ◌≤◌, ◌==◌, ◌⊎◌, length, IfOk, IfErr, MatchOption, Ok, Err};
-ghost use Rattle.std.specs.List.{slice_split};
+ghost use Rattle.std.specs.Prelude.{◌≡◌, ◌≢◌, ℕ, ◌+◌, ◌^◌, ◌<◌, ◌≤◌, ◌⊎◌, length, IfOk, IfErr, MatchOption, Ok, Err};
 ghost use Rattle.ix_cert.specs.declared.report.CertErr.TheVariants as err;
 ghost use Rattle.ix_cert.specs.declared.report.Report.{Report as ReportValue};
-ghost use Rattle.ix_cert.specs.Items.{IsReading, IsItem, item_line, texts};
+ghost use Rattle.ix_cert.specs.Items.{IsItem, item_line};
+ghost use Rattle.ix_lines.specs.Readings.{IsReading, texts};
 ghost use Rattle.ix_cert.specs.Layout.{lines_of, first_line, is_refusal, without_last_empty as specified_without_last_empty, behind_refusal as specified_behind_refusal, report_lines, IsInForm, IsReportText, IsBadLine};
 ghost use Rattle.ix_cert.specs.Refusals.{IsNext, NoNext, TellsLine, bytes_in, report_of};
 ghost use Rattle.ix_cert.specs.Steps.{MayFollow, after as specified_after};
@@ -13,14 +13,8 @@ use crate::lines::item_of;
 use crate::report::{CertErr, Report};
 use crate::state::{Place, Reading, after, may_follow};
 use ix_bits::{List, Memory};
-use std::alloc::{AllocError, Global};
-
-/// The parts of a text between the bytes of this value.
-fn parts(alloc: Global, bytes: &[u8], by: u8) -> Result<Vec<&[u8]>, AllocError>
-    ensures { IfOk result (λ parts. texts parts.items ≡ slice_split (λ b. b == by) bytes.now) }
-{
-    bytes.split(|byte| *byte == by).collect(alloc)
-}
+use ix_lines::parts;
+use std::alloc::Global;
 
 /// What a line says, if it is a line of a report.
 fn item_of_line(alloc: Global, line: &[u8]) -> Result<Option<Item>, Memory>

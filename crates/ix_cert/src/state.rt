@@ -1,6 +1,7 @@
 ghost use Rattle.std.specs.Prelude.{◌≡◌, ℕ, ◌≤◌, [], length, IfOk, OnOk};
 ghost use Rattle.ix_cert.specs.Layout.{is_weighted as specified_is_weighted, IsBoundInForm};
-ghost use Rattle.ix_cert.specs.Items.{Tells, IsBound, IsItem};
+ghost use Rattle.ix_cert.specs.Items.{IsBound, IsItem};
+ghost use Rattle.ix_lines.specs.Readings.{Tells};
 ghost use Rattle.ix_cert.specs.Steps.{IsTimed, IsBehind, last_edge, MayBeOp, MayBeEdge, MayStand, MayFollow, begun as specified_begun, with_op, inside, after_at, after as specified_after};
 ghost use Rattle.ix_cert.specs.declared.state.Place.TheVariants as at;
 

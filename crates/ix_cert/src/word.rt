@@ -1,38 +1,13 @@
-ghost use Rattle.std.specs.Prelude.{◌≡◌, ◌≢◌, ℕ, ◌≤◌, ◌++◌, MatchOption, length, decimal, IfOk, IsUtf8, true};
+ghost use Rattle.std.specs.Prelude.{◌≡◌, ◌≢◌, ◌≤◌, length, IfOk, IsUtf8};
 ghost use Rattle.std.specs.List.{list_all};
 ghost use Rattle.ix_cert.specs.Layout.{Line, IsName, IsKindName, mode_text, is_letter as specified_is_letter, is_name_byte as specified_is_name_byte};
-ghost use Rattle.ix_cert.specs.Items.{IsReading, Tells, IsAny, IsRegister, IsPlainKind};
+ghost use Rattle.ix_cert.specs.Items.{IsRegister, IsPlainKind};
+ghost use Rattle.ix_lines.specs.Readings.{IsReading, Tells, IsAny};
 
-use itoa::Buffer;
 use ix_bits::{Memory, Name};
 use ix_graph::{Mode, kind_number};
+use ix_lines::{behind, is_label, number};
 use std::alloc::Global;
-
-/// The number that a word is in decimal digits without leading zeros, where it is at most `most`.
-pub fn number(word: &[u8], most: u64) -> Option<u64>
-    ensures { IsReading (λ n. n ≤ most) decimal word.now result }
-{
-    let Ok(text) = str::from_utf8(word) else {
-        return None;
-    };
-    let Ok(number) = text.parse::<u64>() else {
-        return None;
-    };
-    if number > most {
-        return None;
-    }
-    if is_written(number, word) {
-        Some(number)
-    } else {
-        None
-    }
-}
-
-fn is_written(number: u64, word: &[u8]) -> bool
-    ensures { Tells result (decimal number ≡ word.now) }
-{
-    Buffer::new().format(number).as_bytes() == word
-}
 
 fn is_letter(byte: u8) -> bool
     ensures { result ≡ specified_is_letter byte }
@@ -73,13 +48,6 @@ fn is_register(word: &[u8]) -> bool
     number(word, 15).is_some()
 }
 
-/// What stands behind a front.
-fn behind<'a>(word: &'a [u8], front: &[u8]) -> Option<&'a [u8]>
-    ensures { MatchOption result ((rest : Line) → word.now ≢ front.now ++ rest) (λ rest. word.now ≡ front.now ++ rest.now) }
-{
-    word.strip_prefix(front)
-}
-
 /// Whether a word is the name of a kind without a register.
 fn is_plain_kind(word: &[u8]) -> bool
     ensures { Tells result (IsPlainKind word.now) }
@@ -110,13 +78,6 @@ pub fn is_kind(word: &[u8]) -> bool
         return is_register(register);
     }
     is_plain_kind(word)
-}
-
-/// Whether a word is this one.
-pub fn is_label(word: &[u8], label: &[u8]) -> bool
-    ensures { Tells result (word.now ≡ label.now) }
-{
-    word == label
 }
 
 /// The mode that a word names; `none` is no mode.

@@ -13,11 +13,11 @@ use Rattle.ix_sheet.specs.Sheets.{IsValidSheet}
 use Rattle.ix_cert.specs.declared.report.Report.{Report}
 use Rattle.ix_cert.specs.declared.report.ReportBlock.{ReportBlock}
 use Rattle.ix_cert.specs.Layout.{Line, is_weighted, IsName, is_letter, is_name_byte, field, block_lines, lines_of, without_last_empty, first_line, behind_refusal, is_refusal, report_lines, IsBlockInForm, IsInForm, IsReportText}
-use Rattle.ix_cert.specs.Printing.{text_of}
+use Rattle.ix_lines.specs.Lines.{text_of}
 use Rattle.ix_cert.specs.Faults.{Step, HasNoFault, block_count, steps_in, steps_from}
 use Rattle.ix_cert.specs.Certificates.{IsFaultless}
 use Rattle.ix_cert.proofs.Outcomes.{printed}
-use Rattle.ix_cert.proofs.Shown.{Shown, shown_decimal}
+use Rattle.ix_lines.proofs.Cuts.{Shown, shown_decimal}
 use Rattle.ix_reports.specs.Blocks.{version_by, IsSound}
 use Rattle.ix_schedules.specs.Scheduling.{behaviours_of, AreReported, IsReport}
 use Rattle.ix_schedules.specs.ScheduleText.{no_schedule_line, alone}

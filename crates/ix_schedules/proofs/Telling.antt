@@ -5,7 +5,7 @@ use Rattle.ix_behaviour.specs.declared.which.Which.{Which}
 use Rattle.ix_sheet.specs.declared.sheet.Sheet.{Sheet}
 use Rattle.ix_cert.specs.declared.report.ReportBlock.{ReportBlock}
 use Rattle.ix_cert.specs.Layout.{report_lines}
-use Rattle.ix_cert.specs.Printing.{text_of}
+use Rattle.ix_lines.specs.Lines.{text_of}
 use Rattle.ix_cert.specs.Certificates.{IsFaultless}
 use Rattle.ix_reports.specs.Blocks.{IsSound}
 use Rattle.ix_schedules.specs.declared.scheduling.ScheduleErr.TheVariants.{TooManyOps, NoSchedule}

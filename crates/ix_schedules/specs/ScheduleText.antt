@@ -6,7 +6,7 @@ use Rattle.ix_sheet.specs.declared.sheet.Sheet.{Sheet}
 use Rattle.ix_cert.specs.declared.report.Report.{Report}
 use Rattle.ix_cert.specs.declared.report.ReportBlock.{ReportBlock}
 use Rattle.ix_cert.specs.Layout.{report_lines}
-use Rattle.ix_cert.specs.Printing.{text_of}
+use Rattle.ix_lines.specs.Lines.{text_of}
 use Rattle.ix_cert.specs.Certificates.{IsFaultless}
 use Rattle.ix_reports.specs.Blocks.{version_by}
 use Rattle.ix_schedules.specs.Scheduling.{behaviours_of, name_at, IsReport, IsTooLarge, IsSchedulable, IsWithout, AtFirst}

@@ -3,7 +3,7 @@ ghost use Rattle.ix_extension.specs.Extensions.{view_extension};
 ghost use Rattle.ix_extension.specs.WellFormed.{IsWellFormed};
 ghost use Rattle.ix_sheet.specs.Sheets.{IsValidSheet};
 ghost use Rattle.ix_cert.specs.Layout.{IsInForm, report_lines};
-ghost use Rattle.ix_cert.specs.Printing.{text_of};
+ghost use Rattle.ix_lines.specs.Lines.{text_of};
 ghost use Rattle.ix_cert.specs.Certificates.{IsFaultless};
 ghost use Rattle.ix_reports.specs.Blocks.{IsSound};
 ghost use Rattle.ix_schedules.specs.Scheduling.{behaviours_of, AreNamed, IsFirstRefused};

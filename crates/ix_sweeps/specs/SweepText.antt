@@ -5,7 +5,7 @@ use Rattle.ix_extension.specs.Extensions.{ExtensionTree}
 use Rattle.ix_sheet.specs.declared.sheet.Sheet.{Sheet}
 use Rattle.ix_cert.specs.declared.report.Report.{Report}
 use Rattle.ix_cert.specs.Layout.{report_lines, IsInForm}
-use Rattle.ix_cert.specs.Printing.{text_of}
+use Rattle.ix_lines.specs.Lines.{text_of}
 use Rattle.ix_cert.specs.Certificates.{IsFaultless}
 use Rattle.ix_schedules.specs.Scheduling.{behaviours_of}
 use Rattle.ix_sweeps.specs.declared.sweeping.Swept.{Swept}

@@ -7,3 +7,4 @@ mod FreezingInputs
 mod SummingCycles
 mod ForwardingInputs
 mod LinkingInputs
+mod DivertingInputs

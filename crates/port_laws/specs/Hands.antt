@@ -88,6 +88,9 @@ eight_32 = record { raw = 8; width = 32; some_width = lit≤ tt; most_width = li
 abbrev pub twelve_32 : Bits
 twelve_32 = record { raw = 12; width = 32; some_width = lit≤ tt; most_width = lit≤ tt; in_width = lit< tt }
 
+abbrev pub sixteen_32 : Bits
+sixteen_32 = record { raw = 16; width = 32; some_width = lit≤ tt; most_width = lit≤ tt; in_width = lit< tt }
+
 -- the first address of the memory
 abbrev pub base_32 : Bits
 base_32 = record { raw = 2147483648; width = 32; some_width = lit≤ tt; most_width = lit≤ tt; in_width = lit< tt }
@@ -247,9 +250,14 @@ by_hand h =
       loads = h.loads;
     }
 
+-- what drives its modules in the rows of a run that goes to the handler once: up to that row as the first says, and behind it as the second does
+abbrev pub diverted : Hand → Hand → List ℕ → Drives
+diverted before behind [] = by_hand before
+diverted before behind (place ∷ places) = by_hand behind
+
 -- the module of the behaviour with this number and this plan is driven so in the cycles of these rows, the oldest first
 abbrev pub AreInputs : Hand → ℕ → Plan → List Row → List (List ℕ) → Type 0
-AreInputs h n p rows cycles = inputs_over (by_hand h) n p rows ≡ cycles
+AreInputs h n p rows cycles = inputs_over (λ places. by_hand h) n p rows ≡ cycles
 
 -- it is not driven so
 abbrev pub AreNotInputs : Hand → ℕ → Plan → List Row → List (List ℕ) → Type 0

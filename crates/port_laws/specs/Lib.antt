@@ -7,3 +7,4 @@ pub mod Freezing
 pub mod Summing
 pub mod Forwarding
 pub mod Linking
+pub mod Diverting

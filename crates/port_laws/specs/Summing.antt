@@ -32,7 +32,7 @@ cycles_to last = cycle 0 0 0 0 0 ∷ cycle 1 0 0 0 0 ∷ cycle 1 0 0 0 0 ∷ cyc
 
 -- the rows drive these cycles
 abbrev pub AreCycles : List (List ℕ) → Type 0
-AreCycles cycles = IsDriven (by_hand adding) 0 addx adder adding_rows cycles
+AreCycles cycles = IsDriven (λ places. by_hand adding) 0 addx adder adding_rows cycles
 
 -- they do not
 abbrev pub AreNotCycles : List (List ℕ) → Type 0

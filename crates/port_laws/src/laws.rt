@@ -1,4 +1,5 @@
 ghost use Rattle.port_laws.specs.Adding as add;
+ghost use Rattle.port_laws.specs.Diverting as divert;
 ghost use Rattle.port_laws.specs.Forwarding as forward;
 ghost use Rattle.port_laws.specs.Freezing as freeze;
 ghost use Rattle.port_laws.specs.Leaping as leap;
@@ -82,6 +83,17 @@ pub fn linking_run()
     ensures inputs { link.AreLinking link.right }
     ensures of_file { link.AreNotLinking link.of_file }
     ensures flushed_moves { link.AreNotLinking link.flushed_moves }
+{}
+
+/// The same on a run of three stages that takes an interrupt: the cells at EX and below are flushed and do not move, and behind that row the inputs are those of
+/// the run that goes to the handler, in which an always-block writes, and not those of the run that goes on.
+pub fn diverting_run()
+    ensures watched { divert.AreWatching divert.watched }
+    ensures goes_on { divert.AreNotWatching divert.goes_on }
+    ensures entry_unseen { divert.AreNotWatching divert.entry_unseen }
+    ensures of_one_run { divert.IsOfOneRun divert.goes_on }
+    ensures idle { divert.AreIdle divert.at_rest }
+    ensures flushed_moves { divert.AreNotIdle divert.flushed_moves }
 {}
 
 /// A net that is driven by the rows of the first run: its cycles are such a run of it, its output has the sum in the row in which the instruction

@@ -5,6 +5,6 @@
 mod laws;
 
 pub use laws::{
-    adding_run, driven_net, forwarding_run, freezing_run, leaping_run, linking_run, loading_run,
-    waiting_run,
+    adding_run, diverting_run, driven_net, forwarding_run, freezing_run, leaping_run, linking_run,
+    loading_run, waiting_run,
 };

@@ -224,7 +224,7 @@ shows_out earlier row c e loads = let none = (plain c.word).1 in shows_last addi
 lawful_0 : LawfulRow adding [] row_0
 unfolding fetch_address next_serial
 lawful_0 = record {
-  form = record { behind = tt; ascending = tt };
+  form = record { behind = refl; listed = refl; ascending = tt };
   moves = (refl, (refl, (refl, tt)));
   retires = none_retires adding_hand row_0 refl (λ c s l. cc);
   holds = shows;
@@ -256,7 +256,7 @@ runs_0 stop due = done_runs two_rows five 0 (writes 0 5243027 1 5) refl answer_0
 lawful_1 : LawfulRow adding (row_0 ∷ []) row_1
 unfolding fetch_address next_serial place is_flushed
 lawful_1 = record {
-  form = record { behind = tt; ascending = tt };
+  form = record { behind = refl; listed = refl; ascending = tt };
   moves = (refl, (refl, (refl, tt)));
   retires = none_retires adding_hand row_1 refl (λ c s l. cc);
   holds = shows;
@@ -295,7 +295,7 @@ runs_1 stop due = done_runs three_rows seven 1 (writes 4 7340307 2 7) refl answe
 lawful_2 : LawfulRow adding two_rows row_2
 unfolding fetch_address next_serial place is_flushed
 lawful_2 = record {
-  form = record { behind = tt; ascending = tt };
+  form = record { behind = refl; listed = refl; ascending = tt };
   moves = (refl, (refl, (refl, tt)));
   retires = one_retires adding_hand row_2 five (writes 0 5243027 1 5) refl refl refl;
   holds = shows;
@@ -364,7 +364,7 @@ sum_first r (suc (suc j)) w = let lt = w.older.lower in absurd (omega (arith, lt
 lawful_3 : LawfulRow adding three_rows row_3
 unfolding fetch_address next_serial
 lawful_3 = record {
-  form = record { behind = tt; ascending = tt };
+  form = record { behind = refl; listed = refl; ascending = tt };
   moves = (refl, (refl, (refl, tt)));
   retires = one_retires adding_hand row_3 seven (writes 4 7340307 2 7) refl refl refl;
   holds = shows;
@@ -403,7 +403,7 @@ runs_2 stop due = done_runs five_rows (sum None) 2 (writes 8 2130355 3 12) refl 
 lawful_4 : LawfulRow adding four_rows row_4
 unfolding fetch_address next_serial place is_flushed
 lawful_4 = record {
-  form = record { behind = tt; ascending = tt };
+  form = record { behind = refl; listed = refl; ascending = tt };
   moves = (refl, (refl, (refl, tt)));
   retires = none_retires adding_hand row_4 refl (λ c s l. cc);
   holds = shows;
@@ -462,7 +462,7 @@ one_stop stop e = cc
 lawful_5 : LawfulRow adding five_rows row_5
 unfolding fetch_address next_serial
 lawful_5 = record {
-  form = record { behind = tt; ascending = tt };
+  form = record { behind = refl; listed = refl; ascending = tt };
   moves = (refl, (refl, (refl, tt)));
   retires = one_retires adding_hand row_5 (sum None) (writes 8 2130355 3 12) refl refl refl;
   holds = shows;

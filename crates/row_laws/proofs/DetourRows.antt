@@ -40,7 +40,7 @@ leaping_runs rows stop e = cc
 lawful_0 : LawfulRow detour [] row_0
 unfolding fetch_address next_serial
 lawful_0 = record {
-  form = record { behind = tt; ascending = tt };
+  form = record { behind = refl; listed = refl; ascending = tt };
   moves = (refl, (refl, (refl, tt)));
   retires = none_retires detour_hand row_0 refl (λ c s l. cc);
   holds = shows;
@@ -84,7 +84,7 @@ one s h = grind (arith, nat_tests)
 lawful_1 : LawfulRow detour (row_0 ∷ []) row_1
 unfolding fetch_address next_serial
 lawful_1 = record {
-  form = record { behind = tt; ascending = tt };
+  form = record { behind = refl; listed = refl; ascending = tt };
   moves = (refl, (refl, (refl, tt)));
   retires = none_retires detour_hand row_1 refl (λ c s l. cc);
   holds = shows;
@@ -132,7 +132,7 @@ lawful_1 = record {
 lawful_2 : LawfulRow detour two_rows row_2
 unfolding fetch_address next_serial tailed
 lawful_2 = record {
-  form = record { behind = tt; ascending = tt };
+  form = record { behind = refl; listed = refl; ascending = tt };
   moves = (refl, (refl, (refl, tt)));
   retires = one_retires detour_hand row_2 leaping (going 0 19 8) refl refl refl;
   holds = shows;
@@ -184,7 +184,7 @@ one_stop stop e = cc
 lawful_3 : LawfulRow detour three_rows row_3
 unfolding fetch_address next_serial
 lawful_3 = record {
-  form = record { behind = tt; ascending = tt };
+  form = record { behind = refl; listed = refl; ascending = tt };
   moves = (refl, (refl, (refl, tt)));
   retires = none_retires detour_hand row_3 refl (λ c s l. cc);
   holds = shows;

@@ -53,31 +53,31 @@ short_judged_0 : Judged short adding_image (short_0 ∷ [])
 unfolding fetch_address next_serial is_flushed is_retired place units_after step run_with decoded_in attempted effect_of over blocks_effect commit_of first applied decoded base_row base_patterns fields_of format_of base_formats
 short_judged_0 =
     next_row short adding_image (calm three_forwarding) [] short_0 (no_rows short adding_image) refl
-    (record { form = record { behind = tt; ascending = tt }; moves = (refl, (refl, (refl, tt))); units = refl; taken = refl; tests = refl; redirect = refl; stop = refl })
+    (record { form = record { behind = refl; listed = refl; ascending = tt }; moves = (refl, (refl, (refl, tt))); units = refl; taken = refl; tests = refl; redirect = refl; stop = refl })
 
 short_judged_1 : Judged short adding_image (short_1 ∷ short_0 ∷ [])
 unfolding fetch_address next_serial is_flushed is_retired place units_after step run_with decoded_in attempted effect_of over blocks_effect commit_of first applied decoded base_row base_patterns fields_of format_of base_formats
 short_judged_1 =
     next_row short adding_image (calm three_forwarding) (short_0 ∷ []) short_1 short_judged_0 refl
-    (record { form = record { behind = tt; ascending = tt }; moves = (refl, (refl, (refl, tt))); units = refl; taken = refl; tests = refl; redirect = refl; stop = refl })
+    (record { form = record { behind = refl; listed = refl; ascending = tt }; moves = (refl, (refl, (refl, tt))); units = refl; taken = refl; tests = refl; redirect = refl; stop = refl })
 
 short_judged_2 : Judged short adding_image (short_2 ∷ short_two)
 unfolding fetch_address next_serial is_flushed is_retired place units_after step run_with decoded_in attempted effect_of over blocks_effect commit_of first applied decoded base_row base_patterns fields_of format_of base_formats
 short_judged_2 =
     next_row short adding_image (calm three_forwarding) short_two short_2 short_judged_1 refl
-    (record { form = record { behind = tt; ascending = tt }; moves = (refl, (refl, (refl, tt))); units = refl; taken = refl; tests = refl; redirect = refl; stop = refl })
+    (record { form = record { behind = refl; listed = refl; ascending = tt }; moves = (refl, (refl, (refl, tt))); units = refl; taken = refl; tests = refl; redirect = refl; stop = refl })
 
 short_judged_3 : Judged short adding_image (short_3 ∷ short_three)
 unfolding fetch_address next_serial is_flushed is_retired place units_after step run_with decoded_in attempted effect_of over blocks_effect commit_of first applied decoded base_row base_patterns fields_of format_of base_formats
 short_judged_3 =
     next_row short adding_image (calm three_forwarding) short_three short_3 short_judged_2 refl
-    (record { form = record { behind = tt; ascending = tt }; moves = (refl, (refl, (refl, tt))); units = refl; taken = refl; tests = refl; redirect = refl; stop = refl })
+    (record { form = record { behind = refl; listed = refl; ascending = tt }; moves = (refl, (refl, (refl, tt))); units = refl; taken = refl; tests = refl; redirect = refl; stop = refl })
 
 short_judged_4 : Judged short adding_image (short_4 ∷ short_four)
 unfolding fetch_address next_serial is_flushed is_retired place units_after step run_with decoded_in attempted effect_of over blocks_effect commit_of first applied decoded base_row base_patterns fields_of format_of base_formats
 short_judged_4 =
     next_row short adding_image (calm three_forwarding) short_four short_4 short_judged_3 refl
-    (record { form = record { behind = tt; ascending = tt }; moves = (refl, (refl, (refl, tt))); units = refl; taken = refl; tests = refl; redirect = refl; stop = refl })
+    (record { form = record { behind = refl; listed = refl; ascending = tt }; moves = (refl, (refl, (refl, tt))); units = refl; taken = refl; tests = refl; redirect = refl; stop = refl })
 
 pub short_lawful : Lawful (λ places. short) short_rows
 short_lawful = short_judged_4.lawful
@@ -99,49 +99,49 @@ long_judged_0 : Judged long adding_image (long_0 ∷ [])
 unfolding fetch_address next_serial is_flushed is_retired place units_after step run_with decoded_in attempted effect_of over blocks_effect commit_of first applied decoded base_row base_patterns fields_of format_of base_formats
 long_judged_0 =
     next_row long adding_image (calm five_forwarding) [] long_0 (no_rows long adding_image) refl
-    (record { form = record { behind = tt; ascending = tt }; moves = (refl, (refl, (refl, (refl, (refl, tt))))); units = refl; taken = refl; tests = refl; redirect = refl; stop = refl })
+    (record { form = record { behind = refl; listed = refl; ascending = tt }; moves = (refl, (refl, (refl, (refl, (refl, tt))))); units = refl; taken = refl; tests = refl; redirect = refl; stop = refl })
 
 long_judged_1 : Judged long adding_image (long_1 ∷ long_0 ∷ [])
 unfolding fetch_address next_serial is_flushed is_retired place units_after step run_with decoded_in attempted effect_of over blocks_effect commit_of first applied decoded base_row base_patterns fields_of format_of base_formats
 long_judged_1 =
     next_row long adding_image (calm five_forwarding) (long_0 ∷ []) long_1 long_judged_0 refl
-    (record { form = record { behind = tt; ascending = tt }; moves = (refl, (refl, (refl, (refl, (refl, tt))))); units = refl; taken = refl; tests = refl; redirect = refl; stop = refl })
+    (record { form = record { behind = refl; listed = refl; ascending = tt }; moves = (refl, (refl, (refl, (refl, (refl, tt))))); units = refl; taken = refl; tests = refl; redirect = refl; stop = refl })
 
 long_judged_2 : Judged long adding_image (long_2 ∷ long_1 ∷ long_0 ∷ [])
 unfolding fetch_address next_serial is_flushed is_retired place units_after step run_with decoded_in attempted effect_of over blocks_effect commit_of first applied decoded base_row base_patterns fields_of format_of base_formats
 long_judged_2 =
     next_row long adding_image (calm five_forwarding) (long_1 ∷ long_0 ∷ []) long_2 long_judged_1 refl
-    (record { form = record { behind = tt; ascending = tt }; moves = (refl, (refl, (refl, (refl, (refl, tt))))); units = refl; taken = refl; tests = refl; redirect = refl; stop = refl })
+    (record { form = record { behind = refl; listed = refl; ascending = tt }; moves = (refl, (refl, (refl, (refl, (refl, tt))))); units = refl; taken = refl; tests = refl; redirect = refl; stop = refl })
 
 long_judged_3 : Judged long adding_image (long_3 ∷ long_three)
 unfolding fetch_address next_serial is_flushed is_retired place units_after step run_with decoded_in attempted effect_of over blocks_effect commit_of first applied decoded base_row base_patterns fields_of format_of base_formats
 long_judged_3 =
     next_row long adding_image (calm five_forwarding) long_three long_3 long_judged_2 refl
-    (record { form = record { behind = tt; ascending = tt }; moves = (refl, (refl, (refl, (refl, (refl, tt))))); units = refl; taken = refl; tests = refl; redirect = refl; stop = refl })
+    (record { form = record { behind = refl; listed = refl; ascending = tt }; moves = (refl, (refl, (refl, (refl, (refl, tt))))); units = refl; taken = refl; tests = refl; redirect = refl; stop = refl })
 
 long_judged_4 : Judged long adding_image (long_4 ∷ long_four)
 unfolding fetch_address next_serial is_flushed is_retired place units_after step run_with decoded_in attempted effect_of over blocks_effect commit_of first applied decoded base_row base_patterns fields_of format_of base_formats
 long_judged_4 =
     next_row long adding_image (calm five_forwarding) long_four long_4 long_judged_3 refl
-    (record { form = record { behind = tt; ascending = tt }; moves = (refl, (refl, (refl, (refl, (refl, tt))))); units = refl; taken = refl; tests = refl; redirect = refl; stop = refl })
+    (record { form = record { behind = refl; listed = refl; ascending = tt }; moves = (refl, (refl, (refl, (refl, (refl, tt))))); units = refl; taken = refl; tests = refl; redirect = refl; stop = refl })
 
 long_judged_5 : Judged long adding_image (long_5 ∷ long_4 ∷ long_four)
 unfolding fetch_address next_serial is_flushed is_retired place units_after step run_with decoded_in attempted effect_of over blocks_effect commit_of first applied decoded base_row base_patterns fields_of format_of base_formats
 long_judged_5 =
     next_row long adding_image (calm five_forwarding) (long_4 ∷ long_four) long_5 long_judged_4 refl
-    (record { form = record { behind = tt; ascending = tt }; moves = (refl, (refl, (refl, (refl, (refl, tt))))); units = refl; taken = refl; tests = refl; redirect = refl; stop = refl })
+    (record { form = record { behind = refl; listed = refl; ascending = tt }; moves = (refl, (refl, (refl, (refl, (refl, tt))))); units = refl; taken = refl; tests = refl; redirect = refl; stop = refl })
 
 long_judged_6 : Judged long adding_image (long_6 ∷ long_5 ∷ long_4 ∷ long_four)
 unfolding fetch_address next_serial is_flushed is_retired place units_after step run_with decoded_in attempted effect_of over blocks_effect commit_of first applied decoded base_row base_patterns fields_of format_of base_formats
 long_judged_6 =
     next_row long adding_image (calm five_forwarding) (long_5 ∷ long_4 ∷ long_four) long_6 long_judged_5 refl
-    (record { form = record { behind = tt; ascending = tt }; moves = (refl, (refl, (refl, (refl, (refl, tt))))); units = refl; taken = refl; tests = refl; redirect = refl; stop = refl })
+    (record { form = record { behind = refl; listed = refl; ascending = tt }; moves = (refl, (refl, (refl, (refl, (refl, tt))))); units = refl; taken = refl; tests = refl; redirect = refl; stop = refl })
 
 long_judged_7 : Judged long adding_image (long_7 ∷ long_6 ∷ long_5 ∷ long_4 ∷ long_four)
 unfolding fetch_address next_serial is_flushed is_retired place units_after step run_with decoded_in attempted effect_of over blocks_effect commit_of first applied decoded base_row base_patterns fields_of format_of base_formats
 long_judged_7 =
     next_row long adding_image (calm five_forwarding) (long_6 ∷ long_5 ∷ long_4 ∷ long_four) long_7 long_judged_6 refl
-    (record { form = record { behind = tt; ascending = tt }; moves = (refl, (refl, (refl, (refl, (refl, tt))))); units = refl; taken = refl; tests = refl; redirect = refl; stop = refl })
+    (record { form = record { behind = refl; listed = refl; ascending = tt }; moves = (refl, (refl, (refl, (refl, (refl, tt))))); units = refl; taken = refl; tests = refl; redirect = refl; stop = refl })
 
 pub long_lawful : Lawful (λ places. long) long_rows
 long_lawful = long_judged_7.lawful

@@ -31,19 +31,19 @@ over_judged_0 : Judged jumping over_words (over_0 ∷ [])
 unfolding fetch_address next_serial is_flushed is_retired place retirements units_after future_file
 over_judged_0 =
     next_row jumping over_words (over_calm three_predicting) [] over_0 (no_rows jumping over_words) refl
-    (record { form = record { behind = tt; ascending = tt }; moves = (refl, (refl, (refl, tt))); units = refl; taken = refl; tests = refl; redirect = refl; stop = refl })
+    (record { form = record { behind = refl; listed = refl; ascending = tt }; moves = (refl, (refl, (refl, tt))); units = refl; taken = refl; tests = refl; redirect = refl; stop = refl })
 
 over_judged_1 : Judged jumping over_words (over_1 ∷ over_0 ∷ [])
 unfolding fetch_address next_serial is_flushed is_retired place retirements units_after future_file
 over_judged_1 =
     next_row jumping over_words (over_calm three_predicting) (over_0 ∷ []) over_1 over_judged_0 refl
-    (record { form = record { behind = tt; ascending = tt }; moves = (refl, (refl, (refl, tt))); units = refl; taken = refl; tests = refl; redirect = refl; stop = refl })
+    (record { form = record { behind = refl; listed = refl; ascending = tt }; moves = (refl, (refl, (refl, tt))); units = refl; taken = refl; tests = refl; redirect = refl; stop = refl })
 
 over_judged_2 : Judged jumping over_words (over_2 ∷ over_1 ∷ over_0 ∷ [])
 unfolding fetch_address next_serial is_flushed is_retired place retirements units_after future_file
 over_judged_2 =
     next_row jumping over_words (over_calm three_predicting) (over_1 ∷ over_0 ∷ []) over_2 over_judged_1 refl
-    (record { form = record { behind = tt; ascending = tt }; moves = (refl, (refl, (refl, tt))); units = refl; taken = refl; tests = refl; redirect = refl; stop = refl })
+    (record { form = record { behind = refl; listed = refl; ascending = tt }; moves = (refl, (refl, (refl, tt))); units = refl; taken = refl; tests = refl; redirect = refl; stop = refl })
 
 pub over_lawful : Lawful (λ places. jumping) over_rows
 over_lawful = over_judged_2.lawful
@@ -61,13 +61,13 @@ plain_judged_0 : Judged (by_hand over_hand) plain_words (over_0 ∷ [])
 unfolding fetch_address next_serial is_flushed is_retired place retirements units_after future_file
 plain_judged_0 =
     next_row (by_hand over_hand) plain_words (over_calm three) [] over_0 (no_rows (by_hand over_hand) plain_words) refl
-    (record { form = record { behind = tt; ascending = tt }; moves = (refl, (refl, (refl, tt))); units = refl; taken = refl; tests = refl; redirect = refl; stop = refl })
+    (record { form = record { behind = refl; listed = refl; ascending = tt }; moves = (refl, (refl, (refl, tt))); units = refl; taken = refl; tests = refl; redirect = refl; stop = refl })
 
 plain_judged_1 : Judged (by_hand over_hand) plain_words ((newest next_word_fetched) ∷ over_0 ∷ [])
 unfolding fetch_address next_serial is_flushed is_retired place retirements units_after future_file
 plain_judged_1 =
     next_row (by_hand over_hand) plain_words (over_calm three) (over_0 ∷ []) (newest next_word_fetched) plain_judged_0 refl
-    (record { form = record { behind = tt; ascending = tt }; moves = (refl, (refl, (refl, tt))); units = refl; taken = refl; tests = refl; redirect = refl; stop = refl })
+    (record { form = record { behind = refl; listed = refl; ascending = tt }; moves = (refl, (refl, (refl, tt))); units = refl; taken = refl; tests = refl; redirect = refl; stop = refl })
 
 pub next_word_lawful : IsLawfulPlain next_word_fetched
 next_word_lawful = plain_judged_1.lawful
@@ -88,31 +88,31 @@ back_judged_0 : Judged looping back_words (back_0 ∷ [])
 unfolding fetch_address next_serial is_flushed is_retired place retirements units_after future_file
 back_judged_0 =
     next_row looping back_words back_calm [] back_0 (no_rows looping back_words) refl
-    (record { form = record { behind = tt; ascending = tt }; moves = (refl, (refl, (refl, tt))); units = refl; taken = refl; tests = refl; redirect = refl; stop = refl })
+    (record { form = record { behind = refl; listed = refl; ascending = tt }; moves = (refl, (refl, (refl, tt))); units = refl; taken = refl; tests = refl; redirect = refl; stop = refl })
 
 back_judged_1 : Judged looping back_words (back_1 ∷ back_0 ∷ [])
 unfolding fetch_address next_serial is_flushed is_retired place retirements units_after future_file
 back_judged_1 =
     next_row looping back_words back_calm (back_0 ∷ []) back_1 back_judged_0 refl
-    (record { form = record { behind = tt; ascending = tt }; moves = (refl, (refl, (refl, tt))); units = refl; taken = refl; tests = refl; redirect = refl; stop = refl })
+    (record { form = record { behind = refl; listed = refl; ascending = tt }; moves = (refl, (refl, (refl, tt))); units = refl; taken = refl; tests = refl; redirect = refl; stop = refl })
 
 back_judged_2 : Judged looping back_words (back_2 ∷ back_two)
 unfolding fetch_address next_serial is_flushed is_retired place retirements units_after future_file
 back_judged_2 =
     next_row looping back_words back_calm back_two back_2 back_judged_1 refl
-    (record { form = record { behind = tt; ascending = tt }; moves = (refl, (refl, (refl, tt))); units = refl; taken = refl; tests = refl; redirect = refl; stop = refl })
+    (record { form = record { behind = refl; listed = refl; ascending = tt }; moves = (refl, (refl, (refl, tt))); units = refl; taken = refl; tests = refl; redirect = refl; stop = refl })
 
 back_judged_3 : Judged looping back_words (back_3 ∷ back_2 ∷ back_two)
 unfolding fetch_address next_serial is_flushed is_retired place retirements units_after future_file
 back_judged_3 =
     next_row looping back_words back_calm (back_2 ∷ back_two) back_3 back_judged_2 refl
-    (record { form = record { behind = tt; ascending = tt }; moves = (refl, (refl, (refl, tt))); units = refl; taken = refl; tests = refl; redirect = refl; stop = refl })
+    (record { form = record { behind = refl; listed = refl; ascending = tt }; moves = (refl, (refl, (refl, tt))); units = refl; taken = refl; tests = refl; redirect = refl; stop = refl })
 
 back_judged_4 : Judged looping back_words (back_4 ∷ back_3 ∷ back_2 ∷ back_two)
 unfolding fetch_address next_serial is_flushed is_retired place retirements units_after future_file
 back_judged_4 =
     next_row looping back_words back_calm (back_3 ∷ back_2 ∷ back_two) back_4 back_judged_3 refl
-    (record { form = record { behind = tt; ascending = tt }; moves = (refl, (refl, (refl, tt))); units = refl; taken = refl; tests = refl; redirect = refl; stop = refl })
+    (record { form = record { behind = refl; listed = refl; ascending = tt }; moves = (refl, (refl, (refl, tt))); units = refl; taken = refl; tests = refl; redirect = refl; stop = refl })
 
 pub back_lawful : Lawful (λ places. looping) back_rows
 back_lawful = back_judged_4.lawful

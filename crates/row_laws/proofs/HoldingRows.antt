@@ -77,7 +77,7 @@ writer_runs rows stop e = cc
 lawful_0 : LawfulRow holding [] row_0
 unfolding fetch_address next_serial
 lawful_0 = record {
-  form = record { behind = tt; ascending = tt };
+  form = record { behind = refl; listed = refl; ascending = tt };
   moves = (refl, (refl, (refl, tt)));
   retires = none_retires holding_hand row_0 refl (λ c s l. cc);
   holds = shows;
@@ -105,7 +105,7 @@ lawful_0 = record {
 lawful_1 : LawfulRow holding (row_0 ∷ []) row_1
 unfolding fetch_address next_serial place is_flushed
 lawful_1 = record {
-  form = record { behind = tt; ascending = tt };
+  form = record { behind = refl; listed = refl; ascending = tt };
   moves = (refl, (refl, (refl, tt)));
   retires = none_retires holding_hand row_1 refl (λ c s l. cc);
   holds = shows;
@@ -166,7 +166,7 @@ held_stops earlier row x g here own c stop stands s = same_cell (λ d. StopsRun 
 held_lawful : (earlier : List Row) (left : ℕ) → Moves holding earlier (held_row (Tail left)) → is_flushed earlier 0 ≡ false → is_retired earlier 0 ≡ false → left + tailed holding earlier 0 ≡ 2 → 0 < left → LawfulRow holding earlier (held_row (Tail left))
 unfolding is_flushed
 held_lawful earlier left moves unflushed unretired still some = record {
-  form = record { behind = tt; ascending = tt };
+  form = record { behind = refl; listed = refl; ascending = tt };
   moves = moves;
   retires = none_retires holding_hand row refl (λ c s l. same_cell (λ d. leaves row (Some d) ≡ name_of (Some d) → ⊥) (writer (Some (Tail left))) c s (λ q. cc) l);
   holds = shows;
@@ -203,7 +203,7 @@ four_rows = row_3 ∷ row_2 ∷ two_rows
 lawful_4 : LawfulRow holding four_rows row_4
 unfolding fetch_address next_serial is_flushed is_retired tailed
 lawful_4 = record {
-  form = record { behind = tt; ascending = tt };
+  form = record { behind = refl; listed = refl; ascending = tt };
   moves = (refl, (refl, (refl, tt)));
   retires = one_retires holding_hand row_4 (writer None) writing refl refl refl;
   holds = shows;
@@ -235,7 +235,7 @@ reader_runs stop e = cc
 lawful_5 : LawfulRow holding five_rows row_5
 unfolding fetch_address next_serial place is_flushed
 lawful_5 = record {
-  form = record { behind = tt; ascending = tt };
+  form = record { behind = refl; listed = refl; ascending = tt };
   moves = (refl, (refl, (refl, tt)));
   retires = none_retires holding_hand row_5 refl (λ c s l. cc);
   holds = shows;
@@ -292,7 +292,7 @@ sum_first r (suc j) w = inr (refl, inr (sym (sum_reads r w.reads), omega arith))
 lawful_6 : LawfulRow holding six_rows row_6
 unfolding fetch_address next_serial
 lawful_6 = record {
-  form = record { behind = tt; ascending = tt };
+  form = record { behind = refl; listed = refl; ascending = tt };
   moves = (refl, (refl, (refl, tt)));
   retires = one_retires holding_hand row_6 (reader None) reading refl refl refl;
   holds = shows;
@@ -327,7 +327,7 @@ sum_runs stop e = cc
 lawful_7 : LawfulRow holding seven_rows row_7
 unfolding fetch_address next_serial place is_flushed
 lawful_7 = record {
-  form = record { behind = tt; ascending = tt };
+  form = record { behind = refl; listed = refl; ascending = tt };
   moves = (refl, (refl, (refl, tt)));
   retires = none_retires holding_hand row_7 refl (λ c s l. cc);
   holds = shows;
@@ -394,7 +394,7 @@ one_stop stop e = cc
 lawful_8 : LawfulRow holding eight_rows row_8
 unfolding fetch_address next_serial
 lawful_8 = record {
-  form = record { behind = tt; ascending = tt };
+  form = record { behind = refl; listed = refl; ascending = tt };
   moves = (refl, (refl, (refl, tt)));
   retires = one_retires holding_hand row_8 (sum None) (going 8 65579 12) refl refl refl;
   holds = shows;

@@ -38,67 +38,67 @@ twice_0 : JudgedBy (interrupting_in twice) words (row_0 ∷ [])
 unfolding places pending fetch_address next_serial is_flushed is_retired is_written place retirements units_after accesses_before stood step run_with decoded_in attempted of_return effect_of over blocks_effect commit_of first applied diverted decoded base_row base_patterns fields_of format_of base_formats
 twice_0 =
     row_by (interrupting_in twice) words [] row_0 (calm twice []) refl (no_rows_by (interrupting_in twice) words) refl
-    (record { form = record { behind = tt; ascending = tt }; moves = (refl, (refl, (refl, tt))); units = refl; taken = refl; tests = refl; redirect = refl; stop = refl })
+    (record { form = record { behind = refl; listed = refl; ascending = tt }; moves = (refl, (refl, (refl, tt))); units = refl; taken = refl; tests = refl; redirect = refl; stop = refl })
 
 twice_1 : JudgedBy (interrupting_in twice) words (row_1 ∷ row_0 ∷ [])
 unfolding places pending fetch_address next_serial is_flushed is_retired is_written place retirements units_after accesses_before stood step run_with decoded_in attempted of_return effect_of over blocks_effect commit_of first applied diverted decoded base_row base_patterns fields_of format_of base_formats
 twice_1 =
     row_by (interrupting_in twice) words (row_0 ∷ []) row_1 (calm twice []) refl twice_0 refl
-    (record { form = record { behind = tt; ascending = tt }; moves = (refl, (refl, (refl, tt))); units = refl; taken = refl; tests = refl; redirect = refl; stop = refl })
+    (record { form = record { behind = refl; listed = refl; ascending = tt }; moves = (refl, (refl, (refl, tt))); units = refl; taken = refl; tests = refl; redirect = refl; stop = refl })
 
 twice_2 : JudgedBy (interrupting_in twice) words (row_2 ∷ row_1 ∷ row_0 ∷ [])
 unfolding places pending fetch_address next_serial is_flushed is_retired is_written place retirements units_after accesses_before stood step run_with decoded_in attempted of_return effect_of over blocks_effect commit_of first applied diverted decoded base_row base_patterns fields_of format_of base_formats
 twice_2 =
     row_by (interrupting_in twice) words (row_1 ∷ row_0 ∷ []) row_2 (calm twice []) refl twice_1 refl
-    (record { form = record { behind = tt; ascending = tt }; moves = (refl, (refl, (refl, tt))); units = refl; taken = refl; tests = refl; redirect = refl; stop = refl })
+    (record { form = record { behind = refl; listed = refl; ascending = tt }; moves = (refl, (refl, (refl, tt))); units = refl; taken = refl; tests = refl; redirect = refl; stop = refl })
 
 twice_3 : JudgedBy (interrupting_in twice) words (row_3 ∷ row_2 ∷ row_1 ∷ row_0 ∷ [])
 unfolding places pending fetch_address next_serial is_flushed is_retired is_written place retirements units_after accesses_before stood step run_with decoded_in attempted of_return effect_of over blocks_effect commit_of first applied diverted decoded base_row base_patterns fields_of format_of base_formats
 twice_3 =
     row_by (interrupting_in twice) words (row_2 ∷ row_1 ∷ row_0 ∷ []) row_3 (calm twice []) refl twice_2 refl
-    (record { form = record { behind = tt; ascending = tt }; moves = (refl, (refl, (refl, tt))); units = refl; taken = refl; tests = refl; redirect = refl; stop = refl })
+    (record { form = record { behind = refl; listed = refl; ascending = tt }; moves = (refl, (refl, (refl, tt))); units = refl; taken = refl; tests = refl; redirect = refl; stop = refl })
 
 twice_4 : JudgedBy (interrupting_in twice) words (row_4 ∷ four_rows)
 unfolding places pending fetch_address next_serial is_flushed is_retired is_written place retirements units_after accesses_before stood step run_with decoded_in attempted of_return effect_of over blocks_effect commit_of first applied diverted decoded base_row base_patterns fields_of format_of base_formats
 twice_4 =
     row_by (interrupting_in twice) words four_rows row_4 (calm twice []) refl twice_3 refl
-    (record { form = record { behind = tt; ascending = tt }; moves = (refl, (refl, (refl, tt))); units = refl; taken = refl; tests = refl; redirect = refl; stop = refl })
+    (record { form = record { behind = refl; listed = refl; ascending = tt }; moves = (refl, (refl, (refl, tt))); units = refl; taken = refl; tests = refl; redirect = refl; stop = refl })
 
 twice_5 : JudgedBy (interrupting_in twice) words (row_5 ∷ five_rows)
 unfolding places pending fetch_address next_serial is_flushed is_retired is_written place retirements units_after accesses_before stood step run_with decoded_in attempted of_return effect_of over blocks_effect commit_of first applied diverted decoded base_row base_patterns fields_of format_of base_formats
 twice_5 =
     entry_by (interrupting_in twice) words five_rows row_5 8 (calm twice []) refl twice_4 refl
-    (record { form = record { behind = tt; ascending = (omega arith, tt) }; moves = (refl, (refl, (refl, tt))); units = refl; interrupted = refl; taken = refl; value = refl; tests = refl; redirect = refl; stop = refl })
+    (record { form = record { behind = refl; listed = refl; ascending = (omega arith, tt) }; moves = (refl, (refl, (refl, tt))); units = refl; interrupted = refl; taken = refl; value = refl; tests = refl; redirect = refl; stop = refl })
 
 twice_6 : JudgedBy (interrupting_in twice) words (row_6 ∷ six_rows)
 unfolding places pending fetch_address next_serial is_flushed is_retired is_written place retirements units_after accesses_before stood step run_with decoded_in attempted of_return effect_of over blocks_effect commit_of first applied diverted decoded base_row base_patterns fields_of format_of base_formats
 twice_6 =
     row_by (interrupting_in twice) words six_rows row_6 (calm twice (2 ∷ [])) refl twice_5 refl
-    (record { form = record { behind = tt; ascending = tt }; moves = (refl, (refl, (refl, tt))); units = refl; taken = refl; tests = refl; redirect = refl; stop = refl })
+    (record { form = record { behind = refl; listed = refl; ascending = tt }; moves = (refl, (refl, (refl, tt))); units = refl; taken = refl; tests = refl; redirect = refl; stop = refl })
 
 twice_7 : JudgedBy (interrupting_in twice) words (row_7 ∷ row_6 ∷ six_rows)
 unfolding places pending fetch_address next_serial is_flushed is_retired is_written place retirements units_after accesses_before stood step run_with decoded_in attempted of_return effect_of over blocks_effect commit_of first applied diverted decoded base_row base_patterns fields_of format_of base_formats
 twice_7 =
     row_by (interrupting_in twice) words (row_6 ∷ six_rows) row_7 (calm twice (2 ∷ [])) refl twice_6 refl
-    (record { form = record { behind = tt; ascending = tt }; moves = (refl, (refl, (refl, tt))); units = refl; taken = refl; tests = refl; redirect = refl; stop = refl })
+    (record { form = record { behind = refl; listed = refl; ascending = tt }; moves = (refl, (refl, (refl, tt))); units = refl; taken = refl; tests = refl; redirect = refl; stop = refl })
 
 twice_8 : JudgedBy (interrupting_in twice) words (row_8 ∷ eight_rows)
 unfolding places pending fetch_address next_serial is_flushed is_retired is_written place retirements units_after accesses_before stood step run_with decoded_in attempted of_return effect_of over blocks_effect commit_of first applied diverted decoded base_row base_patterns fields_of format_of base_formats
 twice_8 =
     row_by (interrupting_in twice) words eight_rows row_8 (calm twice (2 ∷ [])) refl twice_7 refl
-    (record { form = record { behind = tt; ascending = tt }; moves = (refl, (refl, (refl, tt))); units = refl; taken = refl; tests = refl; redirect = refl; stop = refl })
+    (record { form = record { behind = refl; listed = refl; ascending = tt }; moves = (refl, (refl, (refl, tt))); units = refl; taken = refl; tests = refl; redirect = refl; stop = refl })
 
 twice_9 : JudgedBy (interrupting_in twice) words (row_9 ∷ row_8 ∷ eight_rows)
 unfolding places pending fetch_address next_serial is_flushed is_retired is_written place retirements units_after accesses_before stood step run_with decoded_in attempted of_return effect_of over blocks_effect commit_of first applied diverted decoded base_row base_patterns fields_of format_of base_formats
 twice_9 =
     row_by (interrupting_in twice) words (row_8 ∷ eight_rows) row_9 (calm twice (2 ∷ [])) refl twice_8 refl
-    (record { form = record { behind = tt; ascending = tt }; moves = (refl, (refl, (refl, tt))); units = refl; taken = refl; tests = refl; redirect = refl; stop = refl })
+    (record { form = record { behind = refl; listed = refl; ascending = tt }; moves = (refl, (refl, (refl, tt))); units = refl; taken = refl; tests = refl; redirect = refl; stop = refl })
 
 twice_10 : JudgedBy (interrupting_in twice) words (again ∷ ten_rows)
 unfolding places pending fetch_address next_serial is_flushed is_retired is_written place retirements units_after accesses_before stood step run_with decoded_in attempted of_return effect_of over blocks_effect commit_of first applied diverted decoded base_row base_patterns fields_of format_of base_formats
 twice_10 =
     entry_by (interrupting_in twice) words ten_rows again 8 (calm twice (2 ∷ [])) refl twice_9 refl
-    (record { form = record { behind = tt; ascending = (omega arith, tt) }; moves = (refl, (refl, (refl, tt))); units = refl; interrupted = refl; taken = refl; value = refl; tests = refl; redirect = refl; stop = refl })
+    (record { form = record { behind = refl; listed = refl; ascending = (omega arith, tt) }; moves = (refl, (refl, (refl, tt))); units = refl; interrupted = refl; taken = refl; value = refl; tests = refl; redirect = refl; stop = refl })
 
 pub again_lawful : Lawful (interrupting_in twice) again_rows
 again_lawful = twice_10.lawful

@@ -343,7 +343,7 @@ one_row h simple earlier a b c ret wr stop judged going right stops = record { l
 
   lawful : LawfulRow (by_hand h) earlier row
   lawful = record {
-    form = record { behind = tt; ascending = tt };
+    form = record { behind = refl; listed = refl; ascending = tt };
     moves = right.moves;
     retires = retires_right h a b c ret wr stop others.1;
     holds = shows;

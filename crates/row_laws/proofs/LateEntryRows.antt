@@ -37,25 +37,25 @@ judged_0 : JudgedBy late_entry words (row_0 ∷ [])
 unfolding places pending fetch_address next_serial is_flushed is_retired place retirements units_after
 judged_0 =
     row_by late_entry words [] row_0 (calm []) refl (no_rows_by late_entry words) refl
-    (record { form = record { behind = tt; ascending = tt }; moves = (refl, (refl, (refl, tt))); units = refl; taken = refl; tests = refl; redirect = refl; stop = refl })
+    (record { form = record { behind = refl; listed = refl; ascending = tt }; moves = (refl, (refl, (refl, tt))); units = refl; taken = refl; tests = refl; redirect = refl; stop = refl })
 
 judged_1 : JudgedBy late_entry words two_rows
 unfolding places pending fetch_address next_serial is_flushed is_retired place retirements units_after
 judged_1 =
     row_by late_entry words (row_0 ∷ []) row_1 (calm []) refl judged_0 refl
-    (record { form = record { behind = tt; ascending = tt }; moves = (refl, (refl, (refl, tt))); units = refl; taken = refl; tests = refl; redirect = refl; stop = refl })
+    (record { form = record { behind = refl; listed = refl; ascending = tt }; moves = (refl, (refl, (refl, tt))); units = refl; taken = refl; tests = refl; redirect = refl; stop = refl })
 
 judged_2 : JudgedBy late_entry words (row_2 ∷ two_rows)
 unfolding places pending fetch_address next_serial is_flushed is_retired place retirements units_after
 judged_2 =
     entry_by late_entry words two_rows row_2 12 (calm []) refl judged_1 refl
-    (record { form = record { behind = tt; ascending = (omega arith, tt) }; moves = (refl, (refl, (refl, tt))); units = refl; interrupted = refl; taken = refl; value = refl; tests = refl; redirect = refl; stop = refl })
+    (record { form = record { behind = refl; listed = refl; ascending = (omega arith, tt) }; moves = (refl, (refl, (refl, tt))); units = refl; interrupted = refl; taken = refl; value = refl; tests = refl; redirect = refl; stop = refl })
 
 judged_3 : JudgedBy late_entry words late_rows
 unfolding places pending fetch_address next_serial is_flushed is_retired place retirements units_after
 judged_3 =
     row_by late_entry words (row_2 ∷ two_rows) row_3 (calm (1 ∷ [])) refl judged_2 refl
-    (record { form = record { behind = tt; ascending = tt }; moves = (refl, (refl, (refl, tt))); units = refl; taken = refl; tests = refl; redirect = refl; stop = refl })
+    (record { form = record { behind = refl; listed = refl; ascending = tt }; moves = (refl, (refl, (refl, tt))); units = refl; taken = refl; tests = refl; redirect = refl; stop = refl })
 
 pub late_lawful : Lawful late_entry late_rows
 late_lawful = judged_3.lawful

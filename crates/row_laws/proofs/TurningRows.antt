@@ -58,7 +58,7 @@ jump_runs rows hold stop e = cc
 lawful_0 : LawfulRow turning [] row_0
 unfolding fetch_address next_serial
 lawful_0 = record {
-  form = record { behind = tt; ascending = tt };
+  form = record { behind = refl; listed = refl; ascending = tt };
   moves = (refl, (refl, (refl, tt)));
   retires = none_retires turning_hand row_0 refl (λ c s l. cc);
   holds = shows;
@@ -92,7 +92,7 @@ lawful_0 = record {
 lawful_1 : LawfulRow turning (row_0 ∷ []) row_1
 unfolding fetch_address next_serial
 lawful_1 = record {
-  form = record { behind = tt; ascending = tt };
+  form = record { behind = refl; listed = refl; ascending = tt };
   moves = (refl, (refl, (refl, tt)));
   retires = none_retires turning_hand row_1 refl (λ c s l. cc);
   holds = shows;
@@ -138,7 +138,7 @@ waits_2 hold row s f = waits two_rows row hold (Some (Tail 1)) s (ap (λ b. b ||
 lawful_2 : LawfulRow turning two_rows row_2
 unfolding fetch_address next_serial tailed
 lawful_2 = record {
-  form = record { behind = tt; ascending = tt };
+  form = record { behind = refl; listed = refl; ascending = tt };
   moves = (refl, (refl, (refl, tt)));
   retires = none_retires turning_hand row_2 refl (λ c s l. same_cell (λ d. leaves row_2 (Some d) ≡ name_of (Some d) → ⊥) (jump (Some (Tail 1))) c s (λ q. cc) l);
   holds = shows;
@@ -198,7 +198,7 @@ one_or_two (suc (suc (suc n))) h = grind (arith, nat_tests)
 lawful_3 : LawfulRow turning three_rows row_3
 unfolding fetch_address next_serial tailed
 lawful_3 = record {
-  form = record { behind = tt; ascending = (omega arith, tt) };
+  form = record { behind = refl; listed = refl; ascending = (omega arith, tt) };
   moves = (refl, (refl, (refl, tt)));
   retires = one_retires turning_hand row_3 (jump None) (going 0 91 12) refl refl refl;
   holds = shows;
@@ -264,7 +264,7 @@ four_rows = row_3 ∷ three_rows
 lawful_4 : LawfulRow turning four_rows row_4
 unfolding fetch_address next_serial
 lawful_4 = record {
-  form = record { behind = tt; ascending = tt };
+  form = record { behind = refl; listed = refl; ascending = tt };
   moves = (refl, (refl, (refl, tt)));
   retires = none_retires turning_hand row_4 refl (λ c s l. cc);
   holds = shows;
@@ -333,7 +333,7 @@ one_stop stop e = cc
 lawful_5 : LawfulRow turning five_rows row_5
 unfolding fetch_address next_serial
 lawful_5 = record {
-  form = record { behind = tt; ascending = tt };
+  form = record { behind = refl; listed = refl; ascending = tt };
   moves = (refl, (refl, (refl, tt)));
   retires = none_retires turning_hand row_5 refl (λ c s l. cc);
   holds = shows;

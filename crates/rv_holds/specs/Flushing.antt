@@ -3,6 +3,7 @@ use Rattle.std.specs.Prelude.{ℕ, suc, ◌+◌, ◌-◌, ◌%◌, ◌^◌, List
 use Rattle.rv_core.specs.declared.Shape.{Shape}
 use Rattle.rv_seq.specs.declared.commit.Commit.{Commit}
 use Rattle.rv_seq.specs.declared.commit.Stop.{Stop}
+use Rattle.rv_trace.specs.RowParts.{in_five}
 use Rattle.rv_holds.specs.declared.token.Token.{Token}
 use Rattle.rv_holds.specs.declared.flushing.Turn.{Turn}
 use Rattle.rv_holds.specs.Tokens.{Slots, stop_of, commit_of}
@@ -82,18 +83,15 @@ unheld n slots = map freed (take n slots) ++ drop n slots
 abbrev pub cleared : ℕ → Slots → Slots
 cleared n slots = replicate n None ++ drop n slots
 
-abbrev pub serial_in : Option Token → Option ℕ
-serial_in None = None
-serial_in (Some t) = Some t.cell.serial
-
--- the serials of these, the oldest first, before what is listed already
-abbrev pub listed : Slots → List (Option ℕ) → List (Option ℕ)
-listed [] rest = rest
-listed (s ∷ older) rest = listed older (serial_in s ∷ rest)
+-- the serials of these, the oldest first
+abbrev pub listed : Slots → List ℕ
+listed [] = []
+listed (None ∷ older) = listed older
+listed (Some t ∷ older) = listed older ++ t.cell.serial ∷ []
 
 -- the serials of the flushed tokens as a row has them
 abbrev pub flushed_of : Slots → List (Option ℕ)
-flushed_of slots = listed slots (replicate (5 - length slots) None)
+flushed_of slots = in_five (listed slots)
 
 -- the stop that a token of these makes
 abbrev pub slot_stop : Shape → ℕ → Slots → Option Stop

@@ -1,6 +1,6 @@
 ghost use Rattle.std.specs.Prelude.{Bool, ◌≡◌, ◌+◌, ◌≤◌, ◌<◌, length, take, drop, replicate, map, None, IfSome};
 ghost use Rattle.rv_holds.specs.Tokens.{cell_of, cells_of};
-ghost use Rattle.rv_holds.specs.Flushing.{next_of as specified_next_of, settles_at as specified_settles_at, settles as specified_settles, settled, nearest, turn_of, enters as specified_enters, turn_with, redirect_of as specified_redirect_of, struck as specified_struck, freed as specified_freed, unheld, cleared, serial_in as specified_serial_in, flushed_of, slot_stop, remains as specified_remains, fetch_after};
+ghost use Rattle.rv_holds.specs.Flushing.{next_of as specified_next_of, settles_at as specified_settles_at, settles as specified_settles, settled, nearest, turn_of, enters as specified_enters, turn_with, redirect_of as specified_redirect_of, struck as specified_struck, freed as specified_freed, unheld, cleared, flushed_of, slot_stop, remains as specified_remains, fetch_after};
 
 use crate::deciding::{does_stop, hold, is_last};
 use crate::token::{Token, stop_of};
@@ -183,24 +183,18 @@ pub fn struck(turn: Option<Turn>) -> usize
     }
 }
 
-fn serial_in(slot: &Option<Token>) -> Option<u32>
-    ensures { result ≡ specified_serial_in slot.now }
-{
-    match slot {
-        None => None,
-        Some(token) => Some(token.cell.serial),
-    }
-}
-
 /// The serials of these tokens, the oldest first.
 fn serials_in(slots: &[Option<Token>]) -> [Option<u32>; 5]
     requires { length slots.now ≤ 5 }
     ensures { result ≡ flushed_of slots.now }
 {
     let mut serials = [None; 5];
-    let count = slots.len();
-    for stage in 0..count {
-        serials[count - 1 - stage] = serial_in(&slots[stage]);
+    let mut count = 0;
+    for stage in (0..slots.len()).rev() {
+        if let Some(token) = &slots[stage] {
+            serials[count] = Some(token.cell.serial);
+            count += 1;
+        }
     }
     serials
 }

@@ -1,5 +1,5 @@
 -- Which rows of a pipeline with an extension are lawful after the earlier ones (this project's choice). `row` is the row that is judged, `earlier` are those before it.
-use Rattle.std.specs.Prelude.{◌≡◌, ◌≢◌, ℕ, suc, drop, ◌+◌, ◌<◌, ◌≤◌, List, [], ◌∷◌, get_or, Option, Some, None, Bool, true, false, ◌&&◌, ◌||◌, not, if◌then◌else◌, ◌==◌, is_some, slice_get, ◌⊎◌}
+use Rattle.std.specs.Prelude.{◌≡◌, ◌≢◌, ℕ, suc, drop, replicate, ◌+◌, ◌-◌, ◌<◌, ◌≤◌, List, [], ◌∷◌, get_or, Option, Some, None, Bool, true, false, ◌&&◌, ◌||◌, not, if◌then◌else◌, ◌==◌, is_some, slice_get, ◌⊎◌}
 use Rattle.rv_trace.specs.declared.row.Cell.{Cell}
 use Rattle.rv_trace.specs.declared.row.Row.{Row}
 use Rattle.rv_trace.specs.declared.row.Hold.{Hold}
@@ -14,7 +14,7 @@ use Rattle.ix_plan.specs.Units.{Slots, unit_written, frozen_with}
 use Rattle.rv_asks.specs.declared.asks.Asks.{Asks}
 use Rattle.rv_waits.specs.Waits.{wait_at}
 use Rattle.rv_trace.specs.Trace.{has_serial, is_retired, place, newest}
-use Rattle.rv_trace.specs.RowParts.{Name, name_of, names_of, stays, leaves, front, unless, serial_after, fetched, comes, MovesInto, IsOlder, ComesFirst, AreEmpty, AscendFrom}
+use Rattle.rv_trace.specs.RowParts.{Name, name_of, names_of, stays, leaves, front, unless, serial_after, fetched, comes, MovesInto, IsOlder, ComesFirst, given, in_five, AscendFrom}
 use Rattle.rv_core.specs.Guesses.{guess_of}
 use Rattle.rv_lawful.specs.Future.{future_file}
 use Rattle.rv_lawful.specs.Settings.{Setting, accesses_before, stages_of, Stands, stood, tailed}
@@ -283,10 +283,11 @@ WritesUnit k earlier row = serial_written row.written ≡ serial_in (unit_writte
 
 -- Forms
 
--- the row has one form only: nothing stands behind the last stage, and the flushed serials are listed once each, the oldest first
+-- the row has one form only: nothing stands behind the last stage, and the flushed serials are listed once each, the oldest first, in the first places
 pub record IsInForm (k : Setting) (row : Row) : Type 0 where
-  pub behind : AreEmpty (drop k.shape.stages row.cells)
-  pub ascending : AscendFrom None row.flushed
+  pub behind : drop k.shape.stages row.cells ≡ replicate (5 - k.shape.stages) None
+  pub listed : row.flushed ≡ in_five (given row.flushed)
+  pub ascending : AscendFrom None (given row.flushed)
 
 -- the row is lawful after the earlier ones
 pub record LawfulRow (k : Setting) (earlier : List Row) (row : Row) : Type 0 where

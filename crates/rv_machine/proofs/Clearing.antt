@@ -1,5 +1,5 @@
 -- Slots of which those of the first stages are flushed: what a row shows of them, and what is left.
-use Rattle.std.proofs.Common.{◌≡◌, ℕ, zero, suc, ◌+◌, ◌-◌, ◌<◌, ◌≤◌, List, [], ◌∷◌, drop, take, length, Option, Some, None, Bool, true, false, refl, sym, ap, ◌∙◌, subst, arith, ◌⊎◌, inl, inr}
+use Rattle.std.proofs.Common.{◌≡◌, ℕ, zero, suc, ◌+◌, ◌-◌, ◌<◌, ◌≤◌, List, [], ◌∷◌, ◌++◌, drop, take, length, Option, Some, None, Bool, true, false, refl, sym, ap, ◌∙◌, subst, arith, ◌⊎◌, inl, inr}
 use Rattle.std.specs.Prelude.{◌||◌, ◌==◌, slice_get, replicate}
 use Rattle.std.proofs.lemmas.Bool.Decides.{nat_tests}
 use Rattle.rv_core.specs.declared.Shape.{Shape}
@@ -7,10 +7,11 @@ use Rattle.rv_trace.specs.declared.row.Cell.{Cell}
 use Rattle.rv_trace.specs.declared.row.Row.{Row}
 use Rattle.rv_trace.specs.Trace.{has_serial}
 use Rattle.rv_trace.specs.RowParts.{AscendFrom, name_of, names_of, front, serial_after}
+use Rattle.rv_trace.proofs.Forms.{is_among, in_five_has, ascend_more}
 use Rattle.rv_holds.specs.declared.token.Token.{Token}
 use Rattle.rv_holds.specs.Tokens.{Slots, cell_of, cells_of}
 use Rattle.rv_holds.specs.Holds.{stops_now}
-use Rattle.rv_holds.specs.Flushing.{unheld, cleared, serial_in, listed, nearest}
+use Rattle.rv_holds.specs.Flushing.{unheld, cleared, listed, flushed_of, nearest}
 use Rattle.rv_engine.specs.Settings.{Setting, shape_of}
 use Rattle.rv_engine.specs.Rows.{advanced, leaving, first_slot}
 use Rattle.rv_machine.specs.Placed.{count, Serials, Placed, expected, tail, to_go, first_of_two, may_wait, here}
@@ -164,67 +165,67 @@ get_take (suc n) i [] t e = cc
 get_take (suc n) zero (s ∷ older) t e = (omega arith, e)
 get_take (suc n) (suc i) (s ∷ older) t e = let x = get_take n i older t e in (omega (arith, x.0), x.1)
 
-pub none_listed : (m s : ℕ) → has_serial (replicate m None) s ≡ false
-none_listed zero s = refl
-none_listed (suc m) s = none_listed m s
-
-listed_more : (slots : Slots) (rest : List (Option ℕ)) (s : ℕ) → has_serial rest s ≡ true → has_serial (listed slots rest) s ≡ true
-listed_more [] rest s h = h
-listed_more (None ∷ older) rest s h = listed_more older (None ∷ rest) s h
-listed_more (Some t ∷ older) rest s h = listed_more older (Some t.cell.serial ∷ rest) s (either (t.cell.serial == s)) where
-  either : (b : Bool) → (b || has_serial rest s) ≡ true
+among_more : (l : List ℕ) (t s : ℕ) → is_among (l ++ t ∷ []) s ≡ is_among l s || (t == s)
+among_more [] t s = either (t == s) where
+  either : (b : Bool) → (b || false) ≡ b
   either true = refl
-  either false = h
+  either false = refl
+among_more (r ∷ l) t s = ap (λ b. (r == s) || b) (among_more l t s) ∙ regroup (r == s) (is_among l s) (t == s) where
+  regroup : (a b c : Bool) → (a || (b || c)) ≡ ((a || b) || c)
+  regroup true b c = refl
+  regroup false b c = refl
 
-pub listed_of : (slots : Slots) (rest : List (Option ℕ)) (i : ℕ) (t : Token) → slice_get slots i ≡ Some (Some t) → has_serial (listed slots rest) t.cell.serial ≡ true
-listed_of [] rest i t e = cc
-listed_of (None ∷ older) rest zero t e = cc
-listed_of (Some u ∷ older) rest zero t e =
-    let same = ap (λ (v : Token). v.cell.serial) (same_token u t e) in
-    listed_more older (Some u.cell.serial ∷ rest) t.cell.serial (either (u.cell.serial == t.cell.serial) (test u.cell.serial t.cell.serial same)) where
+listed_one : (slots : Slots) (i : ℕ) (t : Token) → slice_get slots i ≡ Some (Some t) → is_among (listed slots) t.cell.serial ≡ true
+listed_one [] i t e = cc
+listed_one (None ∷ older) zero t e = cc
+listed_one (None ∷ older) (suc i) t e = listed_one older i t e
+listed_one (Some u ∷ older) zero t e =
+    among_more (listed older) u.cell.serial t.cell.serial
+    ∙ either (is_among (listed older) t.cell.serial) (u.cell.serial == t.cell.serial) (test u.cell.serial t.cell.serial (ap (λ (v : Token). v.cell.serial) (same_token u t e))) where
       test : (a b : ℕ) → a ≡ b → (a == b) ≡ true
       test a b e = grind (arith, nat_tests)
 
-      either : (b : Bool) → b ≡ true → (b || has_serial rest t.cell.serial) ≡ true
-      either true q = refl
-      either false q = cc
-listed_of (s ∷ older) rest (suc i) t e = listed_of older (serial_in s ∷ rest) i t e
+      either : (a b : Bool) → b ≡ true → (a || b) ≡ true
+      either true b q = refl
+      either false b q = q
+listed_one (Some u ∷ older) (suc i) t e =
+    among_more (listed older) u.cell.serial t.cell.serial ∙ either (is_among (listed older) t.cell.serial) (u.cell.serial == t.cell.serial) (listed_one older i t e) where
+      either : (a b : Bool) → a ≡ true → (a || b) ≡ true
+      either true b q = refl
+      either false b q = cc
 
--- what is listed is a token's, or was listed already
-pub listed_only : (slots : Slots) (rest : List (Option ℕ)) (s : ℕ) → has_serial (listed slots rest) s ≡ true → (has_serial rest s ≡ true) ⊎ ((i : ℕ) × (t : Token) × (slice_get slots i ≡ Some (Some t)) × (t.cell.serial ≡ s))
-listed_only [] rest s h = inl h
-listed_only (None ∷ older) rest s h = elim (listed_only older (None ∷ rest) s h) [ inl x ↦ inl x | inr y ↦ inr (suc y.0, y.1, y.2, y.3) ]
-listed_only (Some t ∷ older) rest s h = elim (listed_only older (Some t.cell.serial ∷ rest) s h) [ inl x ↦ by_case (t.cell.serial == s) refl x | inr y ↦ inr (suc y.0, y.1, y.2, y.3) ] where
+pub listed_of : (slots : Slots) (i : ℕ) (t : Token) → slice_get slots i ≡ Some (Some t) → has_serial (flushed_of slots) t.cell.serial ≡ true
+listed_of slots i t e = in_five_has (listed slots) t.cell.serial ∙ listed_one slots i t e
+
+-- what is listed is a token's
+among_only : (slots : Slots) (s : ℕ) → is_among (listed slots) s ≡ true → (i : ℕ) × (t : Token) × (slice_get slots i ≡ Some (Some t)) × (t.cell.serial ≡ s)
+among_only [] s h = cc
+among_only (None ∷ older) s h = let y = among_only older s h in (suc y.0, y.1, y.2, y.3)
+among_only (Some t ∷ older) s h = by_case (is_among (listed older) s) refl (sym (among_more (listed older) t.cell.serial s) ∙ h) (λ e. among_only older s e) where
   equal : (a b : ℕ) → (a == b) ≡ true → a ≡ b
   equal a b e = grind (arith, nat_tests)
 
-  by_case : (b : Bool) → (t.cell.serial == s) ≡ b → (b || has_serial rest s) ≡ true → (has_serial rest s ≡ true) ⊎ ((i : ℕ) × (u : Token) × (slice_get (Some t ∷ older) i ≡ Some (Some u)) × (u.cell.serial ≡ s))
-  by_case true e x = inr (0, t, refl, equal t.cell.serial s e)
-  by_case false e x = inl x
+  by_case : (b : Bool) → is_among (listed older) s ≡ b → (b || (t.cell.serial == s)) ≡ true
+      → (is_among (listed older) s ≡ true → (i : ℕ) × (u : Token) × (slice_get older i ≡ Some (Some u)) × (u.cell.serial ≡ s))
+      → (i : ℕ) × (u : Token) × (slice_get (Some t ∷ older) i ≡ Some (Some u)) × (u.cell.serial ≡ s)
+  by_case true e x rest = let y = rest e in (suc y.0, y.1, y.2, y.3)
+  by_case false e x rest = (0, t, refl, equal t.cell.serial s x)
+
+pub listed_only : (slots : Slots) (s : ℕ) → has_serial (flushed_of slots) s ≡ true → (i : ℕ) × (t : Token) × (slice_get slots i ≡ Some (Some t)) × (t.cell.serial ≡ s)
+listed_only slots s h = among_only slots s (sym (in_five_has (listed slots) s) ∙ h)
 
 -- each serial is above those before it
-pub listed_ascend : (rows : List Row) (r n : ℕ) (slots : Slots) (rest : List (Option ℕ)) → Serials rows r slots
-    → ((i : ℕ) (t : Token) → slice_get slots i ≡ Some (Some t) → AscendFrom (Some t.cell.serial) rest) → AscendFrom None rest → AscendFrom None (listed (take n slots) rest)
-listed_ascend rows r zero slots rest h f a = a
-listed_ascend rows r (suc n) [] rest h f a = a
-listed_ascend rows r (suc n) (None ∷ older) rest h f a = listed_ascend rows r n older (None ∷ rest) h (λ i t e. f (suc i) t e) a
-listed_ascend rows r (suc n) (Some t ∷ older) rest h f a =
-    listed_ascend rows r n older (Some t.cell.serial ∷ rest) h.1 (λ i u e. (older_lower rows r i t u older h e, f 0 t refl)) (f 0 t refl)
-
-pub none_ascend : (last : Option ℕ) (m : ℕ) → AscendFrom last (replicate m None)
-none_ascend None zero = tt
-none_ascend None (suc m) = none_ascend None m
-none_ascend (Some t) zero = tt
-none_ascend (Some t) (suc m) = none_ascend (Some t) m
-
--- what is not yet listed
-drop_rest : (n m : ℕ) → ◌≡◌ {A = List (Option ℕ)} (drop n (replicate m None)) (replicate (m - n) None)
-drop_rest zero m = let z : m ≡ m - 0 = omega arith in ap (λ j. replicate j None) z
-drop_rest (suc n) zero = let e : 0 ≡ 0 - suc n = omega arith in ap (λ j. replicate j None) e
-drop_rest (suc n) (suc m) = let e : m - n ≡ suc m - suc n = omega arith in drop_rest n m ∙ ap (λ j. replicate j None) e
-
-pub drop_none : (n m : ℕ) → ◌≡◌ {A = List (Option ℕ)} (drop (n - 0) (replicate m None)) (replicate (m - n) None)
-drop_none n m = let z : n - 0 ≡ n = omega arith in ap (λ j. drop j (replicate m None)) z ∙ drop_rest n m
+pub listed_ascend : (rows : List Row) (r n : ℕ) (slots : Slots) → Serials rows r slots → AscendFrom None (listed (take n slots))
+listed_ascend rows r zero slots h = tt
+listed_ascend rows r (suc n) [] h = tt
+listed_ascend rows r (suc n) (None ∷ older) h = listed_ascend rows r n older h
+listed_ascend rows r (suc n) (Some t ∷ older) h = ascend_more (listed (take n older)) t.cell.serial (listed_ascend rows r n older h.1) below where
+  below : (s : ℕ) → is_among (listed (take n older)) s ≡ true → s < t.cell.serial
+  below s e =
+      let x = among_only (take n older) s e in
+      let lt = older_lower rows r x.0 t x.1 older h (get_take n x.0 older x.1 x.2).1 in
+      let same = x.3 in
+      omega (arith, lt, same)
 
 -- a token's cell stands in the row
 pub shows_cell : (n stage : ℕ) (slots : Slots) (t : Token) → slice_get slots stage ≡ Some (Some t) → (c : Cell) × (slice_get (cells_of (unheld n slots)) stage ≡ Some (Some c)) × (c.at ≡ t.cell.at) × (c.serial ≡ t.cell.serial)

@@ -10,11 +10,12 @@ use Rattle.rv_seq.specs.declared.arch.TrapState.{TrapState}
 use Rattle.rv_trace.specs.declared.row.Cell.{Cell}
 use Rattle.rv_trace.specs.declared.row.Row.{Row}
 use Rattle.rv_trace.specs.Trace.{place, has_serial, is_flushed, is_retired, retirements}
-use Rattle.rv_trace.specs.RowParts.{AscendFrom}
+use Rattle.rv_trace.specs.RowParts.{given, in_five, AscendFrom}
+use Rattle.rv_trace.proofs.Forms.{given_in_five}
 use Rattle.rv_holds.specs.declared.token.Token.{Token}
 use Rattle.rv_holds.specs.declared.flushing.Turn.{Turn}
 use Rattle.rv_holds.specs.Tokens.{Slots, cells_of}
-use Rattle.rv_holds.specs.Flushing.{struck, cleared}
+use Rattle.rv_holds.specs.Flushing.{struck, cleared, listed}
 use Rattle.rv_engine.specs.Settings.{Setting, Machine}
 use Rattle.rv_engine.specs.Rows.{fetched, fill_first, next_after, new_by, loaded_by, turn_by, seen_by, IsRowOf}
 use Rattle.rv_lawful.specs.Settings as Lawful
@@ -26,7 +27,7 @@ use Rattle.rv_machine.proofs.Standing.{here_of}
 use Rattle.rv_machine.proofs.Moving.{Named, filled_from, KeepsAll, keeps_all, FlushesFirst}
 use Rattle.rv_machine.proofs.Alike.{Alike, IsAlike, alike_count, alike_serials}
 use Rattle.rv_machine.proofs.Before as B
-use Rattle.rv_machine.proofs.Clearing.{cleared_serials, cleared_count, cleared_at, cleared_get, cleared_drop, unheld_get, ShownAs, shown_as, take_get, get_take, none_listed, listed_of, listed_only, listed_ascend, none_ascend, Oldest, oldest_of}
+use Rattle.rv_machine.proofs.Clearing.{cleared_serials, cleared_count, cleared_at, cleared_get, cleared_drop, unheld_get, ShownAs, shown_as, take_get, get_take, listed_of, listed_only, listed_ascend, Oldest, oldest_of}
 
 -- a token of slots that are alike
 pub alike_get : (a b : Slots) (i : ℕ) (u : Token) → Alike a b → slice_get b i ≡ Some (Some u) → (t : Token) × (slice_get a i ≡ Some (Some t)) × IsAlike t u
@@ -107,21 +108,22 @@ module _ (k : Setting) (ready : IsReady k) (earlier : List Row) (m : Machine) (r
   pub flushes_first : FlushesFirst row (struck (turn_by k m)) (loaded_by k m)
   flushes_first i t lt e =
       ap (λ l. has_serial l t.cell.serial) is.flushed
-      ∙ listed_of (take (struck (turn_by k m)) (loaded_by k m)) (replicate (5 - length (take (struck (turn_by k m)) (loaded_by k m))) None) i t (take_get (struck (turn_by k m)) i (loaded_by k m) lt ∙ e)
+      ∙ listed_of (take (struck (turn_by k m)) (loaded_by k m)) i t (take_get (struck (turn_by k m)) i (loaded_by k m) lt ∙ e)
 
   -- a flushed serial is that of a token of these stages
   pub flushed_from : (s : ℕ) → has_serial row.flushed s ≡ true → (i : ℕ) × (t : Token) × (i < struck (turn_by k m)) × (slice_get (loaded_by k m) i ≡ Some (Some t)) × (t.cell.serial ≡ s)
   flushed_from s h =
-      elim (listed_only (take (struck (turn_by k m)) (loaded_by k m)) (replicate (5 - length (take (struck (turn_by k m)) (loaded_by k m))) None) s (sym (ap (λ l. has_serial l s) is.flushed) ∙ h)) [
-        | inl x ↦ cc (x, none_listed (5 - length (take (struck (turn_by k m)) (loaded_by k m))) s)
-        | inr y ↦ let g = get_take (struck (turn_by k m)) y.0 (loaded_by k m) y.1 y.2 in (y.0, y.1, g.0, g.1, y.3)
-      ]
+      let y = listed_only (take (struck (turn_by k m)) (loaded_by k m)) s (sym (ap (λ l. has_serial l s) is.flushed) ∙ h) in
+      let g = get_take (struck (turn_by k m)) y.0 (loaded_by k m) y.1 y.2 in (y.0, y.1, g.0, g.1, y.3)
 
-  pub row_ascends : AscendFrom None row.flushed
-  row_ascends =
-      subst (λ l. AscendFrom None l) (sym is.flushed)
-      (listed_ascend earlier (retirements earlier) (struck (turn_by k m)) (loaded_by k m) (replicate (5 - length (take (struck (turn_by k m)) (loaded_by k m))) None) loaded_serials
-      (λ i t e. none_ascend (Some t.cell.serial) (5 - length (take (struck (turn_by k m)) (loaded_by k m)))) (none_ascend None (5 - length (take (struck (turn_by k m)) (loaded_by k m)))))
+  given_is : given row.flushed ≡ listed (take (struck (turn_by k m)) (loaded_by k m))
+  given_is = ap (λ l. given l) is.flushed ∙ given_in_five (listed (take (struck (turn_by k m)) (loaded_by k m)))
+
+  pub row_listed : row.flushed ≡ in_five (given row.flushed)
+  row_listed = is.flushed ∙ ap (λ l. in_five l) (sym given_is)
+
+  pub row_ascends : AscendFrom None (given row.flushed)
+  row_ascends = subst (λ l. AscendFrom None l) (sym given_is) (listed_ascend earlier (retirements earlier) (struck (turn_by k m)) (loaded_by k m) loaded_serials)
 
   -- up to the serial of a token that is left nothing is flushed
   pub none_below : (i : ℕ) (t : Token) → struck (turn_by k m) ≤ i → slice_get (loaded_by k m) i ≡ Some (Some t) → (j : ℕ) → j ≤ t.cell.serial → has_serial row.flushed j ≡ false

@@ -7,7 +7,7 @@ use Rattle.rv_machine.proofs.Before.{alike_back}
 use Rattle.rv_machine.proofs.Flushing.{alike_get}
 use Rattle.rv_machine.proofs.Repaid.{repaid_pc}
 use Rattle.rv_machine.proofs.Entered.{first_holds, interrupted_is, entry_seen, entry_struck, get_drop}
-use Rattle.std.proofs.Common.{◌≡◌, ℕ, zero, suc, ◌+◌, ◌<◌, ◌≤◌, List, [], ◌∷◌, drop, length, Option, Some, None, Bool, true, false, refl, sym, ap, ◌∙◌, subst, arith, ◌⊎◌, inl, inr}
+use Rattle.std.proofs.Common.{◌≡◌, ℕ, zero, suc, ◌+◌, ◌-◌, ◌<◌, ◌≤◌, List, [], ◌∷◌, drop, length, Option, Some, None, Bool, true, false, refl, sym, ap, ◌∙◌, subst, arith, ◌⊎◌, inl, inr}
 use Rattle.std.specs.Prelude.{◌||◌, if◌then◌else◌, is_some, nat_lt, slice_get, replicate, is_none, not, ◌&&◌}
 use Rattle.std.proofs.lemmas.Bool.{cases_lt}
 use Rattle.std.proofs.lemmas.Bool.Decides.{nat_tests}
@@ -20,7 +20,7 @@ use Rattle.rv_trace.specs.declared.row.Cell.{Cell}
 use Rattle.rv_trace.specs.declared.row.Row.{Row}
 use Rattle.rv_trace.specs.declared.row.Hold.TheVariants.{Late, Trap}
 use Rattle.rv_trace.specs.Trace.{has_serial, place, retirements, newest}
-use Rattle.rv_trace.specs.RowParts.{name_of, names_of, stays, leaves, comes, fetched, front, MovesInto, AreEmpty}
+use Rattle.rv_trace.specs.RowParts.{name_of, names_of, stays, leaves, comes, fetched, front, MovesInto}
 use Rattle.rv_holds.specs.declared.token.Token.{Token}
 use Rattle.rv_asks.specs.declared.asks.Asks.{Asks}
 use Rattle.rv_holds.specs.declared.flushing.Turn.{Turn}
@@ -74,11 +74,10 @@ stopped_once a b e = cc
 not_lt : (a b : ℕ) → b ≤ a → nat_lt a b ≡ false
 not_lt a b h = grind (arith, nat_tests)
 
-empty_drop : (n m : ℕ) → AreEmpty (drop n (replicate m None))
-empty_drop zero zero = tt
-empty_drop zero (suc m) = empty_drop zero m
-empty_drop (suc n) zero = tt
-empty_drop (suc n) (suc m) = empty_drop n m
+empty_drop : (n m : ℕ) → ◌≡◌ {A = List (Option Cell)} (drop n (replicate m None)) (replicate (m - n) None)
+empty_drop zero m = let z : m ≡ m - 0 = omega arith in ap (λ j. replicate j None) z
+empty_drop (suc n) zero = let e : 0 ≡ 0 - suc n = omega arith in ap (λ j. replicate j None) e
+empty_drop (suc n) (suc m) = let e : m - n ≡ suc m - suc n = omega arith in empty_drop n m ∙ ap (λ j. replicate j None) e
 
 module _ (k : Setting) (ready : IsReady k) (earlier : List Row) (m : Machine) (row : Row) (made : Made k earlier m row) where
   abbrev flushed : ℕ
@@ -287,7 +286,7 @@ module _ (k : Setting) (ready : IsReady k) (earlier : List Row) (m : Machine) (r
             elim (f x.index x.token.cell y.0) [ inl y ↦ cc (made.kept x.index x.token (here_of (seen_by k m) x.older x.token x.index x.rest), y) | inr y ↦ absurd (omega (arith, ex, last, y.0)) ]
 
   row_form : IsInForm (judged k) row
-  row_form = record { behind = subst AreEmpty (sym made.is.behind) (empty_drop (shape_of k).stages 5); ascending = made.ascends }
+  row_form = record { behind = made.is.behind ∙ empty_drop (shape_of k).stages 5; listed = made.listed; ascending = made.ascends }
 
   -- Entries
 

@@ -45,6 +45,7 @@ made k ready earlier m row inv is =
       names = alike_names (fill_first (new_by k m) m.slots) (loaded_by k m) (B.loaded_alike k ready earlier m inv);
       kept = λ i t e. let x = F.left_from k ready earlier m row inv is i t e in F.none_below k ready earlier m row inv is i t x.0 x.1 t.cell.serial (omega arith);
       flushed_from = F.flushed_from k ready earlier m row inv is;
+      listed = F.row_listed k ready earlier m row inv is;
       ascends = F.row_ascends k ready earlier m row inv is;
       names_pc = R.names_pc k ready earlier m row inv is;
       stop_is = is.stop;

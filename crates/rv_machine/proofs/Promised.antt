@@ -1,14 +1,12 @@
 -- The rows of a machine keep what is promised of them, where its design stands.
-use Rattle.rv_machine.proofs.Entered.{first_holds}
-use Rattle.rv_lawful.specs.LawfulTrace.{Lawful}
 use Rattle.rv_machine.proofs.EachRow.{state_after}
 use Rattle.rv_machine.proofs.Carried.{same_decoupled_at, row_at}
 use Rattle.std.specs.List.{flat_map}
 use Rattle.rv_lawful.specs.Answering.{rows_interrupted}
-use Rattle.rv_lawful.specs.Entering.{places, is_line_pending}
+use Rattle.rv_lawful.specs.Entering.{places}
 use Rattle.rv_lawful.specs.Settings.{entries_at}
-use Rattle.std.proofs.Common.{◌≡◌, ℕ, ◌≤◌, List, [], ◌∷◌, ◌++◌, length, take, None, refl, ap, subst, ◌∙◌, arith, sym, zero, suc, ◌+◌, ◌*◌, drop, Option, Some, Bool, true, false}
-use Rattle.std.specs.Prelude.{reverse, replicate, is_some, if◌then◌else◌}
+use Rattle.std.proofs.Common.{◌≡◌, ℕ, ◌≤◌, List, [], ◌∷◌, ◌++◌, length, take, None, refl, ap, subst, ◌∙◌, arith, sym, zero, suc, ◌+◌, ◌*◌, drop, Option, Some}
+use Rattle.std.specs.Prelude.{reverse, replicate}
 use Rattle.std.proofs.lemmas.List.{take_all}
 use Rattle.ix_extension.specs.Extensions.{ExtensionTree, view_extension}
 use Rattle.ix_plan.specs.declared.design.Design.{Design}
@@ -37,9 +35,7 @@ use Rattle.rv_machine.specs.Placed.{Inv, IsReady, AnswerLaw, count, at_places}
 use Rattle.rv_machine.proofs.ApartNext as A
 use Rattle.rv_machine.proofs.Listed.{targets_listed, few_targets}
 use Rattle.rv_machine.proofs.OwingNext as O
-use Rattle.rv_machine.proofs.Retiring as R
 use Rattle.rv_machine.proofs.First.{first, start_is}
-use Rattle.rv_machine.proofs.FileTold.{file_told}
 use Rattle.rv_machine.proofs.ShownTold.{shown_told}
 use Rattle.rv_machine.proofs.GoesOn.{goes_on}
 use Rattle.rv_machine.proofs.OneMore.{one_more_row, bound, AreAnswered, answered_after}
@@ -129,23 +125,6 @@ known k ready (row ∷ earlier) are =
 
 pub rows_law : Sights → RowsLaw
 rows_law sights d image waits lines rows h are = (known (setting d image waits lines) (ready_of sights d image waits lines h) rows are).headline
-
--- without a line no row takes an interrupt
-no_places : (k : Setting) → k.lines ≡ None → (rows : List Row) → Lawful (λ ps. judged (at_places k ps)) rows → places rows ≡ []
-unfolding places
-no_places k none [] h = refl
-no_places k none (row ∷ earlier) h = ap (λ (b : Bool). if b then retirements (row ∷ earlier) ∷ places earlier else places earlier) (by_taken row.taken refl) ∙ no_places k none earlier h.2 where
-  by_taken : (o : Option ℕ) → row.taken ≡ o → is_some row.taken ≡ false
-  by_taken None e = ap (λ p. is_some p) e
-  by_taken (Some at) e =
-      let now = first_holds (is_line_pending k.lines earlier) _ (h.0.takes.taken at e).interrupted in
-      cc (sym (ap (λ l. is_line_pending l earlier) none) ∙ now)
-
--- so there its machine is tied to its rows by the run that goes nowhere else
-pub plain_inv : (k : Setting) → ((ps : List ℕ) → IsReady (at_places k ps)) → k.lines ≡ None → (rows : List Row) → AreRows k rows → (newest rows).stop ≡ None → Inv (at_places k []) rows (machine_at k rows)
-plain_inv k ready none rows are going =
-    let x = known k ready rows are in
-    subst (λ ps. Inv (at_places k ps) rows (machine_at k rows)) (no_places k none rows x.headline.lawful) (x.going going)
 
 -- the list of what is outstanding, with other places
 listed_at : (k : Setting) (ps : List ℕ) (rows : List Row) → outstanding (judged (at_places k ps)) rows ≡ outstanding (judged k) rows

@@ -3,7 +3,7 @@ use Rattle.std.specs.Prelude.{◌≡◌, ℕ, suc, ◌+◌, ◌<◌, List, ◌�
 use Rattle.rv_seq.specs.declared.commit.Commit.{Commit}
 use Rattle.rv_trace.specs.declared.row.Row.{Row}
 use Rattle.rv_trace.specs.Trace.{has_serial, retirements}
-use Rattle.rv_trace.specs.RowParts.{AscendFrom, names_of}
+use Rattle.rv_trace.specs.RowParts.{given, in_five, AscendFrom, names_of}
 use Rattle.rv_holds.specs.declared.token.Token.{Token}
 use Rattle.rv_holds.specs.Tokens.{Slots, cells_of, commit_of}
 use Rattle.rv_holds.specs.Flushing.{next_of, settles, struck}
@@ -28,7 +28,8 @@ pub record Made (k : Setting) (earlier : List Row) (m : Machine) (row : Row) : T
   -- what is left is not flushed, and nothing but tokens of the first stages is
   pub kept : (i : ℕ) (t : Token) → slice_get (seen_by k m) i ≡ Some (Some t) → has_serial row.flushed t.cell.serial ≡ false
   pub flushed_from : (s : ℕ) → has_serial row.flushed s ≡ true → (i : ℕ) × (t : Token) × (i < struck (turn_by k m)) × (slice_get (loaded_by k m) i ≡ Some (Some t)) × (t.cell.serial ≡ s)
-  pub ascends : AscendFrom None row.flushed
+  pub listed : row.flushed ≡ in_five (given row.flushed)
+  pub ascends : AscendFrom None (given row.flushed)
   -- a token that settles its successor names the pc of the run behind it
   pub names_pc : (stage : ℕ) (t : Token) (older : Slots) → drop stage (seen_by k m) ≡ Some t ∷ older → settles (shape_of k) stage t older ≡ true → next_of t ≡ (run k (suc (retirements earlier + count older))).pc
   -- what goes out retires

@@ -1,7 +1,6 @@
 -- What the modules beside a machine show is what nets show that its rows drive.
-use Rattle.std.proofs.Common.{◌≡◌, ◌∙◌, refl, sym, ap, subst, ℕ, suc, pred, List, [], ◌∷◌, ◌++◌, length, Option, Some, None}
+use Rattle.std.proofs.Common.{◌≡◌, ◌∙◌, refl, sym, ap, subst, ℕ, suc, pred, List, [], ◌∷◌, ◌++◌, length, Option, Some}
 use Rattle.std.specs.Prelude.{slice_get}
-use Rattle.std.proofs.lemmas.Option.{none-some}
 use Rattle.ix_net.specs.declared.netlist.Net.{Net}
 use Rattle.ix_plan.specs.declared.design.Design.{Design}
 use Rattle.ix_plan.specs.declared.design.Plan.{Plan}
@@ -9,13 +8,12 @@ use Rattle.rv_engine.specs.Settings.{Setting, setting}
 use Rattle.rv_engine.specs.Showing.{shown_of}
 use Rattle.rv_machine.specs.Promises.{IsRunnable, ShownLaw}
 use Rattle.rv_machine.specs.Running.{AreRows, machine_at}
-use Rattle.rv_nets.specs.Modules.{Driver, IsStep, AllStep, Reached, drivers_from, drivers_of, own_ports, all_ports, ports_shown, module_at}
-use Rattle.rv_nets.specs.NetsLaw.{NetsLaw, HaveRun, inputs_with}
+use Rattle.rv_nets.specs.Modules.{Driver, AllStep, Reached, drivers_from, own_ports, all_ports, ports_shown, module_at}
+use Rattle.rv_nets.specs.NetsLaw.{NetsLaw, inputs_with}
 use Rattle.rv_pipe.specs.Machines.{shown_over}
 use Rattle.rv_ports.specs.Drives.{drives_of}
-use Rattle.rv_ports.specs.Driven.{AreDriven, IsDriven, inputs_over, ports_in, ports_of, port_values}
-use Rattle.rv_ports.specs.Inputs.{inputs_by, module_of}
-use Rattle.rv_ports.specs.Seats.{shown_by}
+use Rattle.rv_ports.specs.Driven.{AreDriven, inputs_over, ports_in, ports_of, port_values}
+use Rattle.rv_ports.specs.Inputs.{inputs_by}
 use Rattle.rv_ports.specs.declared.shown.Shown.{Shown}
 use Rattle.rv_served.specs.Lives.{PromiseLaw}
 use Rattle.rv_served.specs.Promise.{AllPromised}
@@ -41,48 +39,42 @@ ports_same d (w ∷ earlier) drivers e h = same_ports h.0 drivers w h.2 ∙ port
 
 -- ---- and what they show is what driven nets show
 
-pub inputs_same : (d : Design) (image waits : List ℕ) → IsRunnable d image → ShownLaw → (n : ℕ) (p : Plan) (rows : List Row) → AreRows (setting d image waits None) rows
-    → inputs_with (module_at d n p) p (shown_over (setting d image waits None) rows) ≡ inputs_over (drives_of d image waits None []) n p rows
+pub inputs_same : (d : Design) (image waits : List ℕ) (lines : Option (List ℕ)) → IsRunnable d image → ShownLaw → (n : ℕ) (p : Plan) (rows : List Row) → AreRows (setting d image waits lines) rows
+    → inputs_with (module_at d n p) p (shown_over (setting d image waits lines) rows) ≡ inputs_over (drives_of d image waits lines) n p rows
 unfolding inputs_over
-inputs_same d image waits can law n p [] are = refl
-inputs_same d image waits can law n p (row ∷ earlier) are =
-    ap (λ l. l ++ inputs_by (module_at d n p) p (shown_of (setting d image waits None) (machine_at (setting d image waits None) earlier)) ∷ []) (inputs_same d image waits can law n p earlier are.2)
-    ∙ ap (λ w. inputs_over (drives_of d image waits None []) n p earlier ++ inputs_by (module_at d n p) p w ∷ []) (law d image waits None row earlier can are)
+inputs_same d image waits lines can law n p [] are = refl
+inputs_same d image waits lines can law n p (row ∷ earlier) are =
+    ap (λ l. l ++ inputs_by (module_at d n p) p (shown_of (setting d image waits lines) (machine_at (setting d image waits lines) earlier)) ∷ []) (inputs_same d image waits lines can law n p earlier are.2)
+    ∙ ap (λ w. inputs_over (drives_of d image waits lines) n p earlier ++ inputs_by (module_at d n p) p w ∷ []) (law d image waits lines row earlier can are)
 
 long_over : (k : Setting) (rows : List Row) → length (shown_over k rows) ≡ length rows
 long_over k [] = refl
 long_over k (row ∷ earlier) = ap suc (long_over k earlier)
 
 -- there are runs of the design's nets, driven by the rows, whose newest cycle shows what the modules do
-pub driven : (d : Design) (image waits : List ℕ) (row : Row) (earlier : List Row) (modules : List Driver) → IsRunnable d image → ShownLaw → NetsLaw → length d.plans ≡ length d.nets
-    → AreRows (setting d image waits None) (row ∷ earlier) → Reached d (shown_over (setting d image waits None) (row ∷ earlier)) modules
-    → (runs : List (List (List ℕ))) × AreDriven (drives_of d image waits None []) d.nets (row ∷ earlier) runs × (port_values d.nets runs (length earlier) ≡ ports_shown modules)
-driven d image waits row earlier modules can shown nets e are reached =
-    let k = setting d image waits None in
+pub driven : (d : Design) (image waits : List ℕ) (lines : Option (List ℕ)) (row : Row) (earlier : List Row) (modules : List Driver) → IsRunnable d image → ShownLaw → NetsLaw → length d.plans ≡ length d.nets
+    → AreRows (setting d image waits lines) (row ∷ earlier) → Reached d (shown_over (setting d image waits lines) (row ∷ earlier)) modules
+    → (runs : List (List (List ℕ))) × AreDriven (drives_of d image waits lines) d.plans d.nets (row ∷ earlier) runs × (port_values d.nets runs (length earlier) ≡ ports_shown modules)
+driven d image waits lines row earlier modules can shown nets e are reached =
+    let k = setting d image waits lines in
     let x = nets d (shown_of k (machine_at k earlier)) (shown_over k earlier) modules e reached in (
       x.0,
       record {
         count = x.1.count;
-        each = λ n p net cycles f g q. record { run = x.1.run n p net cycles f g q; inputs = x.1.inputs n p net cycles f g q ∙ inputs_same d image waits can shown n p (row ∷ earlier) are };
+        each = λ n p net cycles f g q. record { run = x.1.run n p net cycles f g q; inputs = x.1.inputs n p net cycles f g q ∙ inputs_same d image waits lines can shown n p (row ∷ earlier) are };
       },
       ap (λ i. port_values d.nets x.0 i) (sym (long_over k earlier)) ∙ x.2,
     )
 
 -- so of a port by its number, and the outputs keep what is promised of them
-driven_plain : (d : Design) (image waits : List ℕ) (rows earlier : List Row) (row : Row) (modules : List Driver) (k value : ℕ) → rows ≡ row ∷ earlier → IsRunnable d image → ShownLaw → NetsLaw → PromiseLaw → length d.plans ≡ length d.nets
-    → AreRows (setting d image waits None) rows → Reached d (shown_over (setting d image waits None) rows) modules → slice_get (ports_shown modules) k ≡ Some value
-    → (runs : List (List (List ℕ))) × AreDriven (drives_of d image waits None []) d.nets rows runs × AllPromised (drives_of d image waits None []) d.nets rows runs × (slice_get (port_values d.nets runs (length earlier)) k ≡ Some value)
-driven_plain d image waits rows earlier row modules k value same can shown nets promise e are reached is =
-    let x = driven d image waits row earlier modules can shown nets e (subst (λ l. AreRows (setting d image waits None) l) same are) (subst (λ l. Reached d (shown_over (setting d image waits None) l) modules) same reached) in
-    let all : AreDriven (drives_of d image waits None []) d.nets rows x.0 = subst (λ l. AreDriven (drives_of d image waits None []) d.nets l x.0) (sym same) x.1 in (
+pub driven_port : (d : Design) (image waits : List ℕ) (lines : Option (List ℕ)) (rows earlier : List Row) (row : Row) (modules : List Driver) (k value : ℕ) → rows ≡ row ∷ earlier → IsRunnable d image → ShownLaw → NetsLaw → PromiseLaw
+    → length d.plans ≡ length d.nets → AreRows (setting d image waits lines) rows → Reached d (shown_over (setting d image waits lines) rows) modules → slice_get (ports_shown modules) k ≡ Some value
+    → (runs : List (List (List ℕ))) × AreDriven (drives_of d image waits lines) d.plans d.nets rows runs × AllPromised (drives_of d image waits lines) d.plans d.nets rows runs × (slice_get (port_values d.nets runs (length earlier)) k ≡ Some value)
+driven_port d image waits lines rows earlier row modules k value same can shown nets promise e are reached is =
+    let x = driven d image waits lines row earlier modules can shown nets e (subst (λ l. AreRows (setting d image waits lines) l) same are) (subst (λ l. Reached d (shown_over (setting d image waits lines) l) modules) same reached) in
+    let all : AreDriven (drives_of d image waits lines) d.plans d.nets rows x.0 = subst (λ l. AreDriven (drives_of d image waits lines) d.plans d.nets l x.0) (sym same) x.1 in (
       x.0,
       all,
-      promise d image waits rows x.0 can are all,
+      promise d image waits lines rows x.0 can are all,
       ap (λ l. slice_get l k) x.2 ∙ is,
     )
-
-pub driven_port : (d : Design) (image waits : List ℕ) (lines : Option (List ℕ)) → lines ≡ None → (rows earlier : List Row) (row : Row) (modules : List Driver) (k value : ℕ) → rows ≡ row ∷ earlier → IsRunnable d image → ShownLaw → NetsLaw → PromiseLaw
-    → length d.plans ≡ length d.nets → AreRows (setting d image waits lines) rows → Reached d (shown_over (setting d image waits lines) rows) modules → slice_get (ports_shown modules) k ≡ Some value
-    → (runs : List (List (List ℕ))) × AreDriven (drives_of d image waits None []) d.nets rows runs × AllPromised (drives_of d image waits None []) d.nets rows runs × (slice_get (port_values d.nets runs (length earlier)) k ≡ Some value)
-driven_port d image waits None none = driven_plain d image waits
-driven_port d image waits (Some lines) none = absurd (none-some lines (sym none))

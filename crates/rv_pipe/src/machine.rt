@@ -168,13 +168,13 @@ impl<'a> Machine<'a> {
     }
 
     /// What port k shows in the last row, the ports of the design's modules counted in their order, the inputs of each before its outputs: 0 before the first row. Wherever a token
-    /// stands at the time of an output, and its cell is neither flushed nor due to stop nor waits for what it reads, that output shows the value of the sequential run at its place; of
-    /// a machine with an interrupt line this is not proved. Takes no memory.
+    /// stands at the time of an output, and its cell is neither flushed nor due to stop nor waits for what it reads, that output shows the value of the sequential run at its place. With
+    /// an interrupt line that is the run that goes to the handler where the rows before the last one took an interrupt. Takes no memory.
     pub fn port(&self, k: u32) -> Bits
         requires inside { k < length (ports_of self.now.setting.design.nets) }
         ensures value { slice_get (ports_shown self.now.modules) k ≡ Some result.raw }
         ensures width { (p : Port) → slice_get (ports_of self.now.setting.design.nets) k ≡ Some p → result.width ≡ p.width }
-        ensures driven { (row : TraceRow) (earlier : List TraceRow) → self.now.setting.lines ≡ None → self.now.rows ≡ row ∷ earlier → IsRunnable self.now.setting.design self.now.setting.image → (runs : List (List (List ℕ))) × AreDriven (drives_of self.now.setting.design self.now.setting.image self.now.setting.waits None []) self.now.setting.design.nets self.now.rows runs × AllPromised (drives_of self.now.setting.design self.now.setting.image self.now.setting.waits None []) self.now.setting.design.nets self.now.rows runs × (slice_get (port_values self.now.setting.design.nets runs (length earlier)) k ≡ Some result.raw) }
+        ensures driven { (row : TraceRow) (earlier : List TraceRow) → self.now.rows ≡ row ∷ earlier → IsRunnable self.now.setting.design self.now.setting.image → (runs : List (List (List ℕ))) × AreDriven (drives_of self.now.setting.design self.now.setting.image self.now.setting.waits self.now.setting.lines) self.now.setting.design.plans self.now.setting.design.nets self.now.rows runs × AllPromised (drives_of self.now.setting.design self.now.setting.image self.now.setting.waits self.now.setting.lines) self.now.setting.design.plans self.now.setting.design.nets self.now.rows runs × (slice_get (port_values self.now.setting.design.nets runs (length earlier)) k ≡ Some result.raw) }
     {
         rows_laws();
         nets_law();

@@ -16,6 +16,8 @@ mod ReadsRoots
 mod ReadsBlocks
 mod ReadsGraphs
 mod LivesInputs
+mod LivesFrame
+mod LivesEnables
 mod LivesRows
 mod LivesLife
 mod LivesShown

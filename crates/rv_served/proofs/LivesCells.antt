@@ -11,13 +11,13 @@ use Rattle.rv_trace.specs.declared.row.Cell.{Cell}
 use Rattle.rv_trace.specs.declared.row.Row.{Row}
 use Rattle.rv_trace.specs.RowParts.{leaves, name_of}
 use Rattle.rv_lawful.specs.Settings.{Setting, Stands, stages_of, is_tail, tailed}
-use Rattle.rv_lawful.specs.LawfulTrace.{Lawful}
 use Rattle.rv_ports.specs.declared.modules.Module.{Module}
 use Rattle.rv_ports.specs.declared.shown.Shown.{Shown}
 use Rattle.rv_ports.specs.Drives.{Drives}
 use Rattle.rv_ports.specs.Seats.{seat_in, time_of, shown_by}
 use Rattle.rv_ports.specs.Inputs.{module_of, seat_at, moves_on, is_own, last_seat, is_tailed, stands_still, enable_value}
 use Rattle.rv_served.specs.Lives.{IsCellAt}
+use Rattle.rv_served.proofs.LivesFrame.{Framed}
 use Rattle.rv_served.proofs.LivesRows.{Before, held, went, new, held_stays}
 use Rattle.rv_served.proofs.LivesShown.{equal_true, no_move, some_move, own_number_is, seat_there, enable_below, enable_above, Tells, step_on, step_off}
 use Rattle.rv_served.proofs.LivesTails.{tail_here, tailed_low, time_low, time_last, stands_within}
@@ -142,7 +142,7 @@ module _ (d : Drives) (n : ℕ) (p : Plan) (net : Net) (last : ℕ) (core : IsCo
   not_both : (mode : Mode) → mode ≡ Tight → mode ≡ Decoupled → ⊥
   not_both mode e f = cc
 
-  module _ (past : Row) (older : List Row) (values : List ℕ) (going : past.stop ≡ None) (tells : Tells net values m (shown_by d older past) last) (lawful : Lawful (λ ps. k) (past ∷ older))
+  module _ (past : Row) (older : List Row) (values : List ℕ) (going : past.stop ≡ None) (tells : Tells net values m (shown_by d older past) last) (lawful : Framed k (past ∷ older))
       (s word : ℕ) (untailed : Untailed (past ∷ older) s word) (row : Row) where
     -- the token of the row
     module _ (v : ℕ) (high : v ≤ last) (token : IsCellToken d n (past ∷ older) row s word v) where

@@ -138,14 +138,14 @@ own_decoded None n e = cc
 own_decoded (Some (D.Base b)) n e = cc
 own_decoded (Some (D.Own i)) n e = ap (λ z. Some (D.Own z)) (some_number i n e)
 
-module _ (d : Design) (image waits : List ℕ) (stands : Stands d) (n : ℕ) (p : Plan) (net : Net) (plan : slice_get d.plans n ≡ Some p) (net_is : slice_get d.nets n ≡ Some net) where
+module _ (d : Design) (image waits : List ℕ) (lines : Option (List ℕ)) (ps : List ℕ) (stands : Stands d) (n : ℕ) (p : Plan) (net : Net) (plan : slice_get d.plans n ≡ Some p) (net_is : slice_get d.nets n ≡ Some net) where
   abbrev x : ExtensionTree
   x = view_extension d.extension
 
   abbrev drives : Drives
-  drives = drives_of d image waits None []
+  drives = drives_of d image waits lines ps
 
-  pub core_is : IsCore (drives_of d image waits None []).setting
+  pub core_is : IsCore (drives_of d image waits lines ps).setting
   core_is =
       let law = d.sheet.shape.lawful in
       let a = law.memory_late in

@@ -24,10 +24,10 @@ use Rattle.ix_ports.specs.Ports.{enable_name, input_name, enable_port, enable_po
 use Rattle.rv_trace.specs.declared.row.Row.{Row}
 use Rattle.rv_ports.specs.declared.modules.Module.{Module}
 use Rattle.rv_ports.specs.declared.shown.Shown.{Shown}
-use Rattle.rv_ports.specs.Drives.{Drives}
+use Rattle.rv_lawful.specs.Entering.{places}
 use Rattle.rv_ports.specs.Seats.{shown_by}
 use Rattle.rv_ports.specs.Inputs.{bit, enable_value, enable_values, read_values, inputs_by, module_of}
-use Rattle.rv_ports.specs.Driven.{inputs_over}
+use Rattle.rv_ports.specs.Driven.{Driving, inputs_over}
 
 -- ---- where an enable stands among the inputs
 
@@ -144,35 +144,35 @@ module _ (m : Module) (p : Plan) (net : Net) (w : Shown) (values : List ℕ)
 
 -- ---- rows from the newest, cycles from the oldest
 
-module _ (d : Drives) (n : ℕ) (p : Plan) where
-  pub over_length : (rows : List Row) → length (inputs_over d n p rows) ≡ length rows
+module _ (by : Driving) (n : ℕ) (p : Plan) where
+  pub over_length : (rows : List Row) → length (inputs_over by n p rows) ≡ length rows
   unfolding inputs_over
   over_length [] = refl
   over_length (row ∷ earlier) =
-      let l = length-append (inputs_over d n p earlier) (inputs_by (module_of d n p) p (shown_by d earlier row) ∷ []) in
+      let l = length-append (inputs_over by n p earlier) (inputs_by (module_of (by (places earlier)) n p) p (shown_by (by (places earlier)) earlier row) ∷ []) in
       let rest = over_length earlier in
       omega (arith, l, rest)
 
   -- the row behind so many has the inputs of that cycle
-  over_at : (newer older : List Row) (row : Row) → get_or (inputs_over d n p (newer ++ (row ∷ older))) (length older) [] ≡ inputs_by (module_of d n p) p (shown_by d older row)
+  over_at : (newer older : List Row) (row : Row) → get_or (inputs_over by n p (newer ++ (row ∷ older))) (length older) [] ≡ inputs_by (module_of (by (places older)) n p) p (shown_by (by (places older)) older row)
   unfolding inputs_over
   over_at [] older row =
-      let x : List ℕ = inputs_by (module_of d n p) p (shown_by d older row) in
-      ap (λ i. get_or (inputs_over d n p older ++ x ∷ []) i []) (sym (over_length older)) ∙ get_or-append_seam (inputs_over d n p older) x [] []
+      let x : List ℕ = inputs_by (module_of (by (places older)) n p) p (shown_by (by (places older)) older row) in
+      ap (λ i. get_or (inputs_over by n p older ++ x ∷ []) i []) (sym (over_length older)) ∙ get_or-append_seam (inputs_over by n p older) x [] []
   over_at (next ∷ newer) older row =
       let all : List Row = newer ++ (row ∷ older) in
       let l = over_length all in
       let q = length-append newer (row ∷ older) in
-      get_or_append_left (inputs_over d n p all) (inputs_by (module_of d n p) p (shown_by d all next) ∷ []) [] (length older) (omega (arith, l, q)) ∙ over_at newer older row
+      get_or_append_left (inputs_over by n p all) (inputs_by (module_of (by (places all)) n p) p (shown_by (by (places all)) all next) ∷ []) [] (length older) (omega (arith, l, q)) ∙ over_at newer older row
 
-  pub cycles_length : (net : Net) (cycles : List (List ℕ)) (rows : List Row) → map (inputs_of net) cycles ≡ inputs_over d n p rows → length cycles ≡ length rows
+  pub cycles_length : (net : Net) (cycles : List (List ℕ)) (rows : List Row) → map (inputs_of net) cycles ≡ inputs_over by n p rows → length cycles ≡ length rows
   cycles_length net cycles rows e = sym (mapped cycles) ∙ ap (λ (l : List (List ℕ)). length l) e ∙ over_length rows where
     mapped : (l : List (List ℕ)) → length (map (inputs_of net) l) ≡ length l
     mapped [] = refl
     mapped (x ∷ l) = ap suc (mapped l)
 
-  pub driven_at : (net : Net) (cycles : List (List ℕ)) (newer older : List Row) (row : Row) → map (inputs_of net) cycles ≡ inputs_over d n p (newer ++ (row ∷ older)) →
-      inputs_of net (cycle_at cycles (length older)) ≡ inputs_by (module_of d n p) p (shown_by d older row)
+  pub driven_at : (net : Net) (cycles : List (List ℕ)) (newer older : List Row) (row : Row) → map (inputs_of net) cycles ≡ inputs_over by n p (newer ++ (row ∷ older)) →
+      inputs_of net (cycle_at cycles (length older)) ≡ inputs_by (module_of (by (places older)) n p) p (shown_by (by (places older)) older row)
   driven_at net cycles newer older row e =
       let l = cycles_length net cycles (newer ++ (row ∷ older)) e in
       let q = length-append newer (row ∷ older) in

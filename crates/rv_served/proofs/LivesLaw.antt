@@ -1,5 +1,5 @@
 -- Each token that is watched has had a life in its module.
-use Rattle.std.proofs.Common.{◌≡◌, ℕ, suc, ◌≤◌, List, [], ◌∷◌, ◌++◌, map, length, append_assoc, Option, Some, None, true, refl, sym, ap, ◌∙◌, arith, inl, inr, ◌⊎◌}
+use Rattle.std.proofs.Common.{◌≡◌, ℕ, suc, ◌<◌, ◌≤◌, List, [], ◌∷◌, ◌++◌, map, length, append_assoc, Option, Some, None, true, refl, sym, ap, ◌∙◌, arith, inl, inr, ◌⊎◌}
 use Rattle.std.specs.Prelude.{slice_get}
 use Rattle.std.proofs.lemmas.Bool.{cases_lt}
 use Rattle.ix_behaviour.specs.Laws.{FewLaw}
@@ -15,9 +15,10 @@ use Rattle.ix_ports.specs.Ports.{last_from}
 use Rattle.ix_standing.specs.Standing.{Stands as StandsFor}
 use Rattle.rv_trace.specs.declared.row.Cell.{Cell}
 use Rattle.rv_trace.specs.declared.row.Row.{Row}
+use Rattle.rv_lawful.specs.Entering.{places}
 use Rattle.rv_lawful.specs.Settings.{Setting, tailed}
 use Rattle.rv_lawful.specs.Outstanding.{units_after}
-use Rattle.rv_lawful.specs.LawfulTrace.{Lawful, LawfulRow, IsWordOf}
+use Rattle.rv_lawful.specs.LawfulTrace.{IsWordOf}
 use Rattle.rv_ports.specs.declared.modules.Module.{Module}
 use Rattle.rv_ports.specs.Drives.{Drives, drives_of}
 use Rattle.rv_ports.specs.Driven.{inputs_over, IsDriven}
@@ -26,6 +27,8 @@ use Rattle.rv_ports.specs.Inputs.{module_of, is_number, is_token}
 use Rattle.rv_served.specs.Promise.{IsInUnit}
 use Rattle.rv_served.specs.Lives.{IsTokenAt, IsWatched, HasLife}
 use Rattle.rv_served.proofs.LivesInputs.{cycles_length, driven_at, enable_set, enable_clear}
+use Rattle.rv_served.proofs.LivesFrame.{IsFramed, Framed}
+use Rattle.rv_served.proofs.LivesEnables.{tells_there}
 use Rattle.rv_served.proofs.LivesRows.{Before, held, went, new, stood, none_before, one_word}
 use Rattle.rv_served.proofs.LivesTails.{tailed_none, time_low}
 use Rattle.rv_served.proofs.LivesShown.{Tells, equal_of}
@@ -38,9 +41,9 @@ number_of : (o : Option ℕ) (n : ℕ) → is_number o n ≡ true → o ≡ Some
 number_of None n e = cc
 number_of (Some i) n e = ap (λ z. Some z) (equal_of i n e)
 
-module _ (few : FewLaw) (times : TimesLaw) (d : Design) (image waits : List ℕ) (stands : StandsFor d) (n : ℕ) (p : Plan) (net : Net) (plan : slice_get d.plans n ≡ Some p) (net_is : slice_get d.nets n ≡ Some net) where
+module _ (few : FewLaw) (times : TimesLaw) (d : Design) (image waits : List ℕ) (lines : Option (List ℕ)) (ps : List ℕ) (stands : StandsFor d) (n : ℕ) (p : Plan) (net : Net) (plan : slice_get d.plans n ≡ Some p) (net_is : slice_get d.nets n ≡ Some net) where
   abbrev x : Drives
-  x = drives_of d image waits None []
+  x = drives_of d image waits lines ps
 
   abbrev k : Setting
   k = x.setting
@@ -49,33 +52,37 @@ module _ (few : FewLaw) (times : TimesLaw) (d : Design) (image waits : List ℕ)
   m = module_of x n p
 
   core : IsCore k
-  core = core_is d image waits stands n p net plan net_is
+  core = core_is d image waits lines ps stands n p net plan net_is
+
+  some_stage : 0 < k.shape.stages
+  some_stage = (let a = core.ex_last in omega (arith, a))
 
   few_times : p.last ≤ 64
-  few_times = last_few d image waits stands n p net plan net_is times
+  few_times = last_few d image waits lines ps stands n p net plan net_is times
 
   last_same : p.last ≡ last_from m.shape.rd p.times
-  last_same = last_is d image waits stands n p net plan net_is
+  last_same = last_is d image waits lines ps stands n p net plan net_is
 
   bare : AreBare k.units
   bare = bare_first d.sheet.shape.stages d.plans
 
-  module _ (whole : List Row) (cycles : List (List ℕ)) (inputs : map (inputs_of net) cycles ≡ inputs_over x n p whole) where
+  module _ (whole : List Row) (cycles : List (List ℕ)) (inputs : map (inputs_of net) cycles ≡ inputs_over (drives_of d image waits lines) n p whole) where
     -- in the cycle of a row the enables tell what the row shows
     tells_at : (newer older : List Row) (row : Row) → whole ≡ newer ++ (row ∷ older) → Tells net (cycle_at cycles (length older)) m (shown_by x older row) p.last
     tells_at newer older row e =
         let values = cycle_at cycles (length older) in
-        let w = shown_by x older row in
-        let same = inputs_are d image waits stands n p net plan net_is in
-        let driven = driven_at x n p net cycles newer older row (inputs ∙ ap (inputs_over x n p) e) in
+        let there = drives_of d image waits lines (places older) in
+        let w = shown_by there older row in
+        let same = inputs_are d image waits lines ps stands n p net plan net_is in
+        let driven = driven_at (drives_of d image waits lines) n p net cycles newer older row (inputs ∙ ap (inputs_over (drives_of d image waits lines) n p) e) in
         let b = few_times in
         let l = last_same in
         let bound : last_from m.shape.rd p.times ≤ 64 = omega (arith, b, l) in
         let low : m.shape.rd ≤ 64 = (let a = core.rd_ex in let c = core.ex_last in let y = core.most in omega (arith, a, c, y)) in
-        record {
+        tells_there d image waits lines (places older) ps older row net values m p.last core.most some_stage (record {
           set = λ t lo hi on. enable_set m p net w values same driven bound low t lo (omega (arith, hi, l)) on;
           clear = λ t small off. enable_clear m p net w values same driven bound low t small off;
-        }
+        })
 
     module _ (s word : ℕ) where
       abbrev Token : List Row → Row → ℕ → Type 0
@@ -86,20 +93,20 @@ module _ (few : FewLaw) (times : TimesLaw) (d : Design) (image waits : List ℕ)
       token_stands earlier row v (inr u) = inr u
 
       -- no token stands in the first row
-      none_first : (row : Row) → LawfulRow k [] row → (v : ℕ) → Token [] row v → ⊥
+      none_first : (row : Row) → IsFramed k [] row → (v : ℕ) → Token [] row v → ⊥
       unfolding units_after
       none_first row law v (inr u) = bare u.unit u.slots u.after s u.at u.stands
-      none_first row law v (inl c) = by_before (stood k [] row law.moves c.at.stage c.at.cell c.at.stands) where
+      none_first row law v (inl c) = by_before (stood k [] row law c.at.stage c.at.cell c.at.stands) where
         by_before : Before k [] c.at.stage c.at.cell → ⊥
         by_before (held b e f g h alone) = none_before k c.at.stage b e
         by_before (went i z b e f g h l) = none_before k i b e
         by_before (new z q o) = (let a = c.late in let b = core.rd_pos in omega (arith, a, b, z))
 
       -- nothing with a mode that is not Tight was held by Tail
-      untailed_in : (rows : List Row) → Lawful (λ ps. k) rows → ((w : ℕ) → IsWordOf k rows s w → w ≡ word) → (p.mode ≡ Tight → ⊥) → x.number word ≡ Some n → tailed k rows s ≡ 0
-      untailed_in rows law only other own = tailed_none k rows law s (λ w y. own_tail d image waits stands n p net plan net_is w (ap x.number (only w y) ∙ own) other)
+      untailed_in : (rows : List Row) → Framed k rows → ((w : ℕ) → IsWordOf k rows s w → w ≡ word) → (p.mode ≡ Tight → ⊥) → x.number word ≡ Some n → tailed k rows s ≡ 0
+      untailed_in rows law only other own = tailed_none k rows law s (λ w y. own_tail d image waits lines ps stands n p net plan net_is w (ap x.number (only w y) ∙ own) other)
 
-      turn_at : (row past : Row) (older newer : List Row) → whole ≡ newer ++ (row ∷ past ∷ older) → Lawful (λ ps. k) (row ∷ past ∷ older) → RetiresWords k (past ∷ older) → ((w : ℕ) → IsWordOf k (row ∷ past ∷ older) s w → w ≡ word) →
+      turn_at : (row past : Row) (older newer : List Row) → whole ≡ newer ++ (row ∷ past ∷ older) → Framed k (row ∷ past ∷ older) → RetiresWords k (past ∷ older) → ((w : ℕ) → IsWordOf k (row ∷ past ∷ older) s w → w ≡ word) →
           (v : ℕ) → v ≤ p.last → Token (past ∷ older) row v → Turn x m net cycles s word Token p.last token_stands (past ∷ older) row v
       turn_at row past older newer e law words only v high token = by_token token where
         one : newer ++ (row ∷ past ∷ older) ≡ (newer ++ row ∷ []) ++ (past ∷ older)
@@ -110,14 +117,14 @@ module _ (few : FewLaw) (times : TimesLaw) (d : Design) (image waits : List ℕ)
 
         by_token : Token (past ∷ older) row v → Turn x m net cycles s word Token p.last token_stands (past ∷ older) row v
         by_token (inl c) = elim (cell_turn x n p net p.last core few_times past older (cycle_at cycles (length older)) law.1 tells law.2 s word (untailed_in (past ∷ older) law.2 (λ w y. only w (inr y))) row v high c
-            (stood k (past ∷ older) row law.0.moves c.at.stage c.at.cell c.at.stands)) [
+            (stood k (past ∷ older) row law.0 c.at.stage c.at.cell c.at.stands)) [
               | inl q ↦ inl q
               | inr y ↦ inr (y.0, inl y.1, y.2, y.3)
             ]
         by_token (inr u) =
-            unit_turn x n p net p.last core few_times past older (cycle_at cycles (length older)) law.1 tells row law words bare s word (untailed_in older law.2.2 (λ w y. only w (inr (inr y)))) v high u (of_unit d image waits stands n p net plan net_is few u.unit u.own)
+            unit_turn x n p net p.last core few_times past older (cycle_at cycles (length older)) law.1 tells row law words bare s word (untailed_in older law.2.2 (λ w y. only w (inr (inr y)))) v high u (of_unit d image waits lines ps stands n p net plan net_is few u.unit u.own)
 
-      turns_of : (rows newer : List Row) → whole ≡ newer ++ rows → Lawful (λ ps. k) rows → RetiresWords k rows → ((w : ℕ) → IsWordOf k rows s w → w ≡ word) → Turns x m net cycles s word Token p.last token_stands rows
+      turns_of : (rows newer : List Row) → whole ≡ newer ++ rows → Framed k rows → RetiresWords k rows → ((w : ℕ) → IsWordOf k rows s w → w ≡ word) → Turns x m net cycles s word Token p.last token_stands rows
       turns_of [] newer e law words only = tt
       turns_of (row ∷ []) newer e law words only = (λ v high token. absurd (none_first row law.0 v token), tt)
       turns_of (row ∷ past ∷ older) newer e law words only = (
@@ -127,7 +134,7 @@ module _ (few : FewLaw) (times : TimesLaw) (d : Design) (image waits : List ℕ)
 
     -- ---- what is watched
 
-    module _ (row : Row) (earlier : List Row) (law : Lawful (λ ps. k) (row ∷ earlier)) (s word t : ℕ) (low : m.shape.rd ≤ t) where
+    module _ (row : Row) (earlier : List Row) (law : Framed k (row ∷ earlier)) (s word t : ℕ) (low : m.shape.rd ≤ t) where
       own_of : (mode : Mode) (stage : ℕ) (c : Cell) → is_token m.shape n mode (seat_of x earlier row stage c) ≡ true → c.word ≡ word → time_of k earlier stage c ≡ t → (x.number word ≡ Some n) ⊎ (t ≤ k.shape.ex)
       own_of InPipeline stage c e w q = inl (sym (ap x.number w) ∙ number_of (x.number c.word) n e)
       own_of Tight stage c e w q = inl (sym (ap x.number w) ∙ number_of (x.number c.word) n e)
@@ -151,11 +158,11 @@ module _ (few : FewLaw) (times : TimesLaw) (d : Design) (image waits : List ℕ)
       watched_word (inr u) = u.word_is
       watched_word (inl c) = inl (c.in_stage.stage, c.cell, c.in_stage.stands, c.serial, c.word_is)
 
-  pub has_life : (row : Row) (earlier : List Row) (cycles : List (List ℕ)) → IsDriven x n p net (row ∷ earlier) cycles → Lawful (λ ps. k) (row ∷ earlier) → RetiresWords k (row ∷ earlier) → (s word t : ℕ) → IsWatched x m earlier row s word t →
+  pub has_life : (row : Row) (earlier : List Row) (cycles : List (List ℕ)) → IsDriven (drives_of d image waits lines) n p net (row ∷ earlier) cycles → Framed k (row ∷ earlier) → RetiresWords k (row ∷ earlier) → (s word t : ℕ) → IsWatched x m earlier row s word t →
       m.shape.rd ≤ t → t ≤ p.last → HasLife x m net (row ∷ earlier) cycles s word t
   has_life row earlier cycles driven law words s word t watched low high =
       let whole : List Row = row ∷ earlier in
-      let size = cycles_length x n p net cycles whole driven.inputs in
+      let size = cycles_length (drives_of d image waits lines) n p net cycles whole driven.inputs in
       let known = watched_word whole cycles driven.inputs row earlier law s word t low watched in
       let only : (w : ℕ) → IsWordOf k whole s w → w ≡ word = λ w y. one_word k whole law s w word y known in
       lives x m net cycles s word (Token whole cycles driven.inputs s word) p.last (token_stands whole cycles driven.inputs s word) earlier row (omega (arith, size))

@@ -8,7 +8,8 @@ use Rattle.rv_trace.specs.declared.row.Row.{Row}
 use Rattle.rv_trace.specs.Trace.{has_serial, newest}
 use Rattle.rv_trace.specs.RowParts.{Name, name_of, names_of, stays, leaves, front, fetched, comes, serial_after, InStage, MovesInto}
 use Rattle.rv_lawful.specs.Settings.{Setting, stages_of, Stands}
-use Rattle.rv_lawful.specs.LawfulTrace.{Moves, Lawful, IsWordOf, next_serial, fetch_address, new_cell}
+use Rattle.rv_lawful.specs.LawfulTrace.{IsWordOf, next_serial}
+use Rattle.rv_served.proofs.LivesFrame.{IsFramed, Framed}
 use Rattle.rv_seq.specs.Steps.{word_at}
 
 -- ---- from one list of cells to the next
@@ -118,7 +119,7 @@ pub data Before (k : Setting) (earlier : List Row) (n : ℕ) (c : Cell) : Type 0
   held : (b : Cell) → Stands k (newest earlier) n b → b.serial ≡ c.serial → b.word ≡ c.word → IsHeld (newest earlier) b
       → ((i : ℕ) (o : Option Cell) → suc i ≡ n → slice_get (stages_of k (newest earlier)) i ≡ Some o → leaves (newest earlier) o ≡ None) → Before k earlier n c
   went : (i : ℕ) → suc i ≡ n → (b : Cell) → Stands k (newest earlier) i b → b.serial ≡ c.serial → b.word ≡ c.word → is_some b.hold ≡ false → leaves (newest earlier) (Some b) ≡ name_of (Some c) → Before k earlier n c
-  new : n ≡ 0 → c.serial ≡ next_serial k earlier → word_at k.image (fetch_address k earlier) ≡ Some c.word → Before k earlier n c
+  new : n ≡ 0 → c.serial ≡ next_serial k earlier → (a : ℕ) × (word_at k.image a ≡ Some c.word) → Before k earlier n c
 
 new_serial : (o n : Option Name) (x : Name) → comes o n ≡ Some x → n ≡ Some x
 new_serial None n x e = e
@@ -132,9 +133,9 @@ fetched_word : (serial at : ℕ) (o : Option ℕ) (x : Name) → fetched serial 
 fetched_word serial at None x e = cc
 fetched_word serial at (Some word) x e = ap (λ (y : Name). Some y.2) (some_same (serial, at, word) x e)
 
-pub stood : (k : Setting) (earlier : List Row) (row : Row) → Moves k earlier row → (n : ℕ) (c : Cell) → Stands k row n c → Before k earlier n c
-stood k earlier row moves n c e = by_case (came_at (newest earlier) (comes (stays (newest earlier) (front (stages_of k (newest earlier)))) (new_cell k earlier)) (stages_of k (newest earlier)) (names_of (stages_of k row)) moves n (c.serial, c.at, c.word) (named_at (stages_of k row) n (Some c) e)) where
-  by_case : Came (newest earlier) (comes (stays (newest earlier) (front (stages_of k (newest earlier)))) (new_cell k earlier)) (stages_of k (newest earlier)) n (c.serial, c.at, c.word) → Before k earlier n c
+pub stood : (k : Setting) (earlier : List Row) (row : Row) → IsFramed k earlier row → (n : ℕ) (c : Cell) → Stands k row n c → Before k earlier n c
+stood k earlier row h n c e = by_case (came_at (newest earlier) (comes (stays (newest earlier) (front (stages_of k (newest earlier)))) (fetched (next_serial k earlier) h.address (word_at k.image h.address))) (stages_of k (newest earlier)) (names_of (stages_of k row)) h.moves n (c.serial, c.at, c.word) (named_at (stages_of k row) n (Some c) e)) where
+  by_case : Came (newest earlier) (comes (stays (newest earlier) (front (stages_of k (newest earlier)))) (fetched (next_serial k earlier) h.address (word_at k.image h.address))) (stages_of k (newest earlier)) n (c.serial, c.at, c.word) → Before k earlier n c
   by_case (stayed b g s alone none) =
       let x = stays_held (newest earlier) b (c.serial, c.at, c.word) s in
       held b g (same_serial b c x.1) (same_word b c x.1) x.0 alone
@@ -143,8 +144,8 @@ stood k earlier row moves n c e = by_case (came_at (newest earlier) (comes (stay
       went i z b g (same_serial b c x.1) (same_word b c x.1) x.0 l
   by_case (fresh z f) =
       let x : Name = (c.serial, c.at, c.word) in
-      let f2 : new_cell k earlier ≡ Some x = new_serial (stays (newest earlier) (front (stages_of k (newest earlier)))) (new_cell k earlier) x f in
-      new z (fetched_serial (next_serial k earlier) (fetch_address k earlier) (word_at k.image (fetch_address k earlier)) x f2) (fetched_word (next_serial k earlier) (fetch_address k earlier) (word_at k.image (fetch_address k earlier)) x f2)
+      let f2 : fetched (next_serial k earlier) h.address (word_at k.image h.address) ≡ Some x = new_serial (stays (newest earlier) (front (stages_of k (newest earlier)))) (fetched (next_serial k earlier) h.address (word_at k.image h.address)) x f in
+      new z (fetched_serial (next_serial k earlier) h.address (word_at k.image h.address) x f2) (h.address, fetched_word (next_serial k earlier) h.address (word_at k.image h.address) x f2)
 
 -- ---- serials fall from stage to stage
 
@@ -170,7 +171,7 @@ front_there : (l : List (Option Cell)) (f : Cell) → front l ≡ Some f → sli
 front_there [] f q = cc
 front_there (a ∷ l) f q = ap (λ o. Some o) q
 
-module _ (k : Setting) (row : Row) (earlier : List Row) (moves : Moves k earlier row) (before : IsOrdered k earlier) where
+module _ (k : Setting) (row : Row) (earlier : List Row) (moves : IsFramed k earlier row) (before : IsOrdered k earlier) where
   -- the serial is that of a fetch before this one, where it is not new
   was_below : (n : ℕ) (c : Cell) → Before k earlier n c → (c.serial < next_serial k earlier) ⊎ ((n ≡ 0) × (c.serial ≡ next_serial k earlier))
   was_below n c (held b g s w h alone) = (let l = before.below n b g in inl (omega (arith, l, s)))
@@ -236,17 +237,17 @@ module _ (k : Setting) (row : Row) (earlier : List Row) (moves : Moves k earlier
   pub serial_before : (n : ℕ) (c : Cell) → Stands k row n c → next_serial k earlier ≤ c.serial → n ≡ 0
   serial_before n c e le = elim (was_below n c (stood k earlier row moves n c e)) [ inl l ↦ absurd (omega (arith, l, le)) | inr y ↦ y.0 ]
 
-pub ordered : (k : Setting) (rows : List Row) → Lawful (λ ps. k) rows → IsOrdered k rows
+pub ordered : (k : Setting) (rows : List Row) → Framed k rows → IsOrdered k rows
 ordered k [] h = record { below = λ n c e. absurd (none_before k n c e); falls = λ a b c d lt e f. absurd (none_before k a c e); first = λ c e. absurd (none_before k 0 c e) }
-ordered k (row ∷ earlier) h = ordered_next k row earlier h.0.moves (ordered k earlier h.2)
+ordered k (row ∷ earlier) h = ordered_next k row earlier h.0 (ordered k earlier h.2)
 
 -- ---- a serial has one word
 
 -- what was named is below the next serial
-pub known_below : (k : Setting) (rows : List Row) → Lawful (λ ps. k) rows → (s word : ℕ) → IsWordOf k rows s word → s < next_serial k rows
+pub known_below : (k : Setting) (rows : List Row) → Framed k rows → (s word : ℕ) → IsWordOf k rows s word → s < next_serial k rows
 known_below k [] h s word y = absurd y
 known_below k (row ∷ earlier) h s word (inl y) = (let l = (ordered k (row ∷ earlier) h).below y.0 y.1 y.2 in let q = y.3 in omega (arith, l, q))
-known_below k (row ∷ earlier) h s word (inr y) = (let l = known_below k earlier h.2 s word y in let q = next_above k row earlier h.0.moves (ordered k earlier h.2) in omega (arith, l, q))
+known_below k (row ∷ earlier) h s word (inr y) = (let l = known_below k earlier h.2 s word y in let q = next_above k row earlier h.0 (ordered k earlier h.2) in omega (arith, l, q))
 
 -- a cell of the newest row has its word in these rows
 pub known_newest : (k : Setting) (rows : List Row) (n : ℕ) (c : Cell) (s word : ℕ) → Stands k (newest rows) n c → c.serial ≡ s → c.word ≡ word → IsWordOf k rows s word
@@ -263,14 +264,14 @@ one_in_row k rows h a b c d e f s = elim (cases_lt a b) [
 ]
 
 -- a cell of a row whose serial was there before had its word before
-carried_word : (k : Setting) (row : Row) (earlier : List Row) → Lawful (λ ps. k) (row ∷ earlier) → (s v : ℕ) → ((n : ℕ) × (c : Cell) × Stands k row n c × (c.serial ≡ s) × (c.word ≡ v)) → (w : ℕ) → IsWordOf k earlier s w → IsWordOf k earlier s v
-carried_word k row earlier h s v y w z = by_before (stood k earlier row h.0.moves y.0 y.1 y.2) where
+carried_word : (k : Setting) (row : Row) (earlier : List Row) → Framed k (row ∷ earlier) → (s v : ℕ) → ((n : ℕ) × (c : Cell) × Stands k row n c × (c.serial ≡ s) × (c.word ≡ v)) → (w : ℕ) → IsWordOf k earlier s w → IsWordOf k earlier s v
+carried_word k row earlier h s v y w z = by_before (stood k earlier row h.0 y.0 y.1 y.2) where
   by_before : Before k earlier y.0 y.1 → IsWordOf k earlier s v
   by_before (held b g e f q alone) = known_newest k earlier y.0 b s v g (e ∙ y.3) (f ∙ y.4)
   by_before (went i q b g e f t l) = known_newest k earlier i b s v g (e ∙ y.3) (f ∙ y.4)
   by_before (new q e o) = (let l = known_below k earlier h.2 s w z in let t = y.3 in absurd (omega (arith, l, e, t)))
 
-pub one_word : (k : Setting) (rows : List Row) → Lawful (λ ps. k) rows → (s v w : ℕ) → IsWordOf k rows s v → IsWordOf k rows s w → v ≡ w
+pub one_word : (k : Setting) (rows : List Row) → Framed k rows → (s v w : ℕ) → IsWordOf k rows s v → IsWordOf k rows s w → v ≡ w
 one_word k [] h s v w y z = absurd y
 one_word k (row ∷ earlier) h s v w (inr y) (inr z) = one_word k earlier h.2 s v w y z
 one_word k (row ∷ earlier) h s v w (inl y) (inl z) =
@@ -282,15 +283,15 @@ one_word k (row ∷ earlier) h s v w (inr y) (inl z) = one_word k earlier h.2 s 
 
 -- ---- words are words of the image
 
-cell_below : (k : Setting) (rows : List Row) → ((at word : ℕ) → word_at k.image at ≡ Some word → word < 2 ^ 32) → Lawful (λ ps. k) rows → (n : ℕ) (c : Cell) → Stands k (newest rows) n c → c.word < 2 ^ 32
+cell_below : (k : Setting) (rows : List Row) → ((at word : ℕ) → word_at k.image at ≡ Some word → word < 2 ^ 32) → Framed k rows → (n : ℕ) (c : Cell) → Stands k (newest rows) n c → c.word < 2 ^ 32
 cell_below k [] image h n c e = absurd (none_before k n c e)
-cell_below k (row ∷ earlier) image h n c e = by_before (stood k earlier row h.0.moves n c e) (λ i b f. cell_below k earlier image h.2 i b f) where
+cell_below k (row ∷ earlier) image h n c e = by_before (stood k earlier row h.0 n c e) (λ i b f. cell_below k earlier image h.2 i b f) where
   by_before : Before k earlier n c → ((i : ℕ) (b : Cell) → Stands k (newest earlier) i b → b.word < 2 ^ 32) → c.word < 2 ^ 32
   by_before (held b f s w g alone) rest = subst (λ z. z < 2 ^ 32) w (rest n b f)
   by_before (went i z b f s w g l) rest = subst (λ z. z < 2 ^ 32) w (rest i b f)
-  by_before (new z s o) rest = image (fetch_address k earlier) c.word o
+  by_before (new z s o) rest = image o.0 c.word o.1
 
-pub word_below : (k : Setting) (rows : List Row) → ((at word : ℕ) → word_at k.image at ≡ Some word → word < 2 ^ 32) → Lawful (λ ps. k) rows → (s word : ℕ) → IsWordOf k rows s word → word < 2 ^ 32
+pub word_below : (k : Setting) (rows : List Row) → ((at word : ℕ) → word_at k.image at ≡ Some word → word < 2 ^ 32) → Framed k rows → (s word : ℕ) → IsWordOf k rows s word → word < 2 ^ 32
 word_below k [] image h s word y = absurd y
 word_below k (row ∷ earlier) image h s word (inl y) = subst (λ z. z < 2 ^ 32) y.4 (cell_below k (row ∷ earlier) image h y.0 y.1 y.2)
 word_below k (row ∷ earlier) image h s word (inr y) = word_below k earlier image h.2 s word y

@@ -7,8 +7,9 @@ use Rattle.rv_trace.specs.declared.row.Hold.TheVariants as H
 use Rattle.rv_trace.specs.declared.row.Row.{Row}
 use Rattle.rv_trace.specs.Trace.{newest}
 use Rattle.rv_lawful.specs.Settings.{Setting, Stands, stages_of, is_tail, has_tail, tailed}
-use Rattle.rv_lawful.specs.LawfulTrace.{Lawful, LawfulRow, TrueHold, WaitsForModule, IsWordOf, next_serial}
+use Rattle.rv_lawful.specs.LawfulTrace.{WaitsForModule, IsWordOf, next_serial}
 use Rattle.rv_ports.specs.Seats.{time_of}
+use Rattle.rv_served.proofs.LivesFrame.{IsFramed, Framed}
 use Rattle.rv_served.proofs.LivesRows.{Before, held, went, new, stood, ordered, none_before, known_below}
 use Rattle.rv_served.proofs.LivesShown.{equal_true, equal_false_up, equal_of}
 
@@ -43,18 +44,14 @@ tailing k row s e = by_slot (slice_get (stages_of k row) (k.shape.stages - 1)) r
     by_test false f g = cc
 
 -- Tail is shown only where a module goes on
-tails_on : (k : Setting) (earlier : List Row) (row : Row) (n : ℕ) (c : Cell) → LawfulRow k earlier row → Stands k row n c → is_tail c.hold ≡ true → (k.asks c.word).tail ≡ 0 → ⊥
+tails_on : (k : Setting) (earlier : List Row) (row : Row) (n : ℕ) (c : Cell) → IsFramed k earlier row → Stands k row n c → is_tail c.hold ≡ true → (k.asks c.word).tail ≡ 0 → ⊥
 tails_on k earlier row n c h e tails none = by_hold c.hold refl tails where
   no_tail : (left : ℕ) → WaitsForModule k earlier row n c left → ⊥
   no_tail left w = (let a = w.still in let b = w.some in omega (arith, a, b, none))
 
-  by_true : (left : ℕ) → TrueHold k earlier row n c (H.Tail left) → ⊥
-  by_true left (inl w) = no_tail left w
-  by_true left (inr w) = cc (w.0)
-
   by_hold : (o : Option Hold) → c.hold ≡ o → is_tail o ≡ true → ⊥
   by_hold None q t = cc
-  by_hold (Some (H.Tail left)) q t = by_true left ((h.holds n c e).shown (H.Tail left) q)
+  by_hold (Some (H.Tail left)) q t = no_tail left (h.tails n c left e q)
   by_hold (Some (H.Operand r j)) q t = cc
   by_hold (Some (H.Board r j)) q t = cc
   by_hold (Some (H.Custom r j)) q t = cc
@@ -70,7 +67,7 @@ tails_on k earlier row n c h e tails none = by_hold c.hold refl tails where
 -- ---- rows
 
 -- a serial whose words have no tail was never held for one
-pub tailed_none : (k : Setting) (rows : List Row) → Lawful (λ ps. k) rows → (s : ℕ) → ((word : ℕ) → IsWordOf k rows s word → (k.asks word).tail ≡ 0) → tailed k rows s ≡ 0
+pub tailed_none : (k : Setting) (rows : List Row) → Framed k rows → (s : ℕ) → ((word : ℕ) → IsWordOf k rows s word → (k.asks word).tail ≡ 0) → tailed k rows s ≡ 0
 unfolding tailed
 tailed_none k [] h s none = refl
 tailed_none k (row ∷ earlier) h s none = by_test (has_tail (slice_get (stages_of k row) (k.shape.stages - 1)) s) refl (tailed_none k earlier h.2 s (λ word y. none word (inr y))) where
@@ -81,10 +78,10 @@ tailed_none k (row ∷ earlier) h s none = by_test (has_tail (slice_get (stages_
       absurd (tails_on k earlier row (k.shape.stages - 1) t.cell h.0 t.stands t.tails (none t.cell.word (inl (k.shape.stages - 1, t.cell, t.stands, t.serial, refl))))
 
 -- nor one that is not known
-pub tailed_new : (k : Setting) (rows : List Row) → Lawful (λ ps. k) rows → (s : ℕ) → next_serial k rows ≤ s → tailed k rows s ≡ 0
+pub tailed_new : (k : Setting) (rows : List Row) → Framed k rows → (s : ℕ) → next_serial k rows ≤ s → tailed k rows s ≡ 0
 tailed_new k rows h s le = tailed_none k rows h s (λ word y. let l = known_below k rows h s word y in absurd (omega (arith, l, le)))
 
-low_next : (k : Setting) (row : Row) (earlier : List Row) → Lawful (λ ps. k) (row ∷ earlier) → (n : ℕ) (c : Cell) → Stands k row n c → suc n < k.shape.stages
+low_next : (k : Setting) (row : Row) (earlier : List Row) → Framed k (row ∷ earlier) → (n : ℕ) (c : Cell) → Stands k row n c → suc n < k.shape.stages
     → ((i : ℕ) (b : Cell) → Stands k (newest earlier) i b → suc i < k.shape.stages → tailed k earlier b.serial ≡ 0) → tailed k (row ∷ earlier) c.serial ≡ 0
 low_next k row earlier h n c e lt rest = by_test (has_tail (slice_get (stages_of k row) (k.shape.stages - 1)) c.serial) refl where
   before : Before k earlier n c → tailed k earlier c.serial ≡ 0
@@ -93,7 +90,7 @@ low_next k row earlier h n c e lt rest = by_test (has_tail (slice_get (stages_of
   before (new z s o) = tailed_new k earlier h.2 c.serial (omega (arith, s))
 
   by_test : (b : Bool) → has_tail (slice_get (stages_of k row) (k.shape.stages - 1)) c.serial ≡ b → tailed k (row ∷ earlier) c.serial ≡ 0
-  by_test false q = tail_step k row earlier c.serial false q ∙ before (stood k earlier row h.0.moves n c e)
+  by_test false q = tail_step k row earlier c.serial false q ∙ before (stood k earlier row h.0 n c e)
   by_test true q =
       let t = tailing k row c.serial q in
       let l = (ordered k (row ∷ earlier) h).falls n (k.shape.stages - 1) c t.cell (omega (arith, lt)) e t.stands in
@@ -101,7 +98,7 @@ low_next k row earlier h n c e lt rest = by_test (has_tail (slice_get (stages_of
       absurd (omega (arith, l, s))
 
 -- nor one that stands below the last stage
-pub tailed_low : (k : Setting) (rows : List Row) → Lawful (λ ps. k) rows → (n : ℕ) (c : Cell) → Stands k (newest rows) n c → suc n < k.shape.stages → tailed k rows c.serial ≡ 0
+pub tailed_low : (k : Setting) (rows : List Row) → Framed k rows → (n : ℕ) (c : Cell) → Stands k (newest rows) n c → suc n < k.shape.stages → tailed k rows c.serial ≡ 0
 tailed_low k [] h n c e lt = absurd (none_before k n c e)
 tailed_low k (row ∷ earlier) h n c e lt = low_next k row earlier h n c e lt (λ i b f l. tailed_low k earlier h.2 i b f l)
 

@@ -9,23 +9,22 @@ use Rattle.ix_plan.specs.declared.design.Plan.{Plan}
 use Rattle.ix_plan.specs.Service.{Moves}
 use Rattle.ix_plan.specs.Units.{Slots, unit_written, frozen_with, serial_for, moved_on, next_from}
 use Rattle.rv_seq.specs.declared.commit.Commit.{Commit}
-use Rattle.rv_seq.specs.declared.commit.Stop.{Stop}
 use Rattle.rv_trace.specs.declared.row.Cell.{Cell}
 use Rattle.rv_trace.specs.declared.row.Hold.{Hold}
-use Rattle.rv_trace.specs.declared.row.Hold.TheVariants as H
 use Rattle.rv_trace.specs.declared.row.Row.{Row}
 use Rattle.rv_trace.specs.Trace.{has_serial}
 use Rattle.rv_trace.specs.RowParts.{leaves, name_of}
 use Rattle.rv_lawful.specs.Settings.{Setting, Stands, stages_of, tailed}
 use Rattle.rv_lawful.specs.Future.{cell_in}
 use Rattle.rv_lawful.specs.Outstanding.{in_unit, entering, units_after}
-use Rattle.rv_lawful.specs.LawfulTrace.{Lawful, LawfulRow, IsWordOf, StopsRun}
+use Rattle.rv_lawful.specs.LawfulTrace.{IsWordOf}
 use Rattle.rv_ports.specs.declared.modules.Module.{Module}
 use Rattle.rv_ports.specs.declared.shown.Shown.{Shown}
 use Rattle.rv_ports.specs.Drives.{Drives}
 use Rattle.rv_ports.specs.Seats.{seat_in, is_frozen, shown_by}
 use Rattle.rv_ports.specs.Inputs.{module_of, seat_at, moves_on, is_number, is_own, last_seat, stands_still, enable_value}
 use Rattle.rv_served.specs.Promise.{IsInUnit}
+use Rattle.rv_served.proofs.LivesFrame.{IsFramed, Framed}
 use Rattle.rv_served.proofs.LivesRows.{known_newest, one_word}
 use Rattle.rv_served.proofs.LivesShown.{equal_true, equal_false, no_move, some_move, own_number_is, seat_is, seat_there, frozen_is, enable_above, Tells, step_on, step_off}
 use Rattle.rv_served.proofs.LivesTails.{time_last}
@@ -131,14 +130,14 @@ pub record IsRetired (k : Setting) (past : Row) (s : ℕ) (word : ℕ) : Type 0 
   pub serial : cell.serial ≡ s
   pub word_is : word ≡ cell.word
 
-pub retired_cell : (k : Setting) (past : Row) (older : List Row) → 0 < k.shape.stages → Lawful (λ ps. k) (past ∷ older) → RetiresWords k (past ∷ older) → (s : ℕ) (c : Commit) → past.retired ≡ Some (s, c) → IsRetired k past s c.word
+pub retired_cell : (k : Setting) (past : Row) (older : List Row) → 0 < k.shape.stages → Framed k (past ∷ older) → RetiresWords k (past ∷ older) → (s : ℕ) (c : Commit) → past.retired ≡ Some (s, c) → IsRetired k past s c.word
 retired_cell k past older pos lawful words s c e =
     let last : suc (k.shape.stages - 1) ≡ k.shape.stages = omega (arith, pos) in
     let x = (lawful.0.retires (k.shape.stages - 1) last).leaver s c e in
     record { stage = k.shape.stages - 1; last = last; cell = x.0; stands = x.1; leaves_is = x.2; serial = x.3; word_is = words.0 s c (k.shape.stages - 1) x.0 e last x.1 x.3 }
 
 -- a serial in a unit has a word in these rows
-pub unit_known : (k : Setting) (rows : List Row) → 0 < k.shape.stages → AreBare k.units → Lawful (λ ps. k) rows → RetiresWords k rows → (u a s : ℕ) (slots : Slots) → slice_get (units_after k rows) u ≡ Some slots → slice_get slots a ≡ Some (Some s)
+pub unit_known : (k : Setting) (rows : List Row) → 0 < k.shape.stages → AreBare k.units → Framed k rows → RetiresWords k rows → (u a s : ℕ) (slots : Slots) → slice_get (units_after k rows) u ≡ Some slots → slice_get slots a ≡ Some (Some s)
     → (word : ℕ) × IsWordOf k rows s word
 unfolding units_after
 unit_known k [] pos bare lawful words u a s slots e f = absurd (bare u slots a s e f)
@@ -189,18 +188,15 @@ module _ (d : Drives) (n : ℕ) (p : Plan) (net : Net) (last : ℕ) (core : IsCo
         ∙ ap (λ (z : Bool). if z then is_own n (last_seat m w) && moves_on (last_seat m w) else not (stands_still w m.unit)) (equal_true (suc t) k.shape.stages e)
 
     -- while the unit is frozen nothing of the behaviour retires
-    module _ (row_lawful : LawfulRow k older past) (old : Slots) (at : slice_get (units_after k older) u ≡ Some old) (frozen : frozen_with u old (unit_written (units_after k older)) ≡ true) where
+    module _ (row_lawful : IsFramed k older past) (old : Slots) (at : slice_get (units_after k older) u ≡ Some old) (frozen : frozen_with u old (unit_written (units_after k older)) ≡ true) where
       stays_out : (t : ℕ) (c : Cell) → suc t ≡ k.shape.stages → Stands k past t c → d.number c.word ≡ Some n → leaves past (Some c) ≡ None
       stays_out t c is_last e own = by_test (is_some c.hold) (has_serial past.flushed c.serial) refl refl where
-        no_stop : (stop : Stop) → StopsRun k older past t c stop → ⊥
-        no_stop stop h = (let a = core.ex_last in let b = h.executing in omega (arith, a, b, is_last))
-
         none_of : (o : Option Hold) → is_some o ≡ false → o ≡ None
         none_of None q = refl
         none_of (Some h) q = cc
 
         full : c.hold ≡ None → has_serial past.flushed c.serial ≡ false → ⊥
-        full q f = (row_lawful.holds t c e).free q f no_stop (H.UnitFull u) (inl (record { last = is_last; enters = of.numbered c.word own; frozen = (old, at, frozen) }))
+        full q f = (let a = core.ex_last in row_lawful.full t c u e (omega (arith, a, is_last)) q f (record { last = is_last; enters = of.numbered c.word own; frozen = (old, at, frozen) }))
 
         by_test : (a b : Bool) → is_some c.hold ≡ a → has_serial past.flushed c.serial ≡ b → (if is_some c.hold || has_serial past.flushed c.serial then None else name_of (Some c)) ≡ None
         by_test true b q f = ap (λ (x : Bool). if x || has_serial past.flushed c.serial then None else name_of (Some c)) q
@@ -263,7 +259,7 @@ module _ (d : Drives) (n : ℕ) (p : Plan) (net : Net) (last : ℕ) (core : IsCo
   TurnedIn past older values s word v = (v ≡ k.shape.rd) ⊎ ((u : ℕ) × IsToken older past s word u × (u ≤ v) × Moves net k.shape.rd values u v)
 
   module _ (past : Row) (older : List Row) (values : List ℕ) (going : past.stop ≡ None) (tells : Tells net values m (shown_by d older past) last)
-      (row : Row) (lawful : Lawful (λ ps. k) (row ∷ past ∷ older)) (words : RetiresWords k (past ∷ older)) (bare : AreBare k.units) (s word : ℕ) (untailed : (p.mode ≡ Tight → ⊥) → d.number word ≡ Some n → tailed k older s ≡ 0)
+      (row : Row) (lawful : Framed k (row ∷ past ∷ older)) (words : RetiresWords k (past ∷ older)) (bare : AreBare k.units) (s word : ℕ) (untailed : (p.mode ≡ Tight → ⊥) → d.number word ≡ Some n → tailed k older s ≡ 0)
       (v : ℕ) (high : v ≤ last) (token : IsInUnit d m (past ∷ older) row v s word) (of : IsOfUnit d n p token.unit) where
     some_stage : 0 < k.shape.stages
     some_stage = (let a = core.ex_last in omega (arith, a))

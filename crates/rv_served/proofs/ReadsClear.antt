@@ -13,12 +13,14 @@ use Rattle.rv_holds.specs.Holds.{withholds, withholder, operand, waits_for, oper
 use Rattle.rv_holds.specs.Flushing.{struck, cleared}
 use Rattle.rv_engine.specs.Settings.{Setting, Machine, shape_of}
 use Rattle.rv_engine.specs.Rows.{waited, going, kept, advanced, fill_first, new_by, loaded_by, turn_by, seen_by, machine_after, IsRowOf}
-use Rattle.rv_machine.specs.Placed.{IsReady, Inv}
+use Rattle.rv_lawful.specs.Entering.{places}
+use Rattle.rv_machine.specs.Placed.{at_places, IsReady, Inv}
 use Rattle.rv_machine.specs.Running.{AreRows, machine_at}
 use Rattle.rv_machine.specs.Told.{Decided, NoStops}
 use Rattle.rv_machine.proofs.Before as B
 use Rattle.rv_machine.proofs.Deciding.{or_else_none, or_else_none_b, if_none, own_none, no_waiting, waits_operand}
 use Rattle.rv_machine.proofs.NextRow as N
+use Rattle.rv_machine.proofs.Carried.{row_at}
 use Rattle.rv_machine.proofs.Promised.{known}
 use Rattle.rv_machine.proofs.Alike.{Alike, alike_withholder}
 
@@ -179,17 +181,29 @@ none_clear : (k : Setting) (stage n : ℕ) → Clear k stage (replicate n None)
 none_clear k stage zero = tt
 none_clear k stage (suc n) = none_clear k (suc stage) n
 
--- after rows of its machine without a stop, what ties it to them
-abbrev pub IsGoing : Setting → Type 0
-IsGoing k = (rows : List Row) → AreRows k rows → (newest rows).stop ≡ None → Inv k rows (machine_at k rows)
+-- it is so at whatever places the run goes to the handler
+same_clear : (k : Setting) (ps qs : List ℕ) (stage : ℕ) (slots : Slots) → Clear (at_places k ps) stage slots → Clear (at_places k qs) stage slots
+same_clear k ps qs stage [] h = tt
+same_clear k ps qs stage (None ∷ older) h = same_clear k ps qs (suc stage) older h
+same_clear k ps qs stage (Some t ∷ older) h = (h.0, same_clear k ps qs (suc stage) older h.1)
 
-pub clear_at : (k : Setting) → IsReady k → IsGoing k → (rows : List Row) → AreRows k rows → (newest rows).stop ≡ None → Clear k 0 (machine_at k rows).slots
+-- after rows of its machine without a stop, what ties it to them, where the run goes to the handler at the places that they name
+abbrev pub IsGoing : Setting → Type 0
+IsGoing k = (rows : List Row) → AreRows k rows → (newest rows).stop ≡ None → Inv (at_places k (places rows)) rows (machine_at k rows)
+
+pub going_of : (k : Setting) → ((ps : List ℕ) → IsReady (at_places k ps)) → IsGoing k
+going_of k ready rows are going = (known k ready rows are).going going
+
+pub clear_at : (k : Setting) → ((ps : List ℕ) → IsReady (at_places k ps)) → IsGoing k → (ps : List ℕ) (rows : List Row) → AreRows k rows → (newest rows).stop ≡ None → Clear (at_places k ps) 0 (machine_at k rows).slots
 unfolding machine_at
-clear_at k ready goes [] are going = none_clear k 0 (shape_of k).stages
-clear_at k ready goes (row ∷ earlier) are going =
+clear_at k ready goes ps [] are going = none_clear (at_places k ps) 0 (shape_of k).stages
+clear_at k ready goes ps (row ∷ earlier) are going =
+    let here = at_places k (places earlier) in
     let m = machine_at k earlier in
     let inv = goes earlier are.2 are.1 in
-    clear_next k ready earlier m row inv are.0 (N.no_stop k ready earlier m row inv are.0 going) (clear_at k ready goes earlier are.2 are.1)
+    let is = row_at k (places earlier) m row are.0 in
+    same_clear k (places earlier) ps 0 (machine_after k m).slots
+    (clear_next here (ready (places earlier)) earlier m row inv is (N.no_stop here (ready (places earlier)) earlier m row inv is going) (clear_at k ready goes (places earlier) earlier are.2 are.1))
 
 further : (k : Setting) (stage n : ℕ) (older : Slots) (t : Token) → operand_hold (shape_of k) (suc (suc stage + n)) older t.asks ≡ None → operand_hold (shape_of k) (suc (stage + suc n)) older t.asks ≡ None
 further k stage n older t h = (let z : suc stage + n ≡ stage + suc n = omega arith in subst (λ b. operand_hold (shape_of k) (suc b) older t.asks ≡ None) z h)

@@ -4,6 +4,7 @@ use Rattle.std.proofs.Common.{◌≡◌, ◌∙◌, refl, sym, ap, subst, ℕ, z
 use Rattle.std.specs.Prelude.{if◌then◌else◌, ◌||◌, ◌==◌, is_some, slice_get, nat_lt}
 use Rattle.std.proofs.lemmas.Bool.{cases_lt, false≢true}
 use Rattle.std.proofs.lemmas.Bool.Decides.{nat_tests}
+use Rattle.rv_seq.specs.declared.arch.Arch.{Arch}
 use Rattle.rv_seq.specs.Steps.{word_at}
 use Rattle.rv_trace.specs.declared.row.Row.{Row}
 use Rattle.rv_trace.specs.Trace.{newest, has_serial, is_flushed, retires, is_retired, place, retirements}
@@ -11,18 +12,22 @@ use Rattle.rv_holds.specs.declared.token.Token.{Token}
 use Rattle.rv_holds.specs.Tokens.{Slots}
 use Rattle.rv_holds.specs.Flushing.{struck}
 use Rattle.rv_engine.specs.Settings.{Setting, Machine}
-use Rattle.rv_engine.specs.Rows.{waited, going, kept, advanced, leaving, fill_first, new_by, loaded_by, turn_by, seen_by, left_by, machine_after, IsRowOf}
-use Rattle.rv_machine.specs.Placed.{run, IsReady, Inv}
+use Rattle.rv_engine.specs.Rows.{waited, going, advanced, leaving, fill_first, new_by, loaded_by, turn_by, seen_by, left_by, entered_by, machine_after, IsRowOf}
+use Rattle.rv_lawful.specs.Entering.{places}
+use Rattle.rv_machine.specs.Placed.{run, count, at_places, IsReady, Inv}
 use Rattle.rv_machine.specs.Running.{AreRows, machine_at}
 use Rattle.rv_machine.specs.Told.{Decided, NoStops}
 use Rattle.rv_machine.proofs.Before as B
+use Rattle.rv_machine.proofs.Carried.{row_at, run_before}
 use Rattle.rv_machine.proofs.Clearing.{cleared_get}
+use Rattle.rv_machine.proofs.Entered.{entry_empties}
+use Rattle.rv_machine.proofs.EntryNext.{more_places}
 use Rattle.rv_machine.proofs.Flushing as F
+use Rattle.rv_machine.proofs.GoesNext.{same_places}
 use Rattle.rv_machine.proofs.Going.{Free}
 use Rattle.rv_machine.proofs.Moving.{free_ahead}
 use Rattle.rv_machine.proofs.NextRow as N
 use Rattle.rv_machine.proofs.Places.{place_le, place_same, flushed_now, unflushed_before, stood}
-use Rattle.rv_machine.proofs.Promised.{known}
 use Rattle.rv_machine.proofs.Alike.{Alike, AlikeSlot, IsAlike}
 use Rattle.rv_machine.proofs.Retiring as R
 
@@ -246,24 +251,69 @@ module _ (k : Setting) (ready : IsReady k) (earlier : List Row) (m : Machine) (r
         place_is = same;
       }
 
+-- ---- past an entry
+
+-- where there is no token
+no_token : (slots : Slots) (i : ℕ) (t : Token) → count slots ≡ 0 → slice_get slots i ≡ Some (Some t) → ⊥
+no_token [] i t none e = cc
+no_token (None ∷ slots) zero t none e = cc
+no_token (None ∷ slots) (suc i) t none e = no_token slots i t none e
+no_token (Some u ∷ slots) i t none e = absurd (omega (arith, none))
+
+module _ (k : Setting) (ready : IsReady k) (earlier : List Row) (m : Machine) (row : Row) (inv : Inv k earlier m) (is : IsRowOf k m row) (least s at word : ℕ) (alive : is_flushed (row ∷ earlier) s ≡ false) where
+  -- as the rows with this one judge it
+  pub record CarriedTo (ps : List ℕ) : Type 0 where
+    pub fate : Fate (at_places k ps) (row ∷ earlier) (machine_after k m).slots least s at word
+    pub run_is : run (at_places k ps) (place (row ∷ earlier) s) ≡ run k (place (row ∷ earlier) s)
+
+  abbrev now : ℕ
+  now = retirements (row ∷ earlier)
+
+  -- where the row takes an interrupt no token is left in a stage, and what was retired has a place before that of the entry
+  past_entry : entered_by k m ≡ true → Fate k (row ∷ earlier) (machine_after k m).slots least s at word → CarriedTo (now ∷ k.places)
+  past_entry e (inl h) = absurd (no_token (machine_after k m).slots h.stage h.token (entry_empties k ready m (B.loaded_length k ready earlier m inv) e) h.there)
+  past_entry e (inr h) =
+      let out = R.retired_now k ready earlier m row inv is in
+      let told : is_retired (row ∷ earlier) s ≡ nat_lt (place (row ∷ earlier) s) now = R.told_retired k ready earlier m row inv is s alive ∙ ap (λ n. nat_lt (place (row ∷ earlier) s) n) (sym out) in
+      let lt : place (row ∷ earlier) s < now = less_of (place (row ∷ earlier) s) now (sym told ∙ h.retired) in
+      let same = run_before k now (place (row ∷ earlier) s) lt in
+      record {
+        fate = inr (record { retired = h.retired; at_is = h.at_is ∙ ap (λ (a : Arch). a.pc) (sym same); word_is = h.word_is });
+        run_is = same;
+      } where
+        less_of : (a b : ℕ) → nat_lt a b ≡ true → a < b
+        less_of a b q = grind (arith, nat_tests)
+
+  -- what became of a token in a row is so as the rows with this one judge it
+  pub carried_fate : Fate k (row ∷ earlier) (machine_after k m).slots least s at word → CarriedTo (places (row ∷ earlier))
+  carried_fate h = by_entry (entered_by k m) refl where
+    by_entry : (b : Bool) → entered_by k m ≡ b → CarriedTo (places (row ∷ earlier))
+    by_entry false e = subst (λ ps. CarriedTo ps) (inv.entries ∙ sym (same_places k ready earlier m row inv is e)) (record { fate = h; run_is = refl })
+    by_entry true e = subst (λ ps. CarriedTo ps) (sym (more_places k ready earlier m row inv is e)) (past_entry e h)
+
 -- ---- many rows further
 
 pub rows_rest : (k : Setting) (newer base : List Row) → AreRows k (newer ++ base) → AreRows k base
 rows_rest k [] base are = are
 rows_rest k (row ∷ newer) base are = rows_rest k newer base are.2
 
+-- what becomes of it, its place, and the state of the run there
 pub record Follows (k : Setting) (newer base : List Row) (least s at word : ℕ) : Type 0 where
-  pub fate : Fate k (newer ++ base) (machine_at k (newer ++ base)).slots least s at word
+  pub fate : Fate (at_places k (places (newer ++ base))) (newer ++ base) (machine_at k (newer ++ base)).slots least s at word
   pub place_is : place (newer ++ base) s ≡ place base s
+  pub run_is : run (at_places k (places (newer ++ base))) (place (newer ++ base) s) ≡ run (at_places k (places base)) (place base s)
 
-pub follows : (k : Setting) → IsReady k → IsGoing k → (newer base : List Row) → AreRows k (newer ++ base) → (newest (newer ++ base)).stop ≡ None → (least s at word : ℕ) → is_flushed (newer ++ base) s ≡ false
-    → Fate k base (machine_at k base).slots least s at word → Follows k newer base least s at word
+pub follows : (k : Setting) → ((ps : List ℕ) → IsReady (at_places k ps)) → IsGoing k → (newer base : List Row) → AreRows k (newer ++ base) → (newest (newer ++ base)).stop ≡ None → (least s at word : ℕ) → is_flushed (newer ++ base) s ≡ false
+    → Fate (at_places k (places base)) base (machine_at k base).slots least s at word → Follows k newer base least s at word
 unfolding machine_at
-follows k ready goes [] base are going least s at word alive h = record { fate = h; place_is = refl }
+follows k ready goes [] base are going least s at word alive h = record { fate = h; place_is = refl; run_is = refl }
 follows k ready goes (row ∷ newer) base are going least s at word alive h =
     let rest = newer ++ base in
+    let here = at_places k (places rest) in
     let m = machine_at k rest in
     let inv = goes rest are.2 are.1 in
+    let is = row_at k (places rest) m row are.0 in
     let before = follows k ready goes newer base are.2 are.1 least s at word (unflushed_before row rest s alive) h in
-    let next = fate_next k ready rest m row inv are.0 (N.no_stop k ready rest m row inv are.0 going) least s at word alive before.fate in
-    record { fate = next.fate; place_is = next.place_is ∙ before.place_is }
+    let next = fate_next here (ready (places rest)) rest m row inv is (N.no_stop here (ready (places rest)) rest m row inv is going) least s at word alive before.fate in
+    let carried = carried_fate here (ready (places rest)) rest m row inv is least s at word alive next.fate in
+    record { fate = carried.fate; place_is = next.place_is ∙ before.place_is; run_is = carried.run_is ∙ ap (λ p. run here p) next.place_is ∙ before.run_is }

@@ -1,6 +1,6 @@
 -- What a promise on outputs is put together from: a token that is watched has had a life in the module, and in that life the inputs carried the values of the run
 -- (SCAIE-V; that the run is the sequential one is this project's choice).
-use Rattle.std.specs.Prelude.{◌≡◌, ◌≢◌, ℕ, ◌+◌, ◌<◌, ◌≤◌, List, ◌∷◌, ◌++◌, length, Some, ◌⊎◌, slice_get, slice_index, None, []}
+use Rattle.std.specs.Prelude.{◌≡◌, ◌≢◌, ℕ, ◌+◌, ◌<◌, ◌≤◌, List, ◌∷◌, ◌++◌, length, Option, Some, ◌⊎◌, slice_get, slice_index}
 use Rattle.ix_graph_laws.specs.GraphEffects.{values_under}
 use Rattle.ix_net.specs.declared.netlist.Net.{Net}
 use Rattle.ix_net.specs.Run.{cycle_at}
@@ -8,6 +8,7 @@ use Rattle.ix_plan.specs.declared.design.Design.{Design}
 use Rattle.ix_plan.specs.declared.design.Plan.{Plan}
 use Rattle.ix_plan.specs.Service.{IsLife, Carries}
 use Rattle.rv_engine.specs.Settings.{setting}
+use Rattle.rv_lawful.specs.Entering.{places}
 use Rattle.rv_lawful.specs.Settings.{Stands}
 use Rattle.rv_machine.specs.Promises.{IsRunnable}
 use Rattle.rv_machine.specs.Running.{AreRows}
@@ -57,20 +58,21 @@ pub record HasLife (d : Drives) (m : Module) (net : Net) (rows : List Row) (cycl
   pub last : slice_index life before ≡ t
   pub each : (j : ℕ) (newer older : List Row) (row : Row) → j < length life → rows ≡ newer ++ (row ∷ older) → length older ≡ first + j → IsTokenAt d m older row s word (slice_index life j)
 
--- a behaviour of a design whose net is driven by rows
-pub record IsDrivenBy (d : Design) (image waits : List ℕ) (n : ℕ) (p : Plan) (net : Net) (rows : List Row) (cycles : List (List ℕ)) : Type 0 where
+-- a behaviour of a design whose net is driven by rows, with an interrupt line or without one
+pub record IsDrivenBy (d : Design) (image waits : List ℕ) (lines : Option (List ℕ)) (n : ℕ) (p : Plan) (net : Net) (rows : List Row) (cycles : List (List ℕ)) : Type 0 where
   pub runnable : IsRunnable d image
-  pub are_rows : AreRows (setting d image waits None) rows
+  pub are_rows : AreRows (setting d image waits lines) rows
   pub plan : slice_get d.plans n ≡ Some p
   pub net_is : slice_get d.nets n ≡ Some net
-  pub driven : IsDriven (drives_of d image waits None []) n p net rows cycles
+  pub driven : IsDriven (drives_of d image waits lines) n p net rows cycles
 
--- each token that is watched has had a life, from RD to the last time of its behaviour
+-- each token that is watched has had a life, from RD to the last time of its behaviour, as the newest row is judged
 abbrev pub LivesLaw : Type 0
 LivesLaw =
-    (d : Design) (image waits : List ℕ) (n : ℕ) (p : Plan) (net : Net) (row : Row) (earlier : List Row) (cycles : List (List ℕ)) → IsDrivenBy d image waits n p net (row ∷ earlier) cycles →
-    (s word t : ℕ) → IsWatched (drives_of d image waits None []) (module_of (drives_of d image waits None []) n p) earlier row s word t → d.sheet.shape.rd ≤ t → t ≤ p.last →
-    HasLife (drives_of d image waits None []) (module_of (drives_of d image waits None []) n p) net (row ∷ earlier) cycles s word t
+    (d : Design) (image waits : List ℕ) (lines : Option (List ℕ)) (n : ℕ) (p : Plan) (net : Net) (row : Row) (earlier : List Row) (cycles : List (List ℕ)) →
+    IsDrivenBy d image waits lines n p net (row ∷ earlier) cycles →
+    (s word t : ℕ) → IsWatched (drives_of d image waits lines (places earlier)) (module_of (drives_of d image waits lines (places earlier)) n p) earlier row s word t → d.sheet.shape.rd ≤ t → t ≤ p.last →
+    HasLife (drives_of d image waits lines (places earlier)) (module_of (drives_of d image waits lines (places earlier)) n p) net (row ∷ earlier) cycles s word t
 
 -- the inputs of a time carry the values of a word's behaviour at a place of the run
 abbrev pub CarriesRun : Drives → Plan → Net → List ℕ → ℕ → ℕ → ℕ → Type 0
@@ -87,12 +89,13 @@ pub record HasRead (d : Drives) (m : Module) (p : Plan) (net : Net) (earlier : L
 -- so for each token that is watched
 abbrev pub ReadsLaw : Type 0
 ReadsLaw =
-    (d : Design) (image waits : List ℕ) (n : ℕ) (p : Plan) (net : Net) (row : Row) (earlier : List Row) (cycles : List (List ℕ)) → IsDrivenBy d image waits n p net (row ∷ earlier) cycles →
-    (s word t : ℕ) → IsWatched (drives_of d image waits None []) (module_of (drives_of d image waits None []) n p) earlier row s word t →
-    HasRead (drives_of d image waits None []) (module_of (drives_of d image waits None []) n p) p net earlier row cycles s word t
+    (d : Design) (image waits : List ℕ) (lines : Option (List ℕ)) (n : ℕ) (p : Plan) (net : Net) (row : Row) (earlier : List Row) (cycles : List (List ℕ)) →
+    IsDrivenBy d image waits lines n p net (row ∷ earlier) cycles →
+    (s word t : ℕ) → IsWatched (drives_of d image waits lines (places earlier)) (module_of (drives_of d image waits lines (places earlier)) n p) earlier row s word t →
+    HasRead (drives_of d image waits lines (places earlier)) (module_of (drives_of d image waits lines (places earlier)) n p) p net earlier row cycles s word t
 
 -- nets that are driven by the rows of a machine keep what is promised of their outputs
 abbrev pub PromiseLaw : Type 0
 PromiseLaw =
-    (d : Design) (image waits : List ℕ) (rows : List Row) (runs : List (List (List ℕ))) → IsRunnable d image → AreRows (setting d image waits None) rows → AreDriven (drives_of d image waits None []) d.nets rows runs →
-    AllPromised (drives_of d image waits None []) d.nets rows runs
+    (d : Design) (image waits : List ℕ) (lines : Option (List ℕ)) (rows : List Row) (runs : List (List (List ℕ))) → IsRunnable d image → AreRows (setting d image waits lines) rows →
+    AreDriven (drives_of d image waits lines) d.plans d.nets rows runs → AllPromised (drives_of d image waits lines) d.plans d.nets rows runs

@@ -9,6 +9,7 @@ use Rattle.ix_plan.specs.Units.{Slots}
 use Rattle.ix_plan.specs.Service.{Shows}
 use Rattle.rv_lawful.specs.Settings.{Stands}
 use Rattle.rv_lawful.specs.LawfulTrace.{IsWordOf, IsDueToStop}
+use Rattle.rv_lawful.specs.Entering.{places}
 use Rattle.rv_lawful.specs.Outstanding.{units_after}
 use Rattle.rv_seq.specs.declared.commit.Stop.{Stop}
 use Rattle.rv_seq.specs.Runs.{run_with}
@@ -18,6 +19,7 @@ use Rattle.rv_trace.specs.declared.row.Row.{Row}
 use Rattle.rv_trace.specs.Trace.{has_serial, place}
 use Rattle.rv_ports.specs.declared.modules.Module.{Module}
 use Rattle.rv_ports.specs.Drives.{Drives}
+use Rattle.rv_ports.specs.Driven.{Driving}
 use Rattle.rv_ports.specs.Seats.{is_silent, seat_of}
 use Rattle.rv_ports.specs.Inputs.{module_of, is_token}
 
@@ -52,13 +54,13 @@ pub record IsPromised (d : Drives) (n : ℕ) (p : Plan) (net : Net) (earlier : L
   pub in_stage : (t : ℕ) (c : Cell) → IsInStage d (module_of d n p) earlier row t c → ShowsRun d p net values t c.word (place (row ∷ earlier) c.serial)
   pub in_unit : (t s word : ℕ) → IsInUnit d (module_of d n p) earlier row t s word → ShowsRun d p net values t word (place (row ∷ earlier) s)
 
--- so do they in each row
-abbrev pub Promised : Drives → ℕ → Plan → Net → List Row → List (List ℕ) → Type 0
-Promised d n p net [] cycles = Unit {0}
-Promised d n p net (row ∷ earlier) cycles = IsPromised d n p net earlier row (cycle_at cycles (length earlier)) × Promised d n p net earlier cycles
+-- so do they in each row, by the run that goes to the handler at the places that the rows before it name
+abbrev pub Promised : Driving → ℕ → Plan → Net → List Row → List (List ℕ) → Type 0
+Promised by n p net [] cycles = Unit {0}
+Promised by n p net (row ∷ earlier) cycles = IsPromised (by (places earlier)) n p net earlier row (cycle_at cycles (length earlier)) × Promised by n p net earlier cycles
 
--- so do the nets of all behaviours
-abbrev pub AllPromised : Drives → List Net → List Row → List (List (List ℕ)) → Type 0
-AllPromised d nets rows runs =
-    (n : ℕ) (p : Plan) (net : Net) (cycles : List (List ℕ)) → slice_get d.plans n ≡ Some p → slice_get nets n ≡ Some net → slice_get runs n ≡ Some cycles →
-    Promised d n p net rows cycles
+-- so do the nets of all behaviours, which have these plans
+abbrev pub AllPromised : Driving → List Plan → List Net → List Row → List (List (List ℕ)) → Type 0
+AllPromised by plans nets rows runs =
+    (n : ℕ) (p : Plan) (net : Net) (cycles : List (List ℕ)) → slice_get plans n ≡ Some p → slice_get nets n ≡ Some net → slice_get runs n ≡ Some cycles →
+    Promised by n p net rows cycles

@@ -1,5 +1,5 @@
 -- What the laws of rows are made of: how cells move, the order of holds, and the form of a row (this project's choice).
-use Rattle.std.specs.Prelude.{◌≡◌, ℕ, suc, ◌+◌, ◌<◌, ◌≤◌, List, [], ◌∷◌, map, Option, Some, None, false, ◌&&◌, ◌||◌, not, if◌then◌else◌, is_some, ◌⊎◌}
+use Rattle.std.specs.Prelude.{◌≡◌, ℕ, suc, ◌+◌, ◌-◌, ◌<◌, ◌≤◌, List, [], ◌∷◌, ◌++◌, map, length, replicate, Option, Some, None, false, ◌&&◌, ◌||◌, not, if◌then◌else◌, is_some, ◌⊎◌}
 use Rattle.rv_trace.specs.declared.row.Cell.{Cell}
 use Rattle.rv_trace.specs.declared.row.Row.{Row}
 use Rattle.ix_plan.specs.declared.design.Target.{Target}
@@ -136,15 +136,18 @@ ComesFirst h g =
 
 -- Forms
 
--- the cells are empty
-abbrev pub AreEmpty : List (Option Cell) → Type 0
-AreEmpty [] = Unit {0}
-AreEmpty (None ∷ rest) = AreEmpty rest
-AreEmpty (Some c ∷ rest) = ⊥
+-- the serials that are there
+abbrev pub given : List (Option ℕ) → List ℕ
+given [] = []
+given (None ∷ rest) = given rest
+given (Some s ∷ rest) = s ∷ given rest
+
+-- serials in five places, the first ones
+abbrev pub in_five : List ℕ → List (Option ℕ)
+in_five serials = map Some serials ++ replicate (5 - length serials) None
 
 -- each serial is above this one, where there is one, and above those before it
-abbrev pub AscendFrom : Option ℕ → List (Option ℕ) → Type 0
+abbrev pub AscendFrom : Option ℕ → List ℕ → Type 0
 AscendFrom last [] = Unit {0}
-AscendFrom last (None ∷ rest) = AscendFrom last rest
-AscendFrom None (Some s ∷ rest) = AscendFrom (Some s) rest
-AscendFrom (Some t) (Some s ∷ rest) = (t < s) × AscendFrom (Some s) rest
+AscendFrom None (s ∷ rest) = AscendFrom (Some s) rest
+AscendFrom (Some t) (s ∷ rest) = (t < s) × AscendFrom (Some s) rest

@@ -1,5 +1,5 @@
 -- A dump of rows is that of runs of the modules' nets, which lawful rows drive.
-use Rattle.std.proofs.Common.{◌≡◌, ◌∙◌, sym, ap, subst, ℕ, ◌≤◌, List, [], length, Option, None, Some, Bool, true, false, Result, Ok, Err}
+use Rattle.std.proofs.Common.{◌≡◌, ◌∙◌, sym, ap, subst, ℕ, ◌≤◌, List, length, Option, None, Bool, true, false, Result, Ok, Err}
 use Rattle.std.specs.Prelude.{OnOk}
 use Rattle.ix_dump.specs.Dump.{dump_text}
 use Rattle.ix_io.specs.Faults.{Rose}
@@ -60,9 +60,9 @@ on_ok (Err e) p f = tt
 
 pub lawful : RowsLaw → ShownLaw → PromiseLaw → WaveLaw
 lawful rows shown promise d image waits cycles text can h =
-    let driven : AreDriven (drives_of d image waits None []) d.nets h.rows h.runs = record {
+    let driven : AreDriven (drives_of d image waits None) d.plans d.nets h.rows h.runs = record {
       count = h.have_run.count;
-      each = λ n p net cycles f g q. record { run = h.have_run.run n p net cycles f g q; inputs = h.have_run.inputs n p net cycles f g q ∙ inputs_same d image waits can shown n p h.rows h.are_rows };
+      each = λ n p net cycles f g q. record { run = h.have_run.run n p net cycles f g q; inputs = h.have_run.inputs n p net cycles f g q ∙ inputs_same d image waits None can shown n p h.rows h.are_rows };
     } in
     record {
       rows = h.rows;
@@ -71,6 +71,6 @@ lawful rows shown promise d image waits cycles text can h =
       few = h.few;
       whole = h.whole;
       driven = driven;
-      promised = promise d image waits h.rows h.runs can h.are_rows driven;
+      promised = promise d image waits None h.rows h.runs can h.are_rows driven;
       text_is = h.text_is;
     }

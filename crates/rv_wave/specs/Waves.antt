@@ -1,5 +1,5 @@
 -- The run of a pipeline with an extension as a value change dump of the ports of its modules (IEEE 1364-2005, section 18.2; that the times are the numbers of the rows is this project's choice).
-use Rattle.std.specs.Prelude.{◌≡◌, ℕ, ◌≤◌, List, [], length, None}
+use Rattle.std.specs.Prelude.{◌≡◌, ℕ, ◌≤◌, List, length, None}
 use Rattle.ix_dump.specs.Dump.{dump_text}
 use Rattle.ix_plan.specs.declared.design.Design.{Design}
 use Rattle.rv_trace.specs.declared.row.Row.{Row}
@@ -33,8 +33,8 @@ pub record IsLawfulWave (d : Design) (image waits : List ℕ) (cycles : ℕ) (te
   pub headline : Headline d image waits None rows
   pub few : length rows ≤ cycles
   pub whole : (newest rows).stop ≡ None → length rows ≡ cycles
-  pub driven : AreDriven (drives_of d image waits None []) d.nets rows runs
-  pub promised : AllPromised (drives_of d image waits None []) d.nets rows runs
+  pub driven : AreDriven (drives_of d image waits None) d.plans d.nets rows runs
+  pub promised : AllPromised (drives_of d image waits None) d.plans d.nets rows runs
   pub text_is : text ≡ dump_text d.nets (port_rows d.nets runs (length rows))
 
 -- a dump over an image of words is one of lawful rows

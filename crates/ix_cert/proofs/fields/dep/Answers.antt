@@ -1,5 +1,5 @@
 use Rattle.ix_cert.proofs.Wordings.{no_dep}
-use Rattle.ix_cert.specs.Items.{texts}
+use Rattle.ix_lines.specs.Readings.{texts}
 use Rattle.ix_cert.proofs.fields.dep.Goals as goal
 
 pub returns-in-None : goal.returns-in-None

@@ -1,5 +1,5 @@
 use Rattle.ix_cert.proofs.Wordings.{no_width}
-use Rattle.ix_cert.specs.Items.{texts}
+use Rattle.ix_lines.specs.Readings.{texts}
 use Rattle.ix_cert.proofs.fields.width.Goals as goal
 
 pub returns-then-weight-eq0 : goal.returns-then-weight-eq0

@@ -1,6 +1,6 @@
 use Rattle.std.proofs.Common.{refl}
 use Rattle.ix_cert.specs.Layout.{report_lines}
-use Rattle.ix_cert.specs.Printing.{text_of}
+use Rattle.ix_lines.specs.Lines.{text_of}
 use Rattle.ix_cert.proofs.Outcomes.{printed}
 use Rattle.ix_cert.proofs.Verdicts.{print_back}
 use Rattle.ix_cert.proofs.laws.print_law.Goals as goal

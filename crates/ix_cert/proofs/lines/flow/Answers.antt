@@ -1,6 +1,6 @@
 use Rattle.std.proofs.Common.{arith}
 use Rattle.ix_cert.proofs.Wordings.{no_flow}
-use Rattle.ix_cert.specs.Items.{texts}
+use Rattle.ix_lines.specs.Readings.{texts}
 use Rattle.ix_cert.proofs.lines.flow.Goals as goal
 
 pub returns-then-amount-lt-LEAST_AMOUNT : goal.returns-then-amount-lt-LEAST_AMOUNT

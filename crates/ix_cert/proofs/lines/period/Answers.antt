@@ -1,5 +1,5 @@
 use Rattle.ix_cert.proofs.Wordings.{no_period}
-use Rattle.ix_cert.specs.Items.{texts}
+use Rattle.ix_lines.specs.Readings.{texts}
 use Rattle.ix_cert.proofs.lines.period.Goals as goal
 
 pub returns-then-period-eq0 : goal.returns-then-period-eq0

@@ -1,5 +1,5 @@
 use Rattle.ix_cert.proofs.Wordings.{no_title}
-use Rattle.ix_cert.specs.Items.{texts}
+use Rattle.ix_lines.specs.Readings.{texts}
 use Rattle.ix_cert.proofs.lines.title.Goals as goal
 
 pub returns-then-version-eq0 : goal.returns-then-version-eq0

@@ -1,6 +1,6 @@
 use Rattle.std.proofs.Common.{◌≡◌, ◌++◌}
 use Rattle.ix_cert.specs.Layout.{op_lines}
-use Rattle.ix_cert.specs.Printing.{text_of}
+use Rattle.ix_lines.specs.Lines.{text_of}
 use Rattle.ix_cert.proofs.Printed.{ops_from}
 use Rattle.ix_cert.proofs.print.put_ops.Given as goal
 

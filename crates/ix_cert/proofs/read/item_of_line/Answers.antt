@@ -1,5 +1,5 @@
 use Rattle.std.proofs.Common.{ap, ◌∙◌}
-use Rattle.ix_cert.specs.Items.{texts}
+use Rattle.ix_lines.specs.Readings.{texts}
 use Rattle.ix_cert.proofs.Shown.{line_read_ok}
 use Rattle.ix_cert.proofs.read.item_of_line.Goals as goal
 

@@ -1,6 +1,7 @@
 use Rattle.std.proofs.Common.{sym, ◌∙◌}
 use Rattle.ix_cert.proofs.Decoded.{one_item}
-use Rattle.ix_cert.proofs.Outcomes.{next_ok, at_some}
+use Rattle.ix_cert.proofs.Outcomes.{next_ok}
+use Rattle.ix_lines.proofs.Found.{at_some}
 use Rattle.ix_cert.proofs.read.next.Goals as goal
 
 pub returns-in-Some : goal.returns-in-Some

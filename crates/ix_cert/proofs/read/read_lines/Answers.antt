@@ -1,5 +1,6 @@
 use Rattle.std.proofs.Common.{length, arith, refl, Bor, List, ℕ, []}
-use Rattle.ix_cert.proofs.Outcomes.{reached_next, bad_next, bad_end, good_end, place_fits_in, at_none, at_some}
+use Rattle.ix_cert.proofs.Outcomes.{reached_next, bad_next, bad_end, good_end, place_fits_in}
+use Rattle.ix_lines.proofs.Found.{at_none, at_some}
 use Rattle.ix_cert.proofs.read.read_lines.Goals as goal
 
 abbrev none_line : Bor (List ℕ)

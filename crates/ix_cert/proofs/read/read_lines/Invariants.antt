@@ -1,5 +1,5 @@
 use Rattle.std.proofs.Common.{take}
-use Rattle.ix_cert.specs.Items.{texts}
+use Rattle.ix_lines.specs.Readings.{texts}
 use Rattle.ix_cert.proofs.Viable.{Reached}
 use Rattle.ix_cert.proofs.read.read_lines.Given as goal
 

@@ -1,5 +1,5 @@
 use Rattle.std.proofs.Common.{◌≤◌, ◌^◌, sym, ap, ◌∙◌, subst, inl, inr, Ok, Err}
-use Rattle.ix_cert.specs.Items.{texts}
+use Rattle.ix_lines.specs.Readings.{texts}
 use Rattle.ix_cert.specs.Refusals.{bytes_in}
 use Rattle.ix_cert.specs.Layout.{behind_refusal, without_last_empty, first_line}
 use Rattle.ix_cert.proofs.Outcomes.{text_bytes, same_report, is_text, not_both, told_line, err_only, err_refused, err_refuses}

@@ -1,7 +1,7 @@
 use Rattle.std.proofs.Common.{◌≡◌, ◌∙◌, ◌++◌, ◌∷◌, []}
 use Rattle.std.proofs.lemmas.Result.{IfOk-weaker}
 use Rattle.ix_cert.specs.Layout.{report_lines}
-use Rattle.ix_cert.specs.Printing.{text_of}
+use Rattle.ix_lines.specs.Lines.{text_of}
 use Rattle.ix_cert.specs.Certificates.{IsFaultless}
 use Rattle.ix_schedules.specs.ScheduleText.{no_schedule_line, alone}
 use Rattle.ix_schedules.proofs.Sound.{alone_in_form, behind_faultless, behind_text}

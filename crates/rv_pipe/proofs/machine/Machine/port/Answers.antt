@@ -1,9 +1,8 @@
-use Rattle.std.proofs.Common.{◌≡◌, ◌∙◌, ◌<◌, ap, sym, subst, ℕ, List, ◌∷◌, length, Some, None, []}
+use Rattle.std.proofs.Common.{◌≡◌, ◌∙◌, ◌<◌, ap, sym, subst, ℕ, List, ◌∷◌, length, Some}
 use Rattle.std.specs.Option.{option_copied}
 use Rattle.std.specs.Prelude.{reverse, slice_get}
 use Rattle.rv_engine.specs.Settings.{setting}
 use Rattle.rv_machine.specs.Promises.{IsRunnable}
-use Rattle.rv_nets.specs.Modules.{all_ports}
 use Rattle.rv_ports.specs.Driven.{AreDriven, ports_of, port_values}
 use Rattle.rv_ports.specs.Drives.{drives_of}
 use Rattle.rv_served.specs.Promise.{AllPromised}
@@ -29,11 +28,12 @@ returns-clause-width c = λ p e.
 -- what is promised of this port, of a machine as its callers see it
 abbrev IsShown : ℕ → ℕ → Running → Type 0
 IsShown k value v =
-    (row : Row) (earlier : List Row) → v.setting.lines ≡ None → v.rows ≡ row ∷ earlier → IsRunnable v.setting.design v.setting.image →
-    (runs : List (List (List ℕ))) × AreDriven (drives_of v.setting.design v.setting.image v.setting.waits None []) v.setting.design.nets v.rows runs × AllPromised (drives_of v.setting.design v.setting.image v.setting.waits None []) v.setting.design.nets v.rows runs × (slice_get (port_values v.setting.design.nets runs (length earlier)) k ≡ Some value)
+    (row : Row) (earlier : List Row) → v.rows ≡ row ∷ earlier → IsRunnable v.setting.design v.setting.image →
+    (runs : List (List (List ℕ))) × AreDriven (drives_of v.setting.design v.setting.image v.setting.waits v.setting.lines) v.setting.design.plans v.setting.design.nets v.rows runs
+    × AllPromised (drives_of v.setting.design v.setting.image v.setting.waits v.setting.lines) v.setting.design.plans v.setting.design.nets v.rows runs × (slice_get (port_values v.setting.design.nets runs (length earlier)) k ≡ Some value)
 
 pub returns-clause-driven : goal.returns-clause-driven
 returns-clause-driven c =
-    subst (IsShown c.args.k c.port.result.raw) c.self.view_is (λ row earlier none e can.
-    driven_port c.self.inside.design.now c.self.inside.words.now c.self.inside.waits.now (option_copied c.self.inside.lines) none (reverse c.self.inside.trace.rows) earlier row c.self.inside.modules c.args.k c.port.result.raw e can
+    subst (IsShown c.args.k c.port.result.raw) c.self.view_is (λ row earlier e can.
+    driven_port c.self.inside.design.now c.self.inside.words.now c.self.inside.waits.now (option_copied c.self.inside.lines) (reverse c.self.inside.trace.rows) earlier row c.self.inside.modules c.args.k c.port.result.raw e can
     c.rows_laws.ensures.shown c.nets_law.ensures.newest c.promise_law.ensures c.self.invariant.nets c.self.invariant.are_rows c.self.invariant.reached c.port.ensures.value)

@@ -1,0 +1,13 @@
+mod Tests
+mod FirstFrom
+mod Ordering
+mod Above
+mod Past
+mod Beside
+mod Each
+mod Least
+mod Judged
+mod Reading
+mod Executing
+mod Ending
+mod Whole

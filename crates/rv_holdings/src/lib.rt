@@ -1,0 +1,11 @@
+//! Does each cell of a row show the first hold that is true of it, as the row's own marks say?
+#![tactic(auto)]
+
+mod board;
+mod expected;
+mod judging;
+mod older;
+mod search;
+mod want;
+
+pub use judging::holds_rightly;

@@ -1,0 +1,10 @@
+pub mod Upper
+pub mod InUnits
+pub mod Own
+pub mod Stopping
+pub mod Fetching
+pub mod Holding
+pub mod Moving
+pub mod Together
+pub mod Making
+pub mod Lawful

@@ -1,0 +1,6 @@
+mod Cells
+mod Moved
+mod Fetched
+mod Younger
+mod Succeeded
+mod Stopped

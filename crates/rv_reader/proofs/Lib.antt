@@ -1,0 +1,15 @@
+pub mod Looping
+pub mod Readings
+pub mod Frees
+pub mod Holds
+pub mod Cells
+pub mod Marking
+pub mod RowLaws
+pub mod Lining
+pub mod Following
+pub mod BadLines
+pub mod RowsAt
+pub mod States
+pub mod Passing
+pub mod Unique
+pub mod WriteLaws

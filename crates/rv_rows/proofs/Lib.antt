@@ -1,0 +1,14 @@
+mod Tests
+mod Places
+mod Coming
+mod Ordered
+mod Placed
+mod Flushed
+mod Known
+mod Knowing
+mod Standing
+mod Tails
+mod Addresses
+mod Succeeding
+mod Addressed
+mod RowLaws
