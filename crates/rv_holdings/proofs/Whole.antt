@@ -19,8 +19,8 @@ use Rattle.rv_rows.specs.Facts.{IsPlain, AreGoingOn, MoveAbove, MovesAbove, RowF
 use Rattle.rv_kinds.specs.Kinds.{is_of_cell, IsStopped, GoesOnAs, MovesRightly, OwnMarked, BehindMarked, TrueMarked, ShowsMarked, HoldsRightly}
 use Rattle.rv_known.specs.declared.known.Known.{Known}
 use Rattle.rv_known.specs.declared.known.Owed.{Owed}
-use Rattle.rv_known.specs.Known.{IsKnown, AreOwed, IsOwing}
-use Rattle.rv_holdings.specs.Expected.{NamesRegisters, Older, instructions_above, operand_hold, board_hold, custom_hold, late_hold, drain_hold, memory_hold, store_hold, tail_hold, unit_hold, port_hold, own_hold, does_stop, blocks, is_blocked, expected, AreRight}
+use Rattle.rv_known.specs.Known.{IsKnown, IsHeld, AreOwed, IsOwing}
+use Rattle.rv_holdings.specs.Expected.{NamesRegisters, Older, instructions_above, operand_hold, board_hold, custom_hold, late_hold, drain_hold, memory_hold, store_hold, tail_hold, unit_hold, port_hold, own_hold, own_at, does_stop, blocks, is_blocked, expected, AreRight}
 use Rattle.rv_holdings.proofs.Above.{get_of, of_get, get_plain, is_below, below_is, both, and_both}
 use Rattle.rv_holdings.proofs.Past.{past}
 use Rattle.rv_holdings.proofs.Ordering.{operand_kind, board_kind, custom_kind, late_kind, trap_kind, drain_kind, wait_kind, store_kind, module_kind, unit_kind, port_kind, behind_kind, FirstIn, joined}
@@ -132,6 +132,20 @@ module _ (k : Setting) (earlier : List Row) (row : Row) (known : Known) (owed : 
       (tail_where k earlier row known owed is stage c stands))
       (unit_where k earlier row known owed is stage c stands))
       (port_where k earlier row known owed is stage c stands)
+
+  some_own : (o : Option Hold) → FirstIn Own 0 11 o → is_some o ≡ true → (h : Hold) × Own h
+  some_own None f e = cc
+  some_own (Some h) f e = (h, f.2)
+
+  own_some : (o : Option Hold) → FirstIn Own 0 11 o → (h : Hold) → Own h → is_some o ≡ true
+  own_some None f h own = absurd (f h (omega arith) (kind_low k earlier row stage c h own) own)
+  own_some (Some g) f h own = refl
+
+  pub is_own : is_some (own_hold k.shape row known owed stage a older) ≡ true → (h : Hold) × Own h
+  is_own = some_own (own_hold k.shape row known owed stage a older) own_is
+
+  pub own_then : (h : Hold) → Own h → is_some (own_hold k.shape row known owed stage a older) ≡ true
+  own_then = own_some (own_hold k.shape row known owed stage a older) own_is
 
   -- Behind
 
@@ -316,3 +330,17 @@ rightly_then k earlier row known owed shape e is r = rightly k earlier row known
 
 pub then_right : (k : Setting) (earlier : List Row) (row : Row) (known : Known) (owed : List Owed) (shape : Shape) → k.shape ≡ shape → IsJudged k earlier row known owed → HoldsRightly k earlier row → AreRight shape row known owed
 then_right k earlier row known owed shape e is h = subst (λ x. AreRight x row known owed) e (are_right k earlier row known owed is h)
+
+-- a hold of its own is true of the cell of EX exactly where one is found
+held_here : (k : Setting) (earlier : List Row) (row : Row) (known : Known) (owed : List Owed) → IsJudged k earlier row known owed → IsHeld k earlier row (is_some (own_at k.shape row known owed k.shape.ex (get_or known.asks k.shape.ex None)))
+held_here k earlier row known owed is = record {
+  shown = λ c s e. is_own k earlier row known owed is k.shape.ex c s (sym (at c s) ∙ e);
+  known = λ c h s own. at c s ∙ own_then k earlier row known owed is k.shape.ex c s h own;
+} where
+  at : (c : Cell) → Stands k row k.shape.ex c
+      → is_some (own_at k.shape row known owed k.shape.ex (get_or known.asks k.shape.ex None)) ≡ is_some (own_hold k.shape row known owed k.shape.ex (k.asks c.word) (instructions_above k.shape row known k.shape.ex))
+  at c s = ap (λ o. is_some (own_at k.shape row known owed k.shape.ex o)) (get_plain k.shape.ex known.asks (k.asks c.word) (is.knowing.asks k.shape.ex c s))
+
+pub held : (k : Setting) (earlier : List Row) (row : Row) (known : Known) (owed : List Owed) (shape : Shape) → k.shape ≡ shape → IsJudged k earlier row known owed
+    → IsHeld k earlier row (is_some (own_at shape row known owed shape.ex (get_or known.asks shape.ex None)))
+held k earlier row known owed shape e is = subst (λ s. IsHeld k earlier row (is_some (own_at s row known owed s.ex (get_or known.asks s.ex None)))) e (held_here k earlier row known owed is)

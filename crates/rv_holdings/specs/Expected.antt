@@ -206,6 +206,11 @@ own_hold k row known owed stage a older =
     (unit_hold k known stage a))
     (port_hold k row known stage a)
 
+-- the same of what asks for this
+abbrev pub own_at : Shape → Row → Known → List Owed → ℕ → Option Asks → Option Hold
+own_at k row known owed stage None = None
+own_at k row known owed stage (Some a) = own_hold k row known owed stage a (instructions_above k row known stage)
+
 -- Behind
 
 -- the row says that what stands in this stage stops the run

@@ -1,10 +1,10 @@
-ghost use Rattle.std.specs.Prelude.{◌≡◌, ◌<◌, ℕ, List, true};
+ghost use Rattle.std.specs.Prelude.{◌≡◌, ◌<◌, ℕ, List, None, true, is_some, get_or};
 ghost use Rattle.rv_trace.specs.declared.row.Row.{Row};
 ghost use Rattle.rv_lawful.specs.Settings.{Setting};
 ghost use Rattle.rv_rows.specs.Facts.{IsPlain, AreGoingOn};
 ghost use Rattle.rv_kinds.specs.Kinds.{MovesRightly, HoldsRightly, is_of_cell as specified_is_of_cell};
-ghost use Rattle.rv_known.specs.Known.{IsKnown, AreOwed, IsOwing};
-ghost use Rattle.rv_holdings.specs.Expected.{NamesRegisters, does_stop, blocks as specified_blocks, is_blocked as specified_is_blocked, behind_hold, own_hold as specified_own_hold, instructions_above, expected as specified_expected, AsExpected, IsRightAt, AreRight};
+ghost use Rattle.rv_known.specs.Known.{IsKnown, IsHeld, AreOwed, IsOwing};
+ghost use Rattle.rv_holdings.specs.Expected.{NamesRegisters, does_stop, blocks as specified_blocks, is_blocked as specified_is_blocked, behind_hold, own_hold as specified_own_hold, own_at, instructions_above, expected as specified_expected, AsExpected, IsRightAt, AreRight};
 
 use crate::expected::own_hold;
 use crate::older::{all_above, is_among};
@@ -158,4 +158,31 @@ pub fn holds_rightly(shape: Shape, known: &Known, owed: &[Owed], row: &Row) -> b
 {
     row_facts();
     are_right(shape, row, known, owed)
+}
+
+fn asks_at(known: &Known, stage: usize) -> Option<Asks>
+    ensures { result ≡ get_or known.now.asks stage None }
+{
+    match known.asks.get(stage) {
+        None => None,
+        Some(asks) => *asks,
+    }
+}
+
+/// Whether a hold of its own is true of the instruction of a stage.
+fn has_own(shape: Shape, row: &Row, known: &Known, owed: &[Owed], stage: usize) -> bool
+    ensures { result ≡ is_some (own_at shape row.now known.now owed.now stage (get_or known.now.asks stage None)) }
+{
+    match asks_at(known, stage) {
+        None => false,
+        Some(asks) => own_of(shape, row, known, owed, stage, &asks).is_some(),
+    }
+}
+
+/// Whether a hold of its own is true of the cell of EX, whatever this cell shows.
+pub fn is_held(shape: Shape, known: &Known, owed: &[Owed], row: &Row) -> bool
+    ensures { (k : Setting) (earlier : List Row) → k.shape ≡ shape → NamesRegisters k → IsPlain k → AreGoingOn k earlier → MovesRightly k earlier row.now → IsKnown k earlier row.now known.now → AreOwed k earlier owed.now → IsOwing k earlier → IsHeld k earlier row.now result }
+{
+    row_facts();
+    has_own(shape, row, known, owed, usize::from(shape.ex))
 }

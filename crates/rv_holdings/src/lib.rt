@@ -8,4 +8,4 @@ mod older;
 mod search;
 mod want;
 
-pub use judging::holds_rightly;
+pub use judging::{holds_rightly, is_held};

@@ -2,17 +2,19 @@
 -- judged, `earlier` are those before it.
 use Rattle.std.specs.Prelude.{◌≡◌, ◌≢◌, ℕ, zero, suc, ◌+◌, ◌<◌, List, [], ◌∷◌, Option, Some, None, Bool, true, false, ◌==◌, if◌then◌else◌, is_some, slice_get, ◌⊎◌}
 use Rattle.ix_plan.specs.Units.{Slots, finished, frozen_with}
+use Rattle.rv_seq.specs.declared.commit.Commit.{Commit}
 use Rattle.rv_seq.specs.declared.commit.Stop.{Stop}
 use Rattle.rv_seq.specs.declared.commit.Stop.TheVariants.{Ecall, Ebreak, Illegal, Fetch, Misaligned, DataRange, Target as target_stop}
 use Rattle.rv_trace.specs.declared.row.Cell.{Cell}
 use Rattle.rv_trace.specs.declared.row.Row.{Row}
 use Rattle.rv_trace.specs.declared.row.Hold.{Hold}
 use Rattle.rv_trace.specs.declared.row.Hold.TheVariants.{UnitFull, Behind}
-use Rattle.rv_trace.specs.Trace.{has_serial, newest}
+use Rattle.rv_trace.specs.Trace.{has_serial, newest, retirements}
 use Rattle.rv_trace.specs.TraceText.{retired_text, written_text}
 use Rattle.rv_trace.specs.RowParts.{Name, name_of, names_of, stays, leaves, front, ComesFirst}
 use Rattle.rv_lawful.specs.Settings.{Setting, stages_of, Stands}
-use Rattle.rv_lawful.specs.Outstanding.{is_serial, serial_written, units_after}
+use Rattle.rv_lawful.specs.Outstanding.{Written, is_serial, serial_written, units_after}
+use Rattle.rv_lawful.specs.Headline.{IsRecord, IsSpawnWrite}
 use Rattle.rv_lawful.specs.LawfulTrace.{plain_fetch, fetch_address, new_cell, Retires, IsDueToStop, OwnHold, IsSettlingStage, successor, IsNextYounger, HasNoYounger, StopsRightly, WritesUnit}
 use Rattle.rv_rows.specs.Facts.{MoveAbove}
 use Rattle.rv_shown.specs.Shown.{Shown}
@@ -181,6 +183,18 @@ pub record StopsInPlace (k : Setting) (earlier : List Row) (row : Row) : Type 0 
   pub stops : StopsRightly k earlier row
   pub going : (newest earlier).stop ≡ None
 
+-- Commit and Write
+
+-- what retires is the next record of the run, and its line is that of the record
+pub record RetiresRightly (k : Setting) (earlier : List Row) (s : Shown) : Type 0 where
+  pub record_is : (serial : ℕ) (c : Commit) → (row_of k earlier s).retired ≡ Some (serial, c) → IsRecord k (retirements earlier) c
+  pub line : s.retired_line ≡ retired_text (row_of k earlier s).retired
+
+-- what is written is what the run writes at the place of the serial, and its line is that of these writes
+pub record WritesRightly (k : Setting) (earlier : List Row) (s : Shown) : Type 0 where
+  pub write_is : (w : Written) → (row_of k earlier s).written ≡ Some w → IsSpawnWrite k earlier w
+  pub line : s.written_line ≡ written_text (row_of k earlier s).written
+
 -- Kinds
 
 -- in the order in which they are judged
@@ -202,8 +216,8 @@ IsRight k earlier s of_fetch = FetchesRightly k earlier (row_of k earlier s)
 IsRight k earlier s of_successor = (newest earlier).stop ≡ None → SucceedsRightly k earlier (row_of k earlier s)
 IsRight k earlier s of_unit = WritesUnit k earlier (row_of k earlier s)
 IsRight k earlier s of_stop = StopsInPlace k earlier (row_of k earlier s)
-IsRight k earlier s of_commit = s.retired_line ≡ retired_text (row_of k earlier s).retired
-IsRight k earlier s of_write = s.written_line ≡ written_text (row_of k earlier s).written
+IsRight k earlier s of_commit = RetiresRightly k earlier s
+IsRight k earlier s of_write = WritesRightly k earlier s
 
 -- a row is right in each respect in which it can be judged without the lines of its writes
 pub record RowKinds (k : Setting) (earlier : List Row) (row : Row) : Type 0 where

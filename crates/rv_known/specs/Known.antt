@@ -1,12 +1,13 @@
 -- What is known of a row beside the row itself (this project's choice). `row` is the row that is judged, `earlier` are those before it.
 use Rattle.std.specs.List.{Contains}
-use Rattle.std.specs.Prelude.{◌≡◌, ℕ, suc, ◌<◌, List, [], ◌∷◌, map, reverse, Option, Some, None, true, false, is_some, slice_get}
+use Rattle.std.specs.Prelude.{◌≡◌, ℕ, suc, ◌<◌, List, [], ◌∷◌, map, reverse, Option, Some, None, Bool, true, false, is_some, slice_get}
 use Rattle.ix_plan.specs.Units.{Slots, frozen_with, unit_written}
 use Rattle.rv_asks.specs.declared.asks.Asks.{Asks}
 use Rattle.rv_seq.specs.declared.answer.StepAnswer.{StepAnswer}
 use Rattle.rv_seq.specs.declared.answer.StepAnswer.TheVariants.{Done, Stopped}
 use Rattle.rv_seq.specs.declared.commit.Stop.{Stop}
 use Rattle.rv_trace.specs.declared.row.Cell.{Cell}
+use Rattle.rv_trace.specs.declared.row.Hold.{Hold}
 use Rattle.rv_trace.specs.declared.row.Row.{Row}
 use Rattle.ix_plan.specs.declared.design.Target.{Target}
 use Rattle.rv_trace.specs.Trace.{place, is_flushed, is_retired}
@@ -14,7 +15,7 @@ use Rattle.rv_waits.specs.Waits.{wait_at}
 use Rattle.rv_lawful.specs.Settings.{Setting, Stands, accesses_before, stood, tailed}
 use Rattle.rv_lawful.specs.Outstanding.{Decoupled, has_target, serial_written, units_after, is_written, outstanding}
 use Rattle.rv_lawful.specs.LawfulTrace.{serial_in, fetch_address, next_serial, plain_fetch, IsWordOf}
-use Rattle.rv_kinds.specs.Kinds.{upper, unit_marked}
+use Rattle.rv_kinds.specs.Kinds.{upper, unit_marked, OwnMarked}
 use Rattle.rv_known.specs.declared.known.Known.{Known}
 use Rattle.rv_known.specs.declared.known.Owed.{Owed}
 
@@ -36,6 +37,12 @@ Falling (d ∷ e ∷ older) = (e.0 < d.0) × Falling (e ∷ older)
 abbrev pub owed_of : Setting → Decoupled → Owed
 owed_of k d = record { serial = d.0; asks = k.asks d.1 }
 
+-- this is known before the row is looked at
+pub record IsReady (k : Setting) (earlier : List Row) (known : Known) : Type 0 where
+  pub granted : known.granted ≡ serial_in (unit_written (units_after k earlier))
+  pub fetch : known.fetch ≡ fetch_address k earlier
+  pub next : known.next ≡ next_serial k earlier
+
 -- this is known of the row
 pub record IsKnown (k : Setting) (earlier : List Row) (row : Row) (known : Known) : Type 0 where
   pub asks : (stage : ℕ) (c : Cell) → Stands k row stage c → slice_get known.asks stage ≡ Some (Some (k.asks c.word))
@@ -51,11 +58,14 @@ pub record IsKnown (k : Setting) (earlier : List Row) (row : Row) (known : Known
   pub port : (j : ℕ) → serial_written row.written ≡ Some j →
       (known.port ≡ true → (word : ℕ) × IsWordOf k (upper row ∷ earlier) j word × (is_some (k.asks word).spawned ≡ true))
       × ((word : ℕ) → IsWordOf k (upper row ∷ earlier) j word → is_some (k.asks word).spawned ≡ true → known.port ≡ true)
-  pub granted : known.granted ≡ serial_in (unit_written (units_after k earlier))
-  pub fetch : known.fetch ≡ fetch_address k earlier
-  pub next : known.next ≡ next_serial k earlier
+  pub ready : IsReady k earlier known
   pub plain : known.plain ≡ plain_fetch k earlier (fetch_address k earlier) row
   pub settled : (known.settled ≡ true → outstanding k (row ∷ earlier) ≡ []) × (outstanding k (row ∷ earlier) ≡ [] → known.settled ≡ true)
+
+-- a hold of its own is true of the cell of EX, as the row says which unit is written
+pub record IsHeld (k : Setting) (earlier : List Row) (row : Row) (held : Bool) : Type 0 where
+  pub shown : (c : Cell) → Stands k row k.shape.ex c → held ≡ true → (h : Hold) × OwnMarked k earlier row k.shape.ex c h
+  pub known : (c : Cell) (h : Hold) → Stands k row k.shape.ex c → OwnMarked k earlier row k.shape.ex c h → held ≡ true
 
 -- and this is outstanding before it, the oldest first
 abbrev pub AreOwed : Setting → List Row → List Owed → Type 0

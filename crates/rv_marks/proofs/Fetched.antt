@@ -10,7 +10,7 @@ use Rattle.rv_lawful.specs.Settings.{Setting, stages_of}
 use Rattle.rv_lawful.specs.LawfulTrace.{fetch_address, next_serial}
 use Rattle.rv_kinds.specs.Kinds.{FetchesRightly}
 use Rattle.rv_known.specs.declared.known.Known.{Known}
-use Rattle.rv_known.specs.Known.{IsKnown}
+use Rattle.rv_known.specs.Known.{IsReady}
 use Rattle.rv_marks.specs.Marks.{same_name, fetched_as, fetches_as, same_serial}
 use Rattle.rv_marks.proofs.Cells.{none_some, some_inside, true_false, same_name_tells}
 
@@ -18,7 +18,7 @@ fetched_tells : (o new now : Option Name) → Decides (fetched_as o new now) (o 
 fetched_tells None new now = Decides-like (same_name now new) (λ e x. e) (λ f. f refl) (same_name_tells now new)
 fetched_tells (Some n) new now = (λ x e. absurd (none_some n (sym e)), λ x. refl)
 
-pub fetches_tell : (k : Setting) (earlier : List Row) (row : Row) (known : Known) → IsKnown k earlier row known → Decides (fetches_as k.shape known.next known.fetch k.image (newest earlier) row) (FetchesRightly k earlier row)
+pub fetches_tell : (k : Setting) (earlier : List Row) (row : Row) (known : Known) → IsReady k earlier known → Decides (fetches_as k.shape known.next known.fetch k.image (newest earlier) row) (FetchesRightly k earlier row)
 fetches_tell k earlier row known is =
     subst
     (λ n. Decides (fetches_as k.shape n known.fetch k.image (newest earlier) row) (FetchesRightly k earlier row))

@@ -23,10 +23,10 @@ use Rattle.rv_kinds.proofs.Moving.{moves_of}
 use Rattle.rv_kinds.proofs.Own.{own_up, own_down}
 use Rattle.rv_kinds.proofs.Fetching.{Flusher, none_flushed}
 use Rattle.rv_known.specs.declared.known.Known.{Known}
-use Rattle.rv_known.specs.Known.{stop_in, IsKnown}
+use Rattle.rv_known.specs.Known.{stop_in, IsKnown, IsHeld}
 use Rattle.rv_marks.specs.Marks.{cell_of, cell_at}
 use Rattle.rv_marks.specs.Turns.{all_flushed}
-use Rattle.rv_marks.specs.Stops.{IsHeld, own_stop, last_gone, empty_after, fetch_stops, due_of, due_stop}
+use Rattle.rv_marks.specs.Stops.{own_stop, last_gone, empty_after, fetch_stops, due_of, due_stop}
 use Rattle.rv_marks.proofs.Cells.{none_some, some_inside, true_false, at_stage, is_itself}
 use Rattle.rv_marks.proofs.Younger.{get_take, within, all_tells}
 

@@ -15,11 +15,6 @@ use Rattle.rv_known.specs.declared.known.Known.{Known}
 use Rattle.rv_marks.specs.Marks.{cells_in, cell_at}
 use Rattle.rv_marks.specs.Turns.{all_flushed}
 
--- a hold of its own is true of the cell of EX, as the row says which unit is written
-pub record IsHeld (k : Setting) (earlier : List Row) (row : Row) (held : Bool) : Type 0 where
-  pub shown : (c : Cell) → Stands k row k.shape.ex c → held ≡ true → (h : Hold) × OwnMarked k earlier row k.shape.ex c h
-  pub known : (c : Cell) (h : Hold) → Stands k row k.shape.ex c → OwnMarked k earlier row k.shape.ex c h → held ≡ true
-
 -- the stop that a cell of EX makes
 abbrev pub own_stop : Option Cell → Bool → Option Stop → Option Stop
 own_stop None held stop = None

@@ -6,7 +6,7 @@ ghost use Rattle.rv_lawful.specs.Settings.{Setting};
 ghost use Rattle.rv_lawful.specs.Outstanding.{serial_written};
 ghost use Rattle.rv_lawful.specs.LawfulTrace.{WritesUnit};
 ghost use Rattle.rv_kinds.specs.Kinds.{FetchesRightly};
-ghost use Rattle.rv_known.specs.Known.{IsKnown};
+ghost use Rattle.rv_known.specs.Known.{IsReady};
 ghost use Rattle.rv_marks.specs.Marks.{fetches_as, same_serial};
 
 use crate::names::{front, is_same, name, stages, stays};
@@ -37,7 +37,7 @@ fn fetches(shape: Shape, known: &Known, image: &[u32], before: &Row, row: &Row) 
 
 /// Whether stage 0 has what is fetched, where it keeps no cell.
 pub fn fetches_rightly(shape: Shape, known: &Known, image: &[u32], before: &Row, row: &Row) -> bool
-    ensures { (k : Setting) (earlier : List RowValue) → k.shape ≡ shape → k.image ≡ image.now → newest earlier ≡ before.now → IsKnown k earlier row.now known.now
+    ensures { (k : Setting) (earlier : List RowValue) → k.shape ≡ shape → k.image ≡ image.now → newest earlier ≡ before.now → IsReady k earlier known.now
         → (result ≡ true → FetchesRightly k earlier row.now) × (FetchesRightly k earlier row.now → result ≡ true) }
 {
     fetches(shape, known, image, before, row)
@@ -67,7 +67,7 @@ fn written_in(row: &Row) -> Option<u32>
 
 /// Whether the unit that is due writes in the row, and no other.
 pub fn unit_rightly(known: &Known, row: &Row) -> bool
-    ensures { (k : Setting) (earlier : List RowValue) → IsKnown k earlier row.now known.now
+    ensures { (k : Setting) (earlier : List RowValue) → IsReady k earlier known.now
         → (result ≡ true → WritesUnit k earlier row.now) × (WritesUnit k earlier row.now → result ≡ true) }
 {
     is_same_serial(written_in(row), known.granted)

@@ -7,8 +7,8 @@ ghost use Rattle.rv_lawful.specs.LawfulTrace.{WritesUnit, Lawful};
 ghost use Rattle.rv_rows.specs.Facts.{IsPlain};
 ghost use Rattle.rv_kinds.specs.Kinds.{MovesRightly, FetchesRightly, SucceedsRightly, StopsInPlace};
 ghost use Rattle.rv_kinds.specs.Laws.{AreEmptyUnits};
-ghost use Rattle.rv_known.specs.Known.{IsKnown};
-ghost use Rattle.rv_marks.specs.Stops.{own_stop as specified_own_stop, last_gone, empty_after, fetch_stops, due_of, due_stop as specified_due_stop, IsHeld};
+ghost use Rattle.rv_known.specs.Known.{IsKnown, IsHeld};
+ghost use Rattle.rv_marks.specs.Stops.{own_stop as specified_own_stop, last_gone, empty_after, fetch_stops, due_of, due_stop as specified_due_stop};
 
 use crate::names::{cell_in, is_among, stages};
 use crate::succeeding::{are_flushed, below};

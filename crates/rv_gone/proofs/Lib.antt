@@ -1,0 +1,5 @@
+mod Tests
+mod Places
+mod Coming
+mod Leaving
+mod Past

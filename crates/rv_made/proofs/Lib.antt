@@ -1,0 +1,4 @@
+pub mod Cells
+pub mod Rows
+pub mod Sound
+pub mod Lines

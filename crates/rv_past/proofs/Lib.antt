@@ -1,0 +1,4 @@
+pub mod Widths
+pub mod Told
+pub mod Plainly
+pub mod Sound
