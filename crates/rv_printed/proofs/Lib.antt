@@ -1,0 +1,14 @@
+mod Hexes
+mod Retirements
+mod States
+mod Counting
+mod Committed
+mod Asked
+mod Named
+mod Lines
+mod Recorded
+mod Behind
+mod Texts
+mod Whole
+mod Late
+mod Fitting
