@@ -1,3 +1,3 @@
-mod Making
-mod Folding
+pub mod Making
+pub mod Folding
 mod Audited

@@ -1,5 +1,5 @@
 -- What is kept of one row more.
-use Rattle.std.proofs.Common.{◌≡◌, ◌∙◌, refl, sym, ap, subst, ℕ, zero, suc, ◌+◌, ◌-◌, ◌<◌, List, [], ◌∷◌, take, Option, Some, None, Bool, true, false, arith}
+use Rattle.std.proofs.Common.{◌≡◌, ◌∙◌, refl, sym, ap, subst, ℕ, zero, suc, ◌+◌, ◌-◌, ◌<◌, ◌≤◌, List, [], ◌∷◌, take, Option, Some, None, Bool, true, false, arith}
 use Rattle.std.specs.Prelude.{slice_get, ◌==◌, ◌&&◌, if◌then◌else◌, is_some}
 use Rattle.std.proofs.lemmas.Bool.Decides.{nat_tests}
 use Rattle.rv_trace.specs.declared.row.Cell.{Cell}
@@ -52,7 +52,7 @@ module _ (k : Setting) (earlier : List Row) (before row : Row) (kept : Kept) (pl
   was_standing : (stage : ℕ) (o : Option Cell) → stage < k.shape.stages → slice_get before.cells stage ≡ Some o → slice_get (stages_of k (newest earlier)) stage ≡ Some o
   was_standing stage o lt e = ap (λ (r : Row). slice_get (stages_of k r) stage) newest_is ∙ get_first k.shape.stages stage before.cells lt ∙ e
 
-  stood_before : (o : Option Cell) (c : Cell) → slice_get before.cells k.shape.mem ≡ Some o → stood k earlier c.serial ≡ (if was_here o c.serial then kept.stood else 0)
+  pub stood_before : (o : Option Cell) (c : Cell) → slice_get before.cells k.shape.mem ≡ Some o → stood k earlier c.serial ≡ (if was_here o c.serial then kept.stood else 0)
   stood_before o c e = by_case (was_here o c.serial) refl where
     mem_in : k.shape.mem < k.shape.stages
     mem_in = plain.mem_last
@@ -70,7 +70,7 @@ module _ (k : Setting) (earlier : List Row) (before row : Row) (kept : Kept) (pl
     by_case true h = found o refl h
     by_case false h = stood_none k earlier c.serial (ap (λ p. has_cell p c.serial) there ∙ here_is o c.serial ∙ h)
 
-  tailed_before : (facts : AboveFacts k earlier row) (last : ℕ) (o : Option Cell) (c : Cell) → suc last ≡ k.shape.stages → slice_get before.cells last ≡ Some o → Stands k row last c
+  pub tailed_before : (facts : AboveFacts k earlier row) (last : ℕ) (o : Option Cell) (c : Cell) → suc last ≡ k.shape.stages → slice_get before.cells last ≡ Some o → Stands k row last c
       → tailed k earlier c.serial ≡ (if was_here o c.serial then kept.tailed else 0)
   tailed_before facts last o c end e s = by_case (was_here o c.serial) refl where
     last_in : last < k.shape.stages
@@ -102,6 +102,24 @@ tailed_more k earlier row last c end s =
     ap (λ n. if has_tail (slice_get (stages_of k row) n) c.serial then suc (tailed k earlier c.serial) else tailed k earlier c.serial) at
     ∙ ap (λ o. if has_tail o c.serial then suc (tailed k earlier c.serial) else tailed k earlier c.serial) s
     ∙ ap (λ b. if b && is_tail c.hold then suc (tailed k earlier c.serial) else tailed k earlier c.serial) (same_test c.serial)
+
+-- no count rises by more than one
+
+pub stood_most : (number : ℕ) (before now : Option Cell) → stood_then number before now ≤ number + 1
+stood_most number before None = omega arith
+stood_most number before (Some c) = by_case (was_here before c.serial) where
+  by_case : (b : Bool) → (if b then number + 1 else 1) ≤ number + 1
+  by_case true = omega arith
+  by_case false = omega arith
+
+pub tailed_most : (number : ℕ) (before now : Option Cell) → tailed_then number before now ≤ number + 1
+tailed_most number before None = omega arith
+tailed_most number before (Some c) = by_case (was_here before c.serial) (is_tail c.hold) where
+  by_case : (b more : Bool) → counted (if b then number else 0) more ≤ number + 1
+  by_case true true = omega arith
+  by_case true false = omega arith
+  by_case false true = omega arith
+  by_case false false = omega arith
 
 pub kept_more : RowFacts → (k : Setting) (earlier : List Row) (before row : Row) (kept new : Kept) (plain_at last : ℕ) (first was_memory memory was_last at_last : Option Cell) → IsPlain k → AreGoingOn k earlier
     → newest earlier ≡ before → LawfulRow k earlier row → plain_at ≡ plain_fetch k earlier (fetch_address k earlier) row → IsKept k earlier kept → suc last ≡ k.shape.stages

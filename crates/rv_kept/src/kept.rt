@@ -118,7 +118,9 @@ pub fn keep(shape: Shape, kept: Kept, before: &Row, row: &Row, plain: u32) -> Ke
     requires retired { kept.retired + 1 < 2 ^ 32 }
     requires stood { kept.stood + 1 < 2 ^ 32 }
     requires tailed { kept.tailed + 1 < 2 ^ 32 }
-    ensures { (k : Setting) (earlier : List TraceRow) → k.shape ≡ shape → IsPlain k → AreGoingOn k earlier → newest earlier ≡ before.now → LawfulRow k earlier row.now → plain ≡ plain_fetch k earlier (fetch_address k earlier) row.now → IsKept k earlier kept → IsKept k (row.now ∷ earlier) result }
+    ensures stood { result.stood ≤ kept.stood + 1 }
+    ensures tailed { result.tailed ≤ kept.tailed + 1 }
+    ensures kept { (k : Setting) (earlier : List TraceRow) → k.shape ≡ shape → IsPlain k → AreGoingOn k earlier → newest earlier ≡ before.now → LawfulRow k earlier row.now → plain ≡ plain_fetch k earlier (fetch_address k earlier) row.now → IsKept k earlier kept → IsKept k (row.now ∷ earlier) result }
 {
     row_facts();
     let memory = usize::from(shape.mem);

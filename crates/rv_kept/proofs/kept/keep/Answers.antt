@@ -2,11 +2,23 @@ use Rattle.std.proofs.Common.{◌≡◌, ◌∙◌, sym, ap, subst, suc, ◌-◌
 use Rattle.std.specs.Prelude.{slice_get}
 use Rattle.rv_core.specs.declared.Shape.{Shape}
 use Rattle.rv_kept.specs.Kept.{counted}
-use Rattle.rv_kept.proofs.Keeping.{kept_more}
+use Rattle.rv_kept.proofs.Keeping.{stood_most, tailed_most, kept_more}
 use Rattle.rv_kept.proofs.kept.keep.Goals as goal
 
-pub returns : goal.returns
-returns c = λ k earlier shape plain going newest_is lawful plain_is is.
+pub returns-clause-stood : goal.returns-clause-stood
+returns-clause-stood c =
+    let stood = c.stood_then.ensures in
+    let most = stood_most c.args.kept.stood c.cell_at-was_memory.result c.cell_at-in_memory.result in
+    omega (arith, stood, most)
+
+pub returns-clause-tailed : goal.returns-clause-tailed
+returns-clause-tailed c =
+    let tailed = c.tailed_then.ensures in
+    let most = tailed_most c.args.kept.tailed c.cell_at-was_last.result c.cell_at-at_last.result in
+    omega (arith, tailed, most)
+
+pub returns-clause-kept : goal.returns-clause-kept
+returns-clause-kept c = λ k earlier shape plain going newest_is lawful plain_is is.
     let mem = ap (λ (s : Shape). s.mem) shape ∙ sym c.from-memory.ensures in
     let stages = ap (λ (s : Shape). s.stages) shape in
     let end : suc (c.from-last.result - 1) ≡ k.shape.stages = omega (arith, stages, c.requires.stages, c.from-last.ensures) in

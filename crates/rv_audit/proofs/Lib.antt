@@ -1,0 +1,9 @@
+mod Writes
+mod Wrong
+mod Forms
+mod Told
+mod Numbers
+mod Causes
+mod Ending
+mod Ended
+mod Rows

@@ -1,0 +1,10 @@
+mod Tests
+mod Steps
+mod Serials
+mod Cells
+mod Gone
+mod Executed
+mod Retired
+mod Writing
+mod Telling
+mod Going
