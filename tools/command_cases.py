@@ -416,6 +416,193 @@ due("run LARGE FIVE EMPTY NOWAITS BADROW0 20", 15, "refused Lines 0\n")
 due("run LARGE FIVE EMPTY NOWAITS ROW3 20", 7, "refused Extension TooManyOps large\n")
 due("run MULX SLOW EMPTY NOWAITS ROW3 20", 10, (NONE + UNTIMED).replace("delay 600", "delay 1200") + "cycle chain 2\nend\n")
 
+# audits: the sum of five and seven on three stages, its texts with one thing changed, and a sum that is written later
+file("T", ADD_RUN)
+due("audit NONE CORE3 ADD NOWAITS T", 0, "yes\n")
+# without a reason to stay they are those of a core that forwards
+FORWARDED_RUN = ADD_RUN.replace("/Behind", "").replace("/Operand(x2,1)", "").replace("4 3@0000000c 2@00000008 -\n5 -", "4 -")
+file("CORE3F", 'core = "three_f"\nperiod = 1000\n')
+file("TFORWARDED", FORWARDED_RUN)
+due("audit NONE CORE3F ADD NOWAITS TFORWARDED", 0, "yes\n")
+due("audit NONE CORE3 ADD NOWAITS TFORWARDED", 16, "refused Trace 5 Hold\n")
+due("audit NONE CORE3F ADD NOWAITS T", 16, "refused Trace 5 Hold\n")
+due("audit NONE CORE5 ADD NOWAITS T", 16, "refused Trace 1 Line\n")
+# on five stages, with an instruction of an extension
+file("TSUM", """0 0@00000000 - - - -
+1 1@00000004 0@00000000 - - -
+2 2@00000008/Behind 1@00000004/Operand(x1,0) 0@00000000 - -
+3 2@00000008/Behind 1@00000004/Operand(x1,0) - 0@00000000 -
+4 2@00000008/Behind 1@00000004/Operand(x1,0) - - 0@00000000 r0
+= 0 00000000 00500093 x1=00000005
+5 2@00000008 1@00000004 - - -
+6 - 2@00000008 1@00000004 - -
+7 - - 2@00000008/Drain(1) 1@00000004 -
+8 - - 2@00000008 - 1@00000004 r1 stop Ebreak
+= 1 00000004 0010818b x3=0000000a
+state
+pc 00000008
+x1 00000005
+x3 0000000a
+""")
+due("audit SUMX KEPT SUM NOWAITS TSUM", 0, "yes\n")
+due("audit NONE KEPT SUM NOWAITS TSUM", 16, "refused Trace 3 Hold\n")
+# no row, a row in which nothing is left, and the rows so far of a run
+for n, (image, text) in enumerate([("ADD", NO_CYCLE), ("EMPTY", EMPTY_RUN), ("ADD", "".join(ADD_RUN.splitlines(True)[:6]) + "state\npc 00000008\nx1 00000005\nx2 00000007\n")]):
+    file(f"TYES{n}", text)
+    due(f"audit NONE CORE3 {image} NOWAITS TYES{n}", 0, "yes\n")
+# of the sum's trace: a reason to stay that is not the first, is of another register or is left out, and a line behind a row before the next row
+for n, (old, new, line) in enumerate([
+    ("Operand(x2,1)", "Operand(x1,0)", "5 Hold"),
+    ("Operand(x2,1)", "Late(1)", "5 Hold"),
+    ("/Behind", "", "5 Hold"),
+    ("4 3@0000000c 2@00000008", "4 3@0000000c/Behind 2@00000008/Operand(x2,1)", "7 Hold"),
+    ("2@00000008 -\n", "2@00000008 - f3\n", "7 Successor"),
+    ("2@00000008 r2 stop", "2@00000008/Drain(1) r2 stop", "8 Moves"),
+    ("5 - 3@0000000c 2", "5 - 3@0000000c/Drain(2) 2", "8 Moves"),
+    ("x1=00000005\n3 3@0000000c/Behind", "x1=00000006\n3 3@0000000c", "4 Commit"),
+]):
+    assert ADD_RUN.count(old) == 1
+    file(f"TADD{n}", ADD_RUN.replace(old, new))
+    due(f"audit NONE CORE3 ADD NOWAITS TADD{n}", 16, f"refused Trace {line}\n")
+# of a short one: a place that is changed, and the first line that is refused
+file("ONE", "00500093\n")
+ROW0, ROW1, ROW2 = "0 0@00000000 - -\n", "1 - 0@00000000 -\n", "2 - - 0@00000000 r0 stop Fetch\n"
+RETIRED, X1 = "= 0 00000000 00500093 x1=00000005\n", "x1 00000005\n"
+ONE_RUN = ROW0 + ROW1 + ROW2 + RETIRED + "state\npc 00000004\n" + X1
+file("TONE", ONE_RUN)
+due("audit NONE CORE3 ONE NOWAITS TONE", 0, "yes\n")
+MARKS = "w0 p00000010 stop Fetch\n+ 0\n"
+for n, (old, new, line) in enumerate([
+    (ONE_RUN, "", "1 Line"),
+    (ONE_RUN, "\n", "1 Line"),
+    (ONE_RUN, "state\n", "2 Line"),
+    (X1, X1[:-1], "7 Line"),
+    (X1, X1 + "\n", "8 Line"),
+    (X1, X1 + "c0 0\n", "8 Line"),
+    (X1, "m 80000000 00000001\n" + X1, "8 Line"),
+    (X1, "x32 00000005\n", "7 Line"),
+    ("pc 00000004\n", "", "6 Line"),
+    ("state\n", "", "5 Line"),
+    (ROW1, "2" + ROW1[1:], "2 Line"),
+    (ROW1, "1 " + ROW1[1:], "2 Line"),
+    (ROW1, "1 - 00@00000000 -\n", "2 Line"),
+    (ROW1, "1 - 0@0000000 -\n", "2 Line"),
+    (ROW1, "1 - 0@0000000A -\n", "2 Line"),
+    (ROW1, "1 - 0@00000000 - -\n", "2 Line"),
+    (ROW1, "1 - 0@00000000 - f3 f2\n", "2 Line"),
+    (ROW1, "1 - 0@00000000 - stop\n", "2 Line"),
+    (ROW1, "1 - 0@00000000/Operand(x32,0) -\n", "2 Line"),
+    (ROW1, "1 - 0@00000000/Wait(256) -\n", "2 Line"),
+    (ROW1, "1 - 0@00000000/Custom(c0,0) -\n", "2 Line"),
+    (ROW1, "1 - 0@00000000/Trap -\n", "2 Line"),
+    (ROW1, "1 - 0@00000000 - w0\n", "3 Line"),
+    (RETIRED, "", "4 Line"),
+    (RETIRED, RETIRED + RETIRED, "5 Line"),
+    ("x1=00000005", "x1=0000005", "4 Line"),
+    ("x1=00000005", "x1=00000005 c0=0", "4 Line"),
+    (ROW1, "1 - - 0@00000000\n", "2 Moves"),
+    (ROW1, "1 - 0@00000004 -\n", "2 Moves"),
+    (" r0 stop Fetch\n" + RETIRED, " stop Fetch\n", "3 Moves"),
+    ("0@00000000 r0", "0@00000000/Tail(1) r0", "3 Moves"),
+    (ROW1, "1 - 0@00000000/Wait(1) -\n", "2 Hold"),
+    ("0 0@", "0 1@", "1 Fetch"),
+    (ROW1, "1 1@00000004 0@00000000 -\n", "2 Fetch"),
+    (ROW0, "0 - - -\n", "1 Fetch"),
+    (ROW1, "1 - 0@00000000 - p00000010\n", "2 Successor"),
+    (ROW1, "1 - 0@00000000 - f9\n", "2 Successor"),
+    (ROW1, "1 - 0@00000000 - w0\n+ 0 x1=00000005\n", "2 Unit"),
+    (" stop Fetch", "", "3 Stop"),
+    ("stop Fetch", "stop Ecall", "3 Stop"),
+    (ROW1, "1 - 0@00000000 - stop Ebreak\n", "2 Stop"),
+    ("state\n", "3 - - - stop Fetch\nstate\n", "5 Stop"),
+    ("x1=00000005", "x1=00000006", "4 Commit"),
+    ("= 0 0", "= 1 0", "4 Commit"),
+    ("x1=00000005", "x1=00000005 pc=00000004", "4 Commit"),
+    ("x1=00000005", "x1=later", "4 Commit"),
+    ("pc 00000004", "pc 00000008", "6 State"),
+    (X1, "x1 00000006\n", "7 State"),
+    (X1, "", "7 State"),
+    (X1, X1 + "x2 00000000\n", "8 State"),
+    # two and more in one text: the form of all lines first, then the rows one by one, each respect in its turn; the state comes last
+    ("".join([ROW1, ROW2, RETIRED, "state\n", "pc 00000004\n", X1]), "1 - - 0@00000000\n" + ROW2 + RETIRED + "state\npc 00000004\n" + X1[:-1], "7 Line"),
+    (ROW1, "1 - 0@00000000/Tail(1) 0@00000000 " + MARKS, "2 Moves"),
+    (ROW1, "1 1@00000004 0@00000000/Tail(1) - " + MARKS, "2 Hold"),
+    (ROW0, "0 1@00000000 - - " + MARKS, "1 Fetch"),
+    (ROW0, "0 0@00000000 - - " + MARKS, "1 Successor"),
+    (ROW0, "0 0@00000000 - - w0 stop Fetch\n+ 0\n", "1 Unit"),
+    ("Fetch\n" + RETIRED, "Ecall\n" + RETIRED.replace("x1", "x2"), "3 Stop"),
+    (RETIRED + "state\npc 00000004", RETIRED.replace("x1", "x2") + "state\npc 00000008", "4 Commit"),
+]):
+    assert ONE_RUN.count(old) == 1
+    file(f"TONE{n}", ONE_RUN.replace(old, new))
+    due(f"audit NONE CORE3 ONE NOWAITS TONE{n}", 16, f"refused Trace {line}\n")
+file("TSTOPPED", EMPTY_RUN.replace("state", "1 - - - stop Fetch\nstate"))
+due("audit NONE CORE3 EMPTY NOWAITS TSTOPPED", 16, "refused Trace 2 Stop\n")
+file("THANDLED", HANDLED_RUN)
+due("audit NONE CORE3 HANDLED NOWAITS THANDLED", 16, "refused Trace 5 Line\n")
+# a sum that its unit writes, in a row in which another instruction retires
+file("LATER", "00500093\n0010818b\n00000013\n00000013\n00100073\n")
+LATER_RUN = """0 0@00000000 - -
+1 1@00000004 0@00000000 -
+2 2@00000008/Behind 1@00000004/Operand(x1,0) 0@00000000 r0
+= 0 00000000 00500093 x1=00000005
+3 2@00000008 1@00000004 -
+4 3@0000000c 2@00000008 1@00000004 r1
+= 1 00000004 0010818b x3=later
+5 4@00000010 3@0000000c 2@00000008 r2
+= 2 00000008 00000013
+6 - 4@00000010 3@0000000c r3 w1 stop Ebreak
+= 3 0000000c 00000013
++ 1 x3=0000000d
+state
+pc 00000010
+x1 00000005
+x3 0000000d
+"""
+OWED_RUN = "".join(LATER_RUN.splitlines(True)[:9]) + "state\npc 0000000c\nx1 00000005\no 1 x3\n"
+for n, text in enumerate([LATER_RUN, OWED_RUN]):
+    file(f"TLATER{n}", text)
+    due(f"audit SUMS CORE3 LATER NOWAITS TLATER{n}", 0, "yes\n")
+for n, (text, old, new, line) in enumerate([
+    (LATER_RUN, "= 3 0000000c 00000013\n+ 1 x3=0000000d\n", "+ 1 x3=0000000d\n= 3 0000000c 00000013\n", "11 Line"),
+    (LATER_RUN, "+ 1 x3=0000000d", "+ 1 x3=later", "12 Line"),
+    (LATER_RUN, " w1 stop Ebreak\n= 3 0000000c 00000013\n+ 1 x3=0000000d\n", " stop Ebreak\n= 3 0000000c 00000013\n", "10 Unit"),
+    (LATER_RUN, "2@00000008 r2\n= 2 00000008 00000013\n", "2@00000008 r2 w1\n= 2 00000008 00000013\n+ 1 x3=0000000d\n", "8 Unit"),
+    (LATER_RUN, "x3=later", "x3=0000000d", "7 Commit"),
+    (LATER_RUN, "= 3 0000000c 00000013\n+ 1 x3=0000000d", "= 3 0000000c 00000093\n+ 1 x3=0000000c", "11 Commit"),
+    (LATER_RUN, "+ 1 x3=0000000d", "+ 1 x3=0000000c", "12 Write"),
+    (LATER_RUN, "+ 1 x3=0000000d", "+ 1", "12 Write"),
+    (LATER_RUN, "+ 1 x3=0000000d\nstate\npc 00000010", "+ 1 x4=0000000d\nstate\npc 00000014", "12 Write"),
+    (OWED_RUN, "o 1 x3\n", "", "13 State"),
+    (OWED_RUN, "o 1 x3\n", "o 2 x3\n", "13 State"),
+    (OWED_RUN, "x1 00000005\n", "x1 00000005\nx3 0000000d\n", "13 State"),
+]):
+    assert text.count(old) == 1
+    file(f"TLATE{n}", text.replace(old, new))
+    due(f"audit SUMS CORE3 LATER NOWAITS TLATE{n}", 16, f"refused Trace {line}\n")
+# words, files in order, the schedule behind them all, and reads and writes that fail
+for words in ["audit", "audit NONE CORE3 ADD NOWAITS", "audit NONE CORE3 ADD NOWAITS T T", "audits NONE CORE3 ADD NOWAITS T", "Audit NONE CORE3 ADD NOWAITS T", "audit ADD T"]:
+    due(words, 2, "refused Usage\n")
+due("audit EMPTY LOST LOST LOST LOST", 7, "refused Extension At 0 0\n")
+due("audit NONE NOTEXT LOST LOST LOST", 8, "refused Sheet Utf8 -\n")
+due("audit NONE CORE3 BADWORD LOST LOST", 9, "refused Image 2\n")
+due("audit NONE CORE3 ADD BADWAIT LOST", 14, "refused Waits 1\n")
+due("audit NONE CORE3 ADD LOST EMPTY", 4, "refused ReadFault LOST\n")
+due("audit NONE CORE3 ADD NOWAITS LOST", 4, "refused ReadFault LOST\n")
+due("audit NONE CORE3 ADD NOWAITS LINES1", 6, "refused TooLong LINES1\n")
+due("audit NONE CORE3 ADD NOWAITS LINES", 16, "refused Trace 1 Line\n")
+due("audit MULX SLOW ADD NOWAITS LOST", 4, "refused ReadFault LOST\n")
+due("audit MULX SLOW ADD NOWAITS LINES1", 6, "refused TooLong LINES1\n")
+due("audit MULX SLOW ADD NOWAITS EMPTY", 10, (NONE + UNTIMED).replace("delay 600", "delay 1200") + "cycle chain 2\nend\n")
+due("audit LARGE FIVE ADD NOWAITS EMPTY", 7, "refused Extension TooManyOps large\n")
+# a file takes one read more than it has parts of 4,096 bytes, which sees its end
+for n, name in enumerate(["NONE", "NONE", "CORE3", "CORE3", "ADD", "ADD", "NOWAITS", "T", "T"]):
+    due("audit NONE CORE3 ADD NOWAITS T", 4, f"refused ReadFault {name}\n", (n, 4096, "-", 4096))
+due("audit NONE CORE3 ADD NOWAITS T", 0, "yes\n", (9, 4096, "-", 4096))
+for n in range(6):
+    due("audit NONE CORE3 ADD NOWAITS T", 0 if n > 3 else 5, "yes\n"[:n], ("-", 4096, n, 1))
+    due("audit NONE CORE3 ADD NOWAITS EMPTY", 16 if n > 2 else 5, "refused Trace 1 Line\n"[: 8 * n], ("-", 4096, n, 8))
+
 STORED = [Path(__file__).resolve().parent / "commands" / name for name in ["tutorial", "schedules", "runs", "forwards", "base", "diagnoses"]]
 FOLDER.joinpath("stdin").write_bytes(b"".join(it.with_suffix(".cases").read_bytes() for it in STORED) + "".join(part + END for part in parts).encode())
 FOLDER.joinpath("stdout").write_bytes(b"".join(it.with_suffix(".answers").read_bytes() for it in STORED) + "".join(answer + END for answer in answers).encode())

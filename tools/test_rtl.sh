@@ -19,6 +19,7 @@ rtl=$examples/rtl
 document=$root/docs/INTEGRATION.md
 ports=$user/ports.py
 compare=$user/rtl_compare.py
+trace=$user/rtl_trace.py
 wave=$user/wave_compare.py
 room=$(mktemp -d "${TMPDIR:-/tmp}/ixt-test-rtl-XXXXXX") || exit 1
 trap 'rm -rf "$room"' EXIT
@@ -63,7 +64,7 @@ says() {
     if grep -qF -- "$1" out; then pass; else fail "no '$1' in: $(tail -n 3 out)"; fi
 }
 
-for script in "$ports" "$compare" "$wave"; do
+for script in "$ports" "$compare" "$trace" "$wave"; do
     ends 0 "$script" --help
     grep -q '^usage' out || fail "$script --help has no usage"
     ends 2 "$script" --no-such-option
@@ -167,6 +168,11 @@ ends 2 "$compare" --rows 200001
 ends 0 "$compare" --list-plants
 says "enable-always"
 
+set -- "$rtl/auto-increment.v" "$own.core_desc" "$sheet" "$own.hex" "$examples/some.waits"
+refused "was not found" "$trace" --iverilog no-such-program "$@" 60
+ends 2 "$trace" "$@"
+ends 2 "$trace" "$@" 200001
+
 if ! command -v iverilog > /dev/null || ! command -v vvp > /dev/null; then
     echo "not run: the core of examples/rtl and test benches, since Icarus Verilog is missing"
     echo "$passed passed, $failed failed"
@@ -222,6 +228,55 @@ refused "No such file" "$compare" --programs no-such-file --random 1 square-root
 refused "the program refused" "$compare" --sheet "$own.hex" square-root
 printf 'core = "four"\nperiod = 1000\n' > four.toml
 refused "a core of 4 stages" "$compare" --sheet four.toml auto-increment
+
+# The core's own traces, judged by the program
+
+: > none.waits
+
+# Whether the core with a wrapper makes lawful rows: a wrapper, and the files as `audit` takes them.
+lawful() {
+    wrapper=$1
+    shift
+    ends 0 "$trace" "$wrapper" "$@" 300
+    cp out core.trace
+    ends 0 "$IXT" audit "$@" core.trace
+    [ "$(cat out)" = yes ] || fail "the rows of $wrapper with $3 and $4: $(cat out)"
+}
+
+for wrapper in "$rtl"/*.v; do
+    name=$(basename "$wrapper" .v)
+    extension=$examples/$name.core_desc
+    [ -f "$extension" ] || extension=$rtl/$name.core_desc
+    [ -f "$extension" ] || continue
+    for source in "$examples/$name.hex" "$rtl/$name.s" "$examples/count-down.s" "$examples/sort.s"; do
+        case $source in
+            *.s) [ ! -f "$source" ] || "$IXT" asm "$extension" "$source" > image.hex ;;
+            *) [ ! -f "$source" ] || cp "$source" image.hex ;;
+        esac
+        [ -f "$source" ] || continue
+        lawful "$wrapper" "$extension" "$sheet" image.hex none.waits
+        lawful "$wrapper" "$extension" "$sheet" image.hex "$examples/some.waits"
+    done
+done
+# (an operand that is inverted gives another root, and a hold that is a cycle too long another row)
+set -- "$examples/square-root.core_desc" "$sheet" "$examples/square-root.hex" none.waits
+sed 's/\.in0(rd_x1)/.in0(~rd_x1)/' "$rtl/square-root.v" > wrong.v
+ends 0 "$trace" wrong.v "$@" 300
+cp out wrong.trace
+ends 16 "$IXT" audit "$@" wrong.trace
+says "refused Trace "
+says " Commit"
+sed 's/\.CYCLES(8)/.CYCLES(9)/' "$rtl/square-root.v" > slow.v
+ends 0 "$trace" slow.v "$@" 300
+cp out slow.trace
+ends 16 "$IXT" audit "$@" slow.trace
+says "refused Trace "
+says " Hold"
+refused "No such file" "$trace" no-such-file "$@" 300
+refused "refused ReadFault" "$trace" "$rtl/square-root.v" no-such-file "$sheet" "$3" none.waits 300
+refused "No such file" "$trace" "$rtl/square-root.v" "$1" "$sheet" "$3" no-such-file 300
+refused "no list of waits" "$trace" "$rtl/square-root.v" "$1" "$sheet" "$3" "$1" 300
+refused "iverilog failed" "$trace" other.v "$@" 300
 
 # Dumps of ports beside the same modules, for all examples on all cores
 

@@ -114,8 +114,18 @@ refused "no behaviour is named" "$user/sweep_picture.py" dot-product.sweep --beh
 
 : > none.waits
 
-# Runs a program on a core with an extension, and gives its trace to all scripts. A run that is
-# refused is refused by them.
+printf 'yes\n' > yes
+
+# Whether a trace is judged to be that of a lawful run: its files, as `audit` takes them. One that is
+# longer than a file may be is left out.
+lawful() {
+    [ "$(wc -c < "$5")" -le 1048576 ] || return 0
+    ends 0 "$program" audit "$@"
+    if cmp -s out yes; then pass; else fail "audit $* says $(cat out)"; fi
+}
+
+# Runs a program on a core with an extension, has its trace judged, and gives it to all scripts. A
+# run that is refused is refused by them.
 run_all_scripts() {
     extension=$1 sheet=$2 image=$3 source=$4
     name=run-$(basename "$extension" .core_desc)-$(basename "$sheet" .toml)-$(basename "$source")
@@ -124,6 +134,7 @@ run_all_scripts() {
         refused "the program refused" "$user/trace_picture.py" trace
         return
     fi
+    lawful "$extension" "$sheet" "$image" "$examples/some.waits" trace
     ends 0 "$user/trace_summary.py" trace --source "$source"
     # (the cycles of all causes come to all cycles)
     awk '/^cycles +[0-9]+$/{cycles = $2} /^cycles  share/{table = 1; next} /^$/{table = 0} table{sum += $1} END{exit sum != cycles}' out ||
@@ -155,12 +166,62 @@ for sheet in "$examples"/*.toml; do
     run_all_scripts "$examples/two-decoupled.core_desc" "$sheet" "$examples/first-run.hex" "$examples/first-run.hex"
 done
 
+# Traces that are changed
+
+# Whether each byte of a trace, changed to another one, is refused, with a line and nothing else: its
+# files, as `audit` takes them.
+fragile() {
+    if python3 - "$program" "$@" << 'END'
+import os, re, subprocess, sys
+from concurrent.futures import ThreadPoolExecutor
+
+program, *files, trace = sys.argv[1:]
+with open(trace, "rb") as file:
+    text = file.read()
+
+def refused(at):
+    name = f"changed-{at}"
+    with open(name, "wb") as file:
+        file.write(text[:at] + bytes([text[at] ^ 1]) + text[at + 1 :])
+    words = [program, "audit", *files, name]
+    done = subprocess.run(words, stdout=subprocess.PIPE, stderr=subprocess.DEVNULL)
+    os.remove(name)
+    line = re.fullmatch(rb"refused Trace [1-9][0-9]* [A-Z][a-z]+\n", done.stdout)
+    return done.returncode == 16 and line is not None
+
+with ThreadPoolExecutor(os.cpu_count()) as workers:
+    answers = list(workers.map(refused, range(len(text))))
+missed = [at for at, answer in enumerate(answers) if not answer]
+print(f"{len(text)} bytes of a trace are changed, {len(missed)} of them not refused {missed[:9]}")
+sys.exit(bool(missed) or not text)
+END
+    then pass; else fail "changes of a trace of $3"; fi
+}
+
+# A run that is short, has its trace judged, and each change of it.
+is_judged() {
+    "$program" run "$1" "$2" "$3" "$4" "$5" > trace || fail "run $*"
+    lawful "$1" "$2" "$3" "$4" trace
+    fragile "$1" "$2" "$3" "$4" trace
+}
+
+is_judged "$examples/wide-add.core_desc" "$examples/three_f.toml" "$examples/first-run.hex" none.waits 20
+is_judged "$examples/two-decoupled.core_desc" "$examples/three.toml" "$examples/two-decoupled.hex" "$examples/some.waits" 14
+is_judged "$examples/auto-increment.core_desc" "$examples/five.toml" "$examples/auto-increment.hex" "$examples/some.waits" 18
+lawful "$examples/wide-add.core_desc" "$examples/three.toml" "$examples/first-run.hex" \
+    "$examples/some.waits" "$examples/first-run.trace"
+"$program" run "$examples/first-run.hex" 20 > trace
+if cmp -s trace "$examples/first-run.trace"; then pass; else fail "examples/first-run.trace is another trace"; fi
+
 # A run with an interrupt line
 
 "$program" run "$examples/wide-add.core_desc" "$examples/five.toml" "$examples/count-interrupts.hex" \
     "$examples/some.waits" "$examples/some.lines" 200 > trace || fail "the run with an interrupt line"
 ends 0 "$user/trace_summary.py" trace --source "$examples/count-interrupts.s"
 grep -q ' Interrupt: ' out || fail "no cycle is lost to an interrupt"
+ends 16 "$program" audit "$examples/wide-add.core_desc" "$examples/five.toml" \
+    "$examples/count-interrupts.hex" "$examples/some.waits" trace
+grep -q 'with an interrupt line is not judged' err || fail "no word on the interrupt line of a trace"
 ends 0 "$user/trace_picture.py" trace --source "$examples/count-interrupts.s" -o interrupts.svg
 fits interrupts.svg
 

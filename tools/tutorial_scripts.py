@@ -52,6 +52,9 @@ def check(program):
             if "explore" in command and not shutil.which("parallel"):
                 print(f"not run, since GNU parallel is missing: {command}")
                 continue
+            if "rtl_trace" in command and not shutil.which("iverilog"):
+                print(f"not run, since Icarus Verilog is missing: {command}")
+                continue
             done = subprocess.run(
                 ["sh", "-c", command], cwd=folder, env=around, stdout=subprocess.PIPE, check=False
             )

@@ -5,8 +5,8 @@ compares each cycle with `ixt run`.
 The core of five stages, a wrapper and the modules run in Icarus Verilog, over programs, over
 programs that look random, and over memories that wait. Compared are the text of the trace, row by
 row (which instruction stands in each stage and stays there, retirements with the values of
-registers and memory, late writes, flushes, the next fetch, the stop) and the state at the end; the
-reason for which an instruction stays is not. A plant is a mistake that is put into a wrapper or
+registers and memory, late writes, flushes, the next fetch, the stop) and the state at the end. So is
+the reason for which an instruction stays, but where it is the wrapper that holds it. A plant is a mistake that is put into a wrapper or
 into the core, which this script must see.
 """
 import argparse
@@ -24,6 +24,7 @@ from ixt_texts import (
     HOLD,
     ROOT,
     BadInput,
+    Report,
     add_program_option,
     finish,
     lines_of,
@@ -154,9 +155,21 @@ def traced(options, bench, case, room):
 # Comparing
 
 
-def wanted_lines(trace):
-    """The lines of a trace, where a cell that stays has no reason."""
-    return [STAYS.sub("/held", line) for line in trace.splitlines()]
+def wanted_line(line, found):
+    """A line of a trace, without the reasons that the line of the simulation does not have."""
+    parts = found.split(" ")
+    words = [
+        STAYS.sub("/held", word) if at < len(parts) and parts[at].endswith("/held") else word
+        for at, word in enumerate(line.split(" "))
+    ]
+    return " ".join(words)
+
+
+def wanted_lines(trace, found):
+    """The lines of a trace, without the reasons that those of the simulation do not have."""
+    lines = trace.splitlines()
+    parts = found[: len(lines)] + [""] * (len(lines) - len(found))
+    return [wanted_line(*it) for it in zip(lines, parts)]
 
 
 def found_lines(text, widths):
@@ -235,8 +248,8 @@ class Sums:
 def compare_case(options, bench, case, room):
     """The trace of a case and the first difference of the simulation from it."""
     trace = traced(options, bench, case, room)
-    text = simulated(options, bench, case, room)
-    return trace, difference_of(wanted_lines(trace), found_lines(text, bench.listing.widths))
+    found = found_lines(simulated(options, bench, case, room), bench.listing.widths)
+    return trace, difference_of(wanted_lines(trace, found), found)
 
 
 # Cases
@@ -289,12 +302,14 @@ def extension_of(name):
 
 
 class Wrapper(NamedTuple):
-    """A wrapper and its extension, with the modules and the listing that the program gives."""
+    """A wrapper and its extension, with the modules, the report and the listing that the program
+    gives."""
 
     name: str
     extension: Path
     file: Path
     modules: str
+    report: Report
     listing: Listing
 
 
@@ -305,7 +320,7 @@ def wrapper_of(options, name, extension, file):
     modules = answer_of(options, ["build", extension, options.sheet], what)
     listing = answer_of(options, ["check", extension], what)
     parsed = parse_report(report.splitlines(), what)
-    return Wrapper(name, extension, file, modules, listing_of(listing, parsed, what))
+    return Wrapper(name, extension, file, modules, parsed, listing_of(listing, parsed, what))
 
 
 def bench_of(options, wrapper, room, plant=None):

@@ -4,7 +4,7 @@ use Rattle.ix_diagnose.specs.Lines.{StartsLine, line_number}
 use Rattle.ix_diagnose.specs.Refusals.{IsWord, IsTold, before, line_count}
 use Rattle.ix_diagnose.specs.declared.place.Place.{Place}
 use Rattle.ix_diagnose.specs.declared.words.Status.{Status}
-use Rattle.ix_diagnose.specs.declared.words.Status.TheVariants.{Extension, Image, Certificate, Source}
+use Rattle.ix_diagnose.specs.declared.words.Status.TheVariants.{Extension, Image, Certificate, Source, Trace}
 
 -- the words whose lines tell a place by numbers
 pub record IsStatus (word : List ℕ) (status : Status) : Type 0 where
@@ -12,6 +12,7 @@ pub record IsStatus (word : List ℕ) (status : Status) : Type 0 where
   pub image : word ≡ codes "Image" → status ≡ Image
   pub certificate : word ≡ codes "Certificate" → status ≡ Certificate
   pub source : word ≡ codes "Source" → status ≡ Source
+  pub trace : word ≡ codes "Trace" → status ≡ Trace
 
 -- a byte in the line of that number
 pub record StandsIn (bytes : List ℕ) (number at : ℕ) : Type 0 where
@@ -36,3 +37,5 @@ pub record FindsPlace (status : Status) (rest bytes : List ℕ) (found : Option 
       → rest ≡ before (decimal number) kind → IsSomeAnd found (λ p. StandsIn bytes number p.from)
   pub source : (kind : List ℕ) (number : ℕ) → IsWord kind → IsLineOf bytes number → status ≡ Source
       → rest ≡ before kind (decimal number) → IsSomeAnd found (λ p. StandsIn bytes number p.from)
+  pub trace : (kind : List ℕ) (number : ℕ) → IsLineOf bytes number → status ≡ Trace
+      → rest ≡ before (decimal number) kind → IsSomeAnd found (λ p. StandsIn bytes number p.from)

@@ -66,6 +66,9 @@ pub fn diagnose(alloc: Global, line: &str, name: &str, bytes: &[u8]) -> Result<S
     ensures source { (kind : List ℕ) (n : ℕ) → IsWord kind → IsLineOf bytes.now n
         → line.now ≡ refusal_line (codes "Source") (before kind (decimal n))
         → IfOk result (λ text. TellsLine name.now bytes.now n (string_bytes text)) }
+    ensures trace { (kind : List ℕ) (n : ℕ) → IsLineOf bytes.now n
+        → line.now ≡ refusal_line (codes "Trace") (before (decimal n) kind)
+        → IfOk result (λ text. TellsLine name.now bytes.now n (string_bytes text)) }
 {
     match read_refusal(line) {
         Some(refusal) => tell(alloc, name, bytes, finding_of(refusal, bytes)),

@@ -10,6 +10,7 @@ use crate::search::{declaration, key_from, start_of_line, word_at};
 use crate::sheet::sheet_sentence;
 use crate::source::source_sentence;
 use crate::text::{before_blanks, behind_blanks};
+use crate::trace::trace_sentence;
 use crate::words::{Refusal, Status, cut, number, span};
 
 /// What is found of a refusal: the place, if one is told or found, what is wrong and what to write
@@ -150,6 +151,17 @@ fn report_finding(rest: &str, bytes: &[u8]) -> Finding<'static>
     at(line_place(bytes, told), sentence)
 }
 
+fn trace_finding(rest: &str, bytes: &[u8]) -> Finding<'static>
+    ensures { (kind : List ℕ) (n : ℕ) → IsLineOf bytes.now n → rest.now ≡ before (decimal n) kind
+        → IsSomeAnd result.place (λ p. StandsIn bytes.now n p.from) }
+{
+    let (told, kind) = cut(rest);
+    let place = line_place(bytes, told);
+    let line = place.unwrap_or(Place { from: 0, to: 0 });
+    let sentence = misplaced(Look::Other, bytes).unwrap_or(trace_sentence(kind, bytes, line));
+    at(place, sentence)
+}
+
 /// What is found of a number in a list of numbers, which is wrong as the sentence says.
 fn number_finding(rest: &str, bytes: &[u8], sentence: &'static str) -> Finding<'static> {
     let place = match number(rest) {
@@ -195,6 +207,7 @@ pub(crate) fn finding_of<'a>(refusal: Refusal<'a>, bytes: &[u8]) -> Finding<'a>
         Status::Certificate => report_finding(refusal.rest, bytes),
         Status::Waits => waits_finding(refusal.rest, bytes),
         Status::Lines => lines_finding(refusal.rest, bytes),
+        Status::Trace => trace_finding(refusal.rest, bytes),
         Status::NoSchedule => schedule_finding(refusal.rest, bytes),
         Status::ReadFault => at(
             None,
@@ -206,7 +219,7 @@ pub(crate) fn finding_of<'a>(refusal: Refusal<'a>, bytes: &[u8]) -> Finding<'a>
         ),
         Status::Usage | Status::Other => at(
             None,
-            "these words are not a command: write `run IMAGE CYCLES`, `run EXT SHEET IMAGE WAITS CYCLES`, `run EXT SHEET IMAGE WAITS LINES CYCLES`, `check EXT`, `certify REPORT`, `seq EXT IMAGE STEPS`, `asm EXT SOURCE`, `schedule EXT SHEET`, `build EXT SHEET`, `sweep EXT SHEET`, `bench EXT SHEET NUMBER COUNT` or `wave EXT SHEET IMAGE WAITS CYCLES`, CYCLES and STEPS being numbers from 0 to 200000, NUMBER from 0 to 4294967295, and COUNT from 0 to 10000",
+            "these words are not a command: write `run IMAGE CYCLES`, `run EXT SHEET IMAGE WAITS CYCLES`, `run EXT SHEET IMAGE WAITS LINES CYCLES`, `check EXT`, `certify REPORT`, `seq EXT IMAGE STEPS`, `asm EXT SOURCE`, `schedule EXT SHEET`, `build EXT SHEET`, `sweep EXT SHEET`, `bench EXT SHEET NUMBER COUNT`, `wave EXT SHEET IMAGE WAITS CYCLES` or `audit EXT SHEET IMAGE WAITS TRACE`, CYCLES and STEPS being numbers from 0 to 200000, NUMBER from 0 to 4294967295, and COUNT from 0 to 10000",
         ),
     }
 }

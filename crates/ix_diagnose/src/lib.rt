@@ -16,6 +16,7 @@ mod shown;
 mod source;
 mod subject;
 mod text;
+mod trace;
 mod words;
 
 pub use diagnosis::diagnose;

@@ -30,7 +30,7 @@ pub(crate) fn subject_of<'a>(line: &'a str, words: &'a [String]) -> Option<Subje
         Status::Sheet | Status::Source => 2,
         Status::Image => image_word(words.len()),
         Status::Waits => 4,
-        Status::Lines => 5,
+        Status::Lines | Status::Trace => 5,
         Status::Other => return None,
     };
     Some(Subject::File(words.get(word)?.as_str()))

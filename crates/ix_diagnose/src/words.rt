@@ -18,6 +18,7 @@ pub(crate) enum Status {
     Source,
     Waits,
     Lines,
+    Trace,
     /// No line of the tool begins so.
     Other,
 }
@@ -45,6 +46,7 @@ fn status_of(word: &str) -> Status
         "Source" => Status::Source,
         "Waits" => Status::Waits,
         "Lines" => Status::Lines,
+        "Trace" => Status::Trace,
         _ => Status::Other,
     }
 }

@@ -1,5 +1,6 @@
 -- What the assembly of a source, and the scheduling, the building and the sweeping of an extension, answers.
 use Rattle.std.proofs.Common.{◌≡◌, ℕ, List, [], ◌∷◌, Option, Some, None, refl, ◌⊎◌, inl, inr}
+use Rattle.std.specs.Prelude.{codes}
 use Rattle.ix_extension.specs.Extensions.{ExtensionTree}
 use Rattle.rv_text.specs.RunText.{run_text}
 use Rattle.rv_asm.specs.ImageText.{image_text}
@@ -10,18 +11,19 @@ use Rattle.ix_sheet.specs.declared.sheet.Sheet.{Sheet}
 use Rattle.ix_schedules.specs.declared.text.TextErr.{TextErr}
 use Rattle.ix_schedules.specs.ScheduleText.{IsScheduleText, IsRefusedText as IsRefusedSchedule}
 use Rattle.ix_words.specs.declared.status.Status.{Status}
-use Rattle.ix_words.specs.declared.status.Status.TheVariants.{Ok as ok_status, Memory, Source, Extension as extension_status}
+use Rattle.ix_words.specs.declared.status.Status.TheVariants.{Ok as ok_status, Memory, Source, Extension as extension_status, Trace}
+use Rattle.rv_audit.specs.declared.auditing.AuditErr.{AuditErr}
 use Rattle.ix_modules.specs.Modules.{IsModulesText}
 use Rattle.ix_schedules.specs.Scheduling.{behaviours_of}
 use Rattle.ix_sweeps.specs.declared.sweeping.SweepErr.TheVariants as W
 use Rattle.ix_sweeps.specs.Sweeping.{IsFirstLarge}
 use Rattle.ix_sweeps.specs.SweepText.{IsSweepText}
 use Rattle.ix_words.specs.declared.command.Command.{Command}
-use Rattle.ix_words.specs.declared.command.Command.TheVariants.{Assemble, Schedule, Build, Sweep, Seq, Bench}
+use Rattle.ix_words.specs.declared.command.Command.TheVariants.{Assemble, Schedule, Build, Sweep, Seq, Bench, Audit}
 use Rattle.ix_words.specs.declared.command.RunForm.{RunForm}
 use Rattle.ix_words.specs.declared.command.RunForm.TheVariants.{Rows, Interrupted, Ports}
-use Rattle.ix_words.specs.Readings.{Reading, extension_read, sheet_read, source_read, image_read, waits_read, lines_read, number_read}
-use Rattle.ix_tool.specs.CommandOutput.{command_in, run_values, HasLines, Writes, IsToldAs, Schedules, Answered, IsExtensionRun, IsDrawnRun, source_line}
+use Rattle.ix_words.specs.Readings.{Reading, extension_read, sheet_read, source_read, image_read, waits_read, lines_read, trace_read, number_read}
+use Rattle.ix_tool.specs.CommandOutput.{command_in, run_values, HasLines, Writes, IsToldAs, Schedules, Answered, IsExtensionRun, IsDrawnRun, IsAuditedRun, IsFaultyRun, source_line, fault_line}
 
 module _ (x : ExtensionTree) (bytes : List ℕ) (before now : Option (List ℕ)) (faults faults_now : ℕ) (result : Status) where
   pub image_answered : (words : List ℕ) → Assembles x bytes words → (((result ≡ Memory) × (now ≡ before)) ⊎ Writes ok_status (image_text words) before now faults faults_now result)
@@ -69,7 +71,7 @@ module _ (x : ExtensionTree) (sheet : Sheet) (before now : Option (List ℕ)) (f
 
   pub large_answered : (line : List ℕ) → IsFirstLarge x (behaviours_of x) (W.TooManyOps line) → Writes extension_status line before now faults faults_now result → Answered Sweep (extension_read x ∷ sheet_read sheet ∷ []) before now faults faults_now result
   large_answered line h w =
-      inr (extension_status, line, inl (inr (inr (record { command_is = refl; extension = x; sheet = sheet; values_are = refl; refused = h; status_is = refl }))), w)
+      inr (extension_status, line, inl (inr (inr (inl (record { command_is = refl; extension = x; sheet = sheet; values_are = refl; refused = h; status_is = refl })))), w)
 
   pub run_answered : (form : RunForm) (image waits : List ℕ) (lines : Option (List ℕ)) (cycles : ℕ) (text : List ℕ) → HasLines form lines → IsExtensionRun form x sheet image waits lines cycles text → Writes ok_status text before now faults faults_now result
       → Answered (command_in form) (run_values x sheet image waits lines cycles) before now faults faults_now result
@@ -87,6 +89,21 @@ module _ (x : ExtensionTree) (sheet : Sheet) (before now : Option (List ℕ)) (f
       → Answered Bench (extension_read x ∷ sheet_read sheet ∷ number_read number ∷ number_read count ∷ []) before now faults faults_now result
   bench_answered number count text h w =
       inr (ok_status, text, inr (refl, record { extension = x; sheet = sheet; number = number; count = count; values_are = refl; runs = h }), w)
+
+  pub audit_answered : (image waits trace : List ℕ) → IsAuditedRun x sheet image waits trace → Writes ok_status (codes "yes\n") before now faults faults_now result
+      → Answered Audit (extension_read x ∷ sheet_read sheet ∷ image_read image ∷ waits_read waits ∷ trace_read trace ∷ []) before now faults faults_now result
+  audit_answered image waits trace h w =
+      inr (ok_status, codes "yes\n", inr (refl, record { extension = x; sheet = sheet; image = image; waits = waits; trace = trace; values_are = refl; audited = h; text_is = refl }), w)
+
+  pub fault_answered : (image waits trace : List ℕ) (e : AuditErr) → IsFaultyRun x sheet image waits trace e → Writes Trace (fault_line e) before now faults faults_now result
+      → Answered Audit (extension_read x ∷ sheet_read sheet ∷ image_read image ∷ waits_read waits ∷ trace_read trace ∷ []) before now faults faults_now result
+  fault_answered image waits trace e h w =
+      inr (
+        Trace,
+        fault_line e,
+        inl (inr (inr (inr (record { command_is = refl; extension = x; sheet = sheet; image = image; waits = waits; trace = trace; values_are = refl; error = e; faulty = h; status_is = refl; line_is = refl })))),
+        w,
+      )
 
 module _ (x : ExtensionTree) (before now : Option (List ℕ)) (faults faults_now : ℕ) (result : Status) where
   pub steps_answered : (image : List ℕ) (steps : ℕ) → (((result ≡ Memory) × (now ≡ before)) ⊎ Writes ok_status (run_text x image steps) before now faults faults_now result)

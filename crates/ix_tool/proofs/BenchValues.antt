@@ -17,6 +17,7 @@ two_numbers x s (value.Sheet a ∷ vs) h = absurd h
 two_numbers x s (value.Source a ∷ vs) h = absurd h
 two_numbers x s (value.Waits a ∷ vs) h = absurd h
 two_numbers x s (value.Lines a ∷ vs) h = absurd h
+two_numbers x s (value.Trace a ∷ vs) h = absurd h
 two_numbers x s (value.Number n ∷ []) h = absurd h
 two_numbers x s (value.Number n ∷ value.Image a ∷ vs) h = absurd h
 two_numbers x s (value.Number n ∷ value.Report ∷ vs) h = absurd h
@@ -25,6 +26,7 @@ two_numbers x s (value.Number n ∷ value.Sheet a ∷ vs) h = absurd h
 two_numbers x s (value.Number n ∷ value.Source a ∷ vs) h = absurd h
 two_numbers x s (value.Number n ∷ value.Waits a ∷ vs) h = absurd h
 two_numbers x s (value.Number n ∷ value.Lines a ∷ vs) h = absurd h
+two_numbers x s (value.Number n ∷ value.Trace a ∷ vs) h = absurd h
 two_numbers x s (value.Number n ∷ value.Number c ∷ v ∷ vs) h = absurd h
 two_numbers x s (value.Number n ∷ value.Number c ∷ []) h = (n, c, refl)
 

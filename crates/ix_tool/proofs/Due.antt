@@ -5,19 +5,19 @@ use Rattle.ix_io.specs.Limits.{most_bytes}
 use Rattle.ix_io.specs.Shelf.{NamedFiles, told_file, file_named}
 use Rattle.ix_cert.proofs.Verdicts.{faultless_not_refused}
 use Rattle.ix_words.specs.declared.status.Status.{Status}
-use Rattle.ix_words.specs.declared.status.Status.TheVariants.{Usage, ReadFault, Source, Extension as extension_status, NoSchedule}
-use Rattle.ix_words.specs.declared.command.Command.TheVariants.{RunImage, Check, Certify, Assemble, Seq, Schedule, Build, Sweep, RunExtension, Bench, Wave, RunInterrupted}
+use Rattle.ix_words.specs.declared.status.Status.TheVariants.{Usage, ReadFault, Source, Extension as extension_status, NoSchedule, Trace}
+use Rattle.ix_words.specs.declared.command.Command.TheVariants.{RunImage, Check, Certify, Assemble, Seq, Schedule, Build, Sweep, RunExtension, Bench, Wave, RunInterrupted, Audit}
 use Rattle.ix_words.specs.declared.command.Command.{Command}
 use Rattle.ix_words.specs.declared.command.RunForm.{RunForm}
 use Rattle.ix_words.specs.declared.command.RunForm.TheVariants.{Rows, Ports}
 use Rattle.ix_words.specs.declared.command.FileKind.{FileKind}
-use Rattle.ix_words.specs.declared.command.FileKind.TheVariants.{Image, Report, Extension, Sheet, Source as source_kind, Waits, Lines}
+use Rattle.ix_words.specs.declared.command.FileKind.TheVariants.{Image, Report, Extension, Sheet, Source as source_kind, Waits, Lines, Trace as trace_kind}
 use Rattle.ix_words.specs.declared.command.Slot.{Slot}
 use Rattle.ix_words.specs.declared.command.Slot.TheVariants.{Number, File}
-use Rattle.ix_words.specs.Readings.{Reading, number_read, image_read, report_read, extension_read, sheet_read, source_read, waits_read, lines_read}
+use Rattle.ix_words.specs.Readings.{Reading, number_read, image_read, report_read, extension_read, sheet_read, source_read, waits_read, lines_read, trace_read}
 use Rattle.ix_words.specs.CommandLine.{command_of, slots_of, behind, number_within}
 use Rattle.ix_words.specs.WordsRead.{IsRefusedText, IsReadAs, IsFile, IsRead, AreRead, IsRefusedFile, not_read, too_long, bad_text, IsFirstRefused}
-use Rattle.ix_tool.specs.CommandOutput.{IsSourceRefusal, IsToldAs, Schedules, IsScheduleRefusal, IsSweepRefusal, IsPipelineOutput, IsInterruptedOutput, IsBenchOutput, IsOwnRefusal, IsOutput, IsAnswer, IsDue, due_usage, due_file, due_answer, NoneRises, NoFileRises}
+use Rattle.ix_tool.specs.CommandOutput.{IsSourceRefusal, IsToldAs, Schedules, IsScheduleRefusal, IsSweepRefusal, IsPipelineOutput, IsInterruptedOutput, IsBenchOutput, IsAuditOutput, IsTraceRefusal, IsOwnRefusal, IsOutput, IsAnswer, IsDue, due_usage, due_file, due_answer, NoneRises, NoFileRises, Takes}
 use Rattle.ix_listing.proofs.OneExtension.{same_extension, extension_not_refused}
 use Rattle.rv_asm.proofs.WaitLemmas.{one_text, text_not_refused as waits_not_refused}
 use Rattle.rv_asm.proofs.LineLemmas.{one_text as one_lines_text, text_not_refused as lines_not_refused}
@@ -33,7 +33,10 @@ use Rattle.ix_schedules.proofs.OneAnswer.{scheduled_not_refused, one_refusal}
 use Rattle.ix_sweeps.specs.declared.sweeping.SweepErr.TheVariants as W
 use Rattle.ix_sweeps.proofs.OneAnswer.{swept_not_refused}
 use Rattle.ix_modules.proofs.OneText.{built_not_refused as modules_not_refused, design_not_refused}
+use Rattle.rv_faults.specs.Audited.{IsAudited}
+use Rattle.rv_audit.specs.Alike.{AreAlike, OneAnswerLaw}
 use Rattle.ix_tool.proofs.OneSheet.{one_sheet, sheet_not_refused}
+use Rattle.ix_tool.proofs.Taking.{takes}
 
 -- no value is some and none; one value is some of one thing
 pub both : {A : Type 0} (o : Option A) (a : A) → o ≡ Some a → o ≡ None → ⊥
@@ -52,6 +55,7 @@ text_apart Image bytes line (sheet_read x) r bad = r
 text_apart Image bytes line (source_read x) r bad = r
 text_apart Image bytes line (waits_read x) r bad = r
 text_apart Image bytes line (lines_read x) r bad = r
+text_apart Image bytes line (trace_read x) r bad = r
 text_apart Report bytes line report_read r bad = faultless_not_refused bytes bad.0 r bad.1
 text_apart Report bytes line (image_read image) r bad = r
 text_apart Report bytes line (number_read n) r bad = r
@@ -60,6 +64,7 @@ text_apart Report bytes line (sheet_read x) r bad = r
 text_apart Report bytes line (source_read x) r bad = r
 text_apart Report bytes line (waits_read x) r bad = r
 text_apart Report bytes line (lines_read x) r bad = r
+text_apart Report bytes line (trace_read x) r bad = r
 text_apart Extension bytes line (extension_read x) r bad = extension_not_refused bytes x bad.0 r bad.1
 text_apart Extension bytes line (image_read image) r bad = r
 text_apart Extension bytes line (number_read n) r bad = r
@@ -68,6 +73,7 @@ text_apart Extension bytes line (sheet_read x) r bad = r
 text_apart Extension bytes line (source_read x) r bad = r
 text_apart Extension bytes line (waits_read x) r bad = r
 text_apart Extension bytes line (lines_read x) r bad = r
+text_apart Extension bytes line (trace_read x) r bad = r
 text_apart Sheet bytes line (sheet_read x) r bad = sheet_not_refused bytes x bad.0 r.sheet_is bad.1
 text_apart Sheet bytes line (image_read image) r bad = r
 text_apart Sheet bytes line (number_read n) r bad = r
@@ -76,6 +82,7 @@ text_apart Sheet bytes line (extension_read x) r bad = r
 text_apart Sheet bytes line (source_read x) r bad = r
 text_apart Sheet bytes line (waits_read x) r bad = r
 text_apart Sheet bytes line (lines_read x) r bad = r
+text_apart Sheet bytes line (trace_read x) r bad = r
 text_apart source_kind bytes line v r bad = bad
 text_apart Waits bytes line (waits_read waits) r bad = waits_not_refused bytes waits bad.0 r bad.1
 text_apart Waits bytes line (image_read x) r bad = r
@@ -85,6 +92,7 @@ text_apart Waits bytes line (extension_read x) r bad = r
 text_apart Waits bytes line (sheet_read x) r bad = r
 text_apart Waits bytes line (source_read x) r bad = r
 text_apart Waits bytes line (lines_read x) r bad = r
+text_apart Waits bytes line (trace_read x) r bad = r
 text_apart Lines bytes line (lines_read lines) r bad = lines_not_refused bytes lines bad.0 r bad.1
 text_apart Lines bytes line (image_read x) r bad = r
 text_apart Lines bytes line (number_read x) r bad = r
@@ -93,6 +101,8 @@ text_apart Lines bytes line (extension_read x) r bad = r
 text_apart Lines bytes line (sheet_read x) r bad = r
 text_apart Lines bytes line (source_read x) r bad = r
 text_apart Lines bytes line (waits_read x) r bad = r
+text_apart Lines bytes line (trace_read x) r bad = r
+text_apart trace_kind bytes line v r bad = bad
 
 text_one : (kind : FileKind) (bytes : List ℕ) (v u : Reading) → IsReadAs kind bytes v → IsReadAs kind bytes u → v ≡ u
 text_one Image bytes (image_read i) (image_read j) r s = ap (λ x. image_read x) (r.words_are ∙ sym s.words_are)
@@ -103,6 +113,7 @@ text_one Image bytes (image_read i) (source_read y) r s = absurd s
 text_one Image bytes (image_read i) (sheet_read y) r s = absurd s
 text_one Image bytes (image_read i) (waits_read y) r s = absurd s
 text_one Image bytes (image_read i) (lines_read y) r s = absurd s
+text_one Image bytes (image_read i) (trace_read y) r s = absurd s
 text_one Image bytes (number_read n) u r s = absurd r
 text_one Image bytes report_read u r s = absurd r
 text_one Image bytes (extension_read x) u r s = absurd r
@@ -110,6 +121,7 @@ text_one Image bytes (source_read x) u r s = absurd r
 text_one Image bytes (sheet_read x) u r s = absurd r
 text_one Image bytes (waits_read x) u r s = absurd r
 text_one Image bytes (lines_read x) u r s = absurd r
+text_one Image bytes (trace_read x) u r s = absurd r
 text_one Report bytes report_read report_read r s = refl
 text_one Report bytes report_read (image_read i) r s = absurd s
 text_one Report bytes report_read (number_read n) r s = absurd s
@@ -118,6 +130,7 @@ text_one Report bytes report_read (source_read y) r s = absurd s
 text_one Report bytes report_read (sheet_read y) r s = absurd s
 text_one Report bytes report_read (waits_read y) r s = absurd s
 text_one Report bytes report_read (lines_read y) r s = absurd s
+text_one Report bytes report_read (trace_read y) r s = absurd s
 text_one Report bytes (number_read n) u r s = absurd r
 text_one Report bytes (image_read i) u r s = absurd r
 text_one Report bytes (extension_read x) u r s = absurd r
@@ -125,6 +138,7 @@ text_one Report bytes (source_read x) u r s = absurd r
 text_one Report bytes (sheet_read x) u r s = absurd r
 text_one Report bytes (waits_read x) u r s = absurd r
 text_one Report bytes (lines_read x) u r s = absurd r
+text_one Report bytes (trace_read x) u r s = absurd r
 text_one Extension bytes (extension_read x) (extension_read y) r s = ap (λ z. extension_read z) (same_extension bytes x y r s)
 text_one Extension bytes (extension_read x) (image_read i) r s = absurd s
 text_one Extension bytes (extension_read x) (number_read n) r s = absurd s
@@ -133,6 +147,7 @@ text_one Extension bytes (extension_read x) (source_read y) r s = absurd s
 text_one Extension bytes (extension_read x) (sheet_read y) r s = absurd s
 text_one Extension bytes (extension_read x) (waits_read y) r s = absurd s
 text_one Extension bytes (extension_read x) (lines_read y) r s = absurd s
+text_one Extension bytes (extension_read x) (trace_read y) r s = absurd s
 text_one Extension bytes (image_read i) u r s = absurd r
 text_one Extension bytes (number_read n) u r s = absurd r
 text_one Extension bytes report_read u r s = absurd r
@@ -140,6 +155,7 @@ text_one Extension bytes (source_read x) u r s = absurd r
 text_one Extension bytes (sheet_read x) u r s = absurd r
 text_one Extension bytes (waits_read x) u r s = absurd r
 text_one Extension bytes (lines_read x) u r s = absurd r
+text_one Extension bytes (trace_read x) u r s = absurd r
 text_one source_kind bytes (source_read x) (source_read y) r s = ap (λ z. source_read z) (r ∙ sym s)
 text_one source_kind bytes (source_read x) (image_read i) r s = absurd s
 text_one source_kind bytes (source_read x) (number_read n) r s = absurd s
@@ -148,6 +164,7 @@ text_one source_kind bytes (source_read x) (extension_read y) r s = absurd s
 text_one source_kind bytes (source_read x) (sheet_read y) r s = absurd s
 text_one source_kind bytes (source_read x) (waits_read y) r s = absurd s
 text_one source_kind bytes (source_read x) (lines_read y) r s = absurd s
+text_one source_kind bytes (source_read x) (trace_read y) r s = absurd s
 text_one source_kind bytes (image_read i) u r s = absurd r
 text_one source_kind bytes (number_read n) u r s = absurd r
 text_one source_kind bytes report_read u r s = absurd r
@@ -155,6 +172,7 @@ text_one source_kind bytes (extension_read x) u r s = absurd r
 text_one source_kind bytes (sheet_read x) u r s = absurd r
 text_one source_kind bytes (waits_read x) u r s = absurd r
 text_one source_kind bytes (lines_read x) u r s = absurd r
+text_one source_kind bytes (trace_read x) u r s = absurd r
 text_one Sheet bytes (sheet_read x) (sheet_read y) r s = ap (λ z. sheet_read z) (one_sheet bytes x y r s)
 text_one Sheet bytes (sheet_read x) (image_read i) r s = absurd s
 text_one Sheet bytes (sheet_read x) (number_read n) r s = absurd s
@@ -162,6 +180,7 @@ text_one Sheet bytes (sheet_read x) report_read r s = absurd s
 text_one Sheet bytes (sheet_read x) (extension_read y) r s = absurd s
 text_one Sheet bytes (sheet_read x) (waits_read y) r s = absurd s
 text_one Sheet bytes (sheet_read x) (lines_read y) r s = absurd s
+text_one Sheet bytes (sheet_read x) (trace_read y) r s = absurd s
 text_one Sheet bytes (sheet_read x) (source_read y) r s = absurd s
 text_one Sheet bytes (image_read i) u r s = absurd r
 text_one Sheet bytes (number_read n) u r s = absurd r
@@ -170,6 +189,7 @@ text_one Sheet bytes (extension_read x) u r s = absurd r
 text_one Sheet bytes (source_read x) u r s = absurd r
 text_one Sheet bytes (waits_read x) u r s = absurd r
 text_one Sheet bytes (lines_read x) u r s = absurd r
+text_one Sheet bytes (trace_read x) u r s = absurd r
 text_one Waits bytes (waits_read x) (waits_read y) r s = ap (λ z. waits_read z) (one_text bytes x y r s)
 text_one Waits bytes (waits_read x) (image_read y) r s = absurd s
 text_one Waits bytes (waits_read x) (number_read y) r s = absurd s
@@ -178,6 +198,7 @@ text_one Waits bytes (waits_read x) (extension_read y) r s = absurd s
 text_one Waits bytes (waits_read x) (sheet_read y) r s = absurd s
 text_one Waits bytes (waits_read x) (source_read y) r s = absurd s
 text_one Waits bytes (waits_read x) (lines_read y) r s = absurd s
+text_one Waits bytes (waits_read x) (trace_read y) r s = absurd s
 text_one Waits bytes (image_read x) u r s = absurd r
 text_one Waits bytes (number_read x) u r s = absurd r
 text_one Waits bytes report_read u r s = absurd r
@@ -185,6 +206,7 @@ text_one Waits bytes (extension_read x) u r s = absurd r
 text_one Waits bytes (sheet_read x) u r s = absurd r
 text_one Waits bytes (source_read x) u r s = absurd r
 text_one Waits bytes (lines_read x) u r s = absurd r
+text_one Waits bytes (trace_read x) u r s = absurd r
 text_one Lines bytes (lines_read x) (lines_read y) r s = ap (λ z. lines_read z) (one_lines_text bytes x y r s)
 text_one Lines bytes (lines_read x) (image_read y) r s = absurd s
 text_one Lines bytes (lines_read x) (number_read y) r s = absurd s
@@ -193,6 +215,7 @@ text_one Lines bytes (lines_read x) (extension_read y) r s = absurd s
 text_one Lines bytes (lines_read x) (sheet_read y) r s = absurd s
 text_one Lines bytes (lines_read x) (source_read y) r s = absurd s
 text_one Lines bytes (lines_read x) (waits_read y) r s = absurd s
+text_one Lines bytes (lines_read x) (trace_read y) r s = absurd s
 text_one Lines bytes (image_read x) u r s = absurd r
 text_one Lines bytes (number_read x) u r s = absurd r
 text_one Lines bytes report_read u r s = absurd r
@@ -200,6 +223,24 @@ text_one Lines bytes (extension_read x) u r s = absurd r
 text_one Lines bytes (sheet_read x) u r s = absurd r
 text_one Lines bytes (source_read x) u r s = absurd r
 text_one Lines bytes (waits_read x) u r s = absurd r
+text_one Lines bytes (trace_read x) u r s = absurd r
+text_one trace_kind bytes (trace_read x) (trace_read y) r s = ap (λ z. trace_read z) (r ∙ sym s)
+text_one trace_kind bytes (trace_read x) (image_read i) r s = absurd s
+text_one trace_kind bytes (trace_read x) (number_read n) r s = absurd s
+text_one trace_kind bytes (trace_read x) report_read r s = absurd s
+text_one trace_kind bytes (trace_read x) (extension_read y) r s = absurd s
+text_one trace_kind bytes (trace_read x) (source_read y) r s = absurd s
+text_one trace_kind bytes (trace_read x) (sheet_read y) r s = absurd s
+text_one trace_kind bytes (trace_read x) (waits_read y) r s = absurd s
+text_one trace_kind bytes (trace_read x) (lines_read y) r s = absurd s
+text_one trace_kind bytes (image_read i) u r s = absurd r
+text_one trace_kind bytes (number_read n) u r s = absurd r
+text_one trace_kind bytes report_read u r s = absurd r
+text_one trace_kind bytes (extension_read x) u r s = absurd r
+text_one trace_kind bytes (source_read x) u r s = absurd r
+text_one trace_kind bytes (sheet_read x) u r s = absurd r
+text_one trace_kind bytes (waits_read x) u r s = absurd r
+text_one trace_kind bytes (lines_read x) u r s = absurd r
 
 -- ---- a told file has one text
 same_file : (files : Option NamedFiles) (name a b : List ℕ) → files ≢ None → IsFile files name a → IsFile files name b → a ≡ b
@@ -294,10 +335,11 @@ told_status P x n (T.NoSchedule text) status line told = subst P (sym told.0) n
 told_status P x n T.Memory status line told = absurd told
 
 -- their statuses, by what is so of each
-pub own_status : (P : Status → Type 0) → P Source → P extension_status → P NoSchedule → (command : Command) (vs : List Reading) (status : Status) (line : List ℕ) → IsOwnRefusal command vs status line → P status
-own_status P s x n command vs status line (inl own) = subst P (sym own.status_is) s
-own_status P s x n command vs status line (inr (inl own)) = told_status P x n own.error status line own.told
-own_status P s x n command vs status line (inr (inr own)) = subst P (sym own.status_is) x
+pub own_status : (P : Status → Type 0) → P Source → P extension_status → P NoSchedule → P Trace → (command : Command) (vs : List Reading) (status : Status) (line : List ℕ) → IsOwnRefusal command vs status line → P status
+own_status P s x n t command vs status line (inl own) = subst P (sym own.status_is) s
+own_status P s x n t command vs status line (inr (inl own)) = told_status P x n own.error status line own.told
+own_status P s x n t command vs status line (inr (inr (inl own))) = subst P (sym own.status_is) x
+own_status P s x n t command vs status line (inr (inr (inr own))) = subst P (sym own.status_is) t
 
 -- a source that is refused has no words
 source_apart : (command : Command) (vs : List Reading) (s : Status) (a b : List ℕ) → IsSourceRefusal command vs s a → IsOutput command vs b → ⊥
@@ -333,6 +375,13 @@ bench_apart x sheet others b e some out refused =
     subst (λ y. IsRefusedSchedule y out.runs.design.sheet e) (same.0 ∙ sym out.runs.extension_is) (subst (λ d. IsRefusedSchedule x d e) (same.1 ∙ sym out.runs.sheet_is) refused) in
     design_not_refused out.runs.design e some out.runs.stands there
 
+audit_apart : (x : ExtensionTree) (sheet : Datasheet) (others : List Reading) (b : List ℕ) (e : TextErr) → e ≢ T.Memory → IsAuditOutput (extension_read x ∷ sheet_read sheet ∷ others) b → IsRefusedSchedule x sheet e → ⊥
+audit_apart x sheet others b e some out refused =
+    let same : (x ≡ out.extension) × (sheet ≡ out.sheet) = (let v = out.values_are in cc, let v = out.values_are in cc) in
+    let there : IsRefusedSchedule (view_extension out.audited.design.extension) out.audited.design.sheet e =
+    subst (λ y. IsRefusedSchedule y out.audited.design.sheet e) (same.0 ∙ sym out.audited.extension_is) (subst (λ d. IsRefusedSchedule x d e) (same.1 ∙ sym out.audited.sheet_is) refused) in
+    design_not_refused out.audited.design e some out.audited.stands there
+
 sheet_apart : (command : Command) (x : ExtensionTree) (sheet : Datasheet) (others : List Reading) (b : List ℕ) (e : TextErr) → Schedules command → e ≢ T.Memory → IsOutput command (extension_read x ∷ sheet_read sheet ∷ others) b → IsRefusedSchedule x sheet e → ⊥
 sheet_apart Schedule x sheet [] b e h some out refused = scheduled_not_refused x sheet b e some out refused
 sheet_apart Schedule x sheet (v ∷ vs) b e h some out refused = out
@@ -342,6 +391,7 @@ sheet_apart RunExtension x sheet others b e h some out refused = run_apart Rows 
 sheet_apart Wave x sheet others b e h some out refused = run_apart Ports x sheet others b e some out refused
 sheet_apart RunInterrupted x sheet others b e h some out refused = interrupted_apart x sheet others b e some out refused
 sheet_apart Bench x sheet others b e h some out refused = bench_apart x sheet others b e some out refused
+sheet_apart Audit x sheet others b e h some out refused = audit_apart x sheet others b e some out refused
 sheet_apart RunImage x sheet others b e h some out refused = h
 sheet_apart Check x sheet others b e h some out refused = h
 sheet_apart Certify x sheet others b e h some out refused = h
@@ -363,10 +413,30 @@ sweep_apart command vs s a b own out =
     subst (λ us. IsOutput Sweep us b) own.values_are (subst (λ c. IsOutput c vs b) own.command_is out) in
     swept_not_refused own.extension own.sheet b (W.TooManyOps a) (line_some a) there own.refused
 
-own_apart : (command : Command) (vs : List Reading) (s : Status) (a b : List ℕ) → IsOwnRefusal command vs s a → IsOutput command vs b → ⊥
-own_apart command vs s a b (inl own) out = source_apart command vs s a b own out
-own_apart command vs s a b (inr (inl own)) out = schedule_apart command vs s a b own out
-own_apart command vs s a b (inr (inr own)) out = sweep_apart command vs s a b own out
+-- a trace that is refused is not that of a lawful run
+trace_values : {x y : ExtensionTree} {s t : Datasheet} {i j w v a b : List ℕ}
+    → extension_read x ∷ sheet_read s ∷ image_read i ∷ waits_read w ∷ trace_read a ∷ [] ≡ extension_read y ∷ sheet_read t ∷ image_read j ∷ waits_read v ∷ trace_read b ∷ [] → (x ≡ y) × (s ≡ t) × (i ≡ j) × (w ≡ v) × (a ≡ b)
+trace_values e = (cc, cc, cc, cc, cc)
+
+trace_apart : OneAnswerLaw → (command : Command) (vs : List Reading) (s : Status) (a b : List ℕ) → Takes command vs → IsTraceRefusal command vs s a → IsOutput command vs b → ⊥
+trace_apart law command vs s a b taken own out =
+    let given : Takes Audit (extension_read own.extension ∷ sheet_read own.sheet ∷ image_read own.image ∷ waits_read own.waits ∷ trace_read own.trace ∷ []) =
+    subst (λ us. Takes Audit us) own.values_are (subst (λ c. Takes c vs) own.command_is taken) in
+    let there : IsAuditOutput vs b = subst (λ c. IsOutput c vs b) own.command_is out in
+    let same = trace_values (sym own.values_are ∙ there.values_are) in
+    let d = there.audited.design in
+    let e = own.faulty.design in
+    let alike : AreAlike d e = record { extension = there.audited.extension_is ∙ sym same.0 ∙ sym own.faulty.extension_is; sheet = there.audited.sheet_is ∙ sym same.1 ∙ sym own.faulty.sheet_is } in
+    let audited : IsAudited d own.image own.waits own.trace =
+    subst (λ i. IsAudited d i own.waits own.trace) (sym same.2) (subst (λ w. IsAudited d there.image w own.trace) (sym same.3) (subst (λ t. IsAudited d there.image there.waits t) (sym same.4) there.audited.audited)) in
+    let within = given.2 in
+    law d e own.image own.waits own.trace own.error there.audited.stands own.faulty.stands alike given.1 (omega (arith, within)) audited own.faulty.fault
+
+own_apart : OneAnswerLaw → (command : Command) (vs : List Reading) (s : Status) (a b : List ℕ) → Takes command vs → IsOwnRefusal command vs s a → IsOutput command vs b → ⊥
+own_apart law command vs s a b taken (inl own) out = source_apart command vs s a b own out
+own_apart law command vs s a b taken (inr (inl own)) out = schedule_apart command vs s a b own out
+own_apart law command vs s a b taken (inr (inr (inl own))) out = sweep_apart command vs s a b own out
+own_apart law command vs s a b taken (inr (inr (inr own))) out = trace_apart law command vs s a b taken own out
 
 -- a behaviour is refused with one status
 refused_one : (x : ExtensionTree) (sheet : Datasheet) (e f : TextErr) (s t : Status) (a b : List ℕ) → IsRefusedSchedule x sheet e → IsRefusedSchedule x sheet f → IsToldAs e s a → IsToldAs f t b → s ≡ t
@@ -399,23 +469,45 @@ no_sweeping command e h = subst Schedules e h
 assembly_or_sweep : (command : Command) → command ≡ Assemble → command ≡ Sweep → ⊥
 assembly_or_sweep command e f = let same = sym e ∙ f in cc
 
+assembly_or_audit : (command : Command) → command ≡ Assemble → command ≡ Audit → ⊥
+assembly_or_audit command e f = let same = sym e ∙ f in cc
+
+sweep_or_audit : (command : Command) → command ≡ Sweep → command ≡ Audit → ⊥
+sweep_or_audit command e f = let same = sym e ∙ f in cc
+
+-- a trace is refused where each behaviour is scheduled
+trace_scheduled : (command : Command) (vs : List Reading) (s t : Status) (a b : List ℕ) → IsScheduleRefusal command vs s a → IsTraceRefusal command vs t b → ⊥
+trace_scheduled command vs s t a b own other =
+    let same = read_parts own.extension other.extension own.sheet other.sheet own.others (image_read other.image ∷ waits_read other.waits ∷ trace_read other.trace ∷ []) (sym own.values_are ∙ other.values_are) in
+    let d = other.faulty.design in
+    let there : IsRefusedSchedule (view_extension d.extension) d.sheet own.error =
+    subst (λ x. IsRefusedSchedule x d.sheet own.error) (same.0 ∙ sym other.faulty.extension_is) (subst (λ y. IsRefusedSchedule own.extension y own.error) (same.1 ∙ sym other.faulty.sheet_is) own.refused) in
+    design_not_refused d own.error (told_some own.error s a own.told) other.faulty.stands there
+
 own_one : (command : Command) (vs : List Reading) (s t : Status) (a b : List ℕ) → IsOwnRefusal command vs s a → IsOwnRefusal command vs t b → s ≡ t
 own_one command vs s t a b (inl own) (inl other) = own.status_is ∙ sym other.status_is
 own_one command vs s t a b (inl own) (inr (inl other)) = absurd (no_scheduling command own.command_is other.schedules)
-own_one command vs s t a b (inl own) (inr (inr other)) = absurd (assembly_or_sweep command own.command_is other.command_is)
+own_one command vs s t a b (inl own) (inr (inr (inl other))) = absurd (assembly_or_sweep command own.command_is other.command_is)
+own_one command vs s t a b (inl own) (inr (inr (inr other))) = absurd (assembly_or_audit command own.command_is other.command_is)
 own_one command vs s t a b (inr (inl own)) (inl other) = absurd (no_scheduling command other.command_is own.schedules)
 own_one command vs s t a b (inr (inl own)) (inr (inl other)) = schedules_one command vs s t a b own other
-own_one command vs s t a b (inr (inl own)) (inr (inr other)) = absurd (no_sweeping command other.command_is own.schedules)
-own_one command vs s t a b (inr (inr own)) (inl other) = absurd (assembly_or_sweep command other.command_is own.command_is)
-own_one command vs s t a b (inr (inr own)) (inr (inl other)) = absurd (no_sweeping command own.command_is other.schedules)
-own_one command vs s t a b (inr (inr own)) (inr (inr other)) = own.status_is ∙ sym other.status_is
+own_one command vs s t a b (inr (inl own)) (inr (inr (inl other))) = absurd (no_sweeping command other.command_is own.schedules)
+own_one command vs s t a b (inr (inl own)) (inr (inr (inr other))) = absurd (trace_scheduled command vs s t a b own other)
+own_one command vs s t a b (inr (inr (inl own))) (inl other) = absurd (assembly_or_sweep command other.command_is own.command_is)
+own_one command vs s t a b (inr (inr (inl own))) (inr (inl other)) = absurd (no_sweeping command own.command_is other.schedules)
+own_one command vs s t a b (inr (inr (inl own))) (inr (inr (inl other))) = own.status_is ∙ sym other.status_is
+own_one command vs s t a b (inr (inr (inl own))) (inr (inr (inr other))) = absurd (sweep_or_audit command own.command_is other.command_is)
+own_one command vs s t a b (inr (inr (inr own))) (inl other) = absurd (assembly_or_audit command other.command_is own.command_is)
+own_one command vs s t a b (inr (inr (inr own))) (inr (inl other)) = absurd (trace_scheduled command vs t s b a other own)
+own_one command vs s t a b (inr (inr (inr own))) (inr (inr (inl other))) = absurd (sweep_or_audit command other.command_is own.command_is)
+own_one command vs s t a b (inr (inr (inr own))) (inr (inr (inr other))) = own.status_is ∙ sym other.status_is
 
 -- a command answers its values with one status
-answer_one : (command : Command) (vs : List Reading) (s t : Status) (a b : List ℕ) → IsAnswer command vs s a → IsAnswer command vs t b → s ≡ t
-answer_one command vs s t a b (inl own) (inl other) = own_one command vs s t a b own other
-answer_one command vs s t a b (inl own) (inr out) = absurd (own_apart command vs s a b own out.1)
-answer_one command vs s t a b (inr out) (inl own) = absurd (own_apart command vs t b a own out.1)
-answer_one command vs s t a b (inr out) (inr other) = out.0 ∙ sym other.0
+answer_one : OneAnswerLaw → (command : Command) (vs : List Reading) (s t : Status) (a b : List ℕ) → Takes command vs → IsAnswer command vs s a → IsAnswer command vs t b → s ≡ t
+answer_one law command vs s t a b taken (inl own) (inl other) = own_one command vs s t a b own other
+answer_one law command vs s t a b taken (inl own) (inr out) = absurd (own_apart law command vs s a b taken own out.1)
+answer_one law command vs s t a b taken (inr out) (inl own) = absurd (own_apart law command vs t b a taken own out.1)
+answer_one law command vs s t a b taken (inr out) (inr other) = out.0 ∙ sym other.0
 
 -- ---- what is due to a command: a refusal of a file, or its answer
 abbrev pub IsCommanded : Option NamedFiles → (List ℕ → Type 0) → List (List ℕ) → Command → Status → List ℕ → Type 0
@@ -431,13 +523,13 @@ commanded files R words command _ _ e (due_answer other vs status bytes is read 
     subst (λ c. IsCommanded files R words c status bytes) (one (command_of words) other command is e) (inr (vs, read, answer))
 
 -- ---- one status is due
-due_commanded : (files : Option NamedFiles) (R : List ℕ → Type 0) (words : List (List ℕ)) (command : Command) (s t : Status) (a b : List ℕ) → files ≢ None → IsCommanded files R words command s a → IsCommanded files NoneRises words command t b → (s ≡ t) ⊎ (s ≡ ReadFault)
-due_commanded files R words command s t a b told (inl f) (inl g) = first_two files R (slots_of command) (behind words) s t a b told f g
-due_commanded files R words command s t a b told (inl f) (inr g) = inr (first_fault files R (slots_of command) (behind words) g.0 s a told f g.1)
-due_commanded files R words command s t a b told (inr f) (inl g) =
+due_commanded : OneAnswerLaw → (files : Option NamedFiles) (R : List ℕ → Type 0) (words : List (List ℕ)) (command : Command) (s t : Status) (a b : List ℕ) → files ≢ None → IsCommanded files R words command s a → IsCommanded files NoneRises words command t b → (s ≡ t) ⊎ (s ≡ ReadFault)
+due_commanded law files R words command s t a b told (inl f) (inl g) = first_two files R (slots_of command) (behind words) s t a b told f g
+due_commanded law files R words command s t a b told (inl f) (inr g) = inr (first_fault files R (slots_of command) (behind words) g.0 s a told f g.1)
+due_commanded law files R words command s t a b told (inr f) (inl g) =
     absurd (not_refused files NoneRises (slots_of command) (behind words) f.0 t b told (none_rises (slots_of command) (behind words)) g f.1)
-due_commanded files R words command s t a b told (inr f) (inr g) =
-    inl (answer_one command g.0 s t a b (subst (λ vs. IsAnswer command vs s a) (all_one files (slots_of command) (behind words) f.0 g.0 told f.1 g.1) f.2) g.2)
+due_commanded law files R words command s t a b told (inr f) (inr g) =
+    inl (answer_one law command g.0 s t a b (takes files command (behind words) g.0 g.1) (subst (λ vs. IsAnswer command vs s a) (all_one files (slots_of command) (behind words) f.0 g.0 told f.1 g.1) f.2) g.2)
 
 command_or_none : (o : Option Command) → (o ≡ None) ⊎ ((command : Command) × (o ≡ Some command))
 command_or_none None = inl refl
@@ -448,8 +540,8 @@ usage_alone files R words _ _ none (due_usage e) = refl
 usage_alone files R words _ _ none (due_file command status line is first) = absurd (both (command_of words) command is none)
 usage_alone files R words _ _ none (due_answer command vs status bytes is read answer) = absurd (both (command_of words) command is none)
 
-pub due_one : (files : Option NamedFiles) (R : List ℕ → Type 0) (words : List (List ℕ)) (s t : Status) (a b : List ℕ) → files ≢ None → IsDue files R words s a → IsDue files NoneRises words t b → (s ≡ t) ⊎ (s ≡ ReadFault)
-due_one files R words s t a b told d e = elim (command_or_none (command_of words)) [
+pub due_one : OneAnswerLaw → (files : Option NamedFiles) (R : List ℕ → Type 0) (words : List (List ℕ)) (s t : Status) (a b : List ℕ) → files ≢ None → IsDue files R words s a → IsDue files NoneRises words t b → (s ≡ t) ⊎ (s ≡ ReadFault)
+due_one law files R words s t a b told d e = elim (command_or_none (command_of words)) [
   | inl none ↦ inl (usage_alone files R words s a none d ∙ sym (usage_alone files NoneRises words t b none e))
-  | inr some ↦ due_commanded files R words some.0 s t a b told (commanded files R words some.0 s a some.1 d) (commanded files NoneRises words some.0 t b some.1 e)
+  | inr some ↦ due_commanded law files R words some.0 s t a b told (commanded files R words some.0 s a some.1 d) (commanded files NoneRises words some.0 t b some.1 e)
 ]

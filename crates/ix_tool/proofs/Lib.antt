@@ -10,9 +10,13 @@ pub mod Headlines
 pub mod ModulesShown
 pub mod SweepsShown
 mod ImageWords
+mod Given
 mod PipelineValues
+mod Lawfully
 mod PipelinesShown
 mod InterruptedShown
 mod BenchValues
 mod Summaries
 mod BenchesShown
+mod AuditValues
+mod AuditsShown

@@ -8,7 +8,7 @@ use Rattle.ix_extension.specs.Extensions.{ExtensionTree}
 use Rattle.ix_sheet.specs.declared.sheet.Sheet.{Sheet}
 use Rattle.ix_listing.proofs.OneExtension.{is_well_formed}
 use Rattle.ix_words.specs.declared.command.Command.{Command}
-use Rattle.ix_words.specs.declared.command.Command.TheVariants.{RunImage, Check, Certify, Schedule, Build, Sweep, Seq, Assemble, RunExtension, Bench, Wave, RunInterrupted}
+use Rattle.ix_words.specs.declared.command.Command.TheVariants.{RunImage, Check, Certify, Schedule, Build, Sweep, Seq, Assemble, RunExtension, Bench, Wave, RunInterrupted, Audit}
 use Rattle.ix_words.specs.declared.command.RunForm.{RunForm}
 use Rattle.ix_words.specs.declared.command.RunForm.TheVariants.{Rows, Interrupted, Ports}
 use Rattle.ix_words.specs.Readings.{Reading, extension_read, sheet_read, image_read, waits_read, number_read}
@@ -23,10 +23,11 @@ use Rattle.rv_wave.specs.Waves.{WaveLaw}
 use Rattle.ix_words.specs.WordsRead.{AreRead, IsFile, IsSheetRead}
 use Rattle.ix_tool.specs.CommandOutput.{command_in, HasLines, IsExtensionRun, IsPipelineOutput, IsOutput, OutputAnswer, PipelineAnswer, WaveAnswer}
 use Rattle.ix_tool.proofs.ImageWords.{words_of_text}
+use Rattle.ix_tool.proofs.Lawfully.{audited}
 use Rattle.ix_tool.proofs.Handlers.{handler_of}
 use Rattle.ix_tool.proofs.Due.{both, one}
 use Rattle.ix_tool.proofs.Headlines.{is_of, not_its_word}
-use Rattle.ix_tool.proofs.Taking.{run_read, extension_is_read, report_is_read, source_is_read, schedule_is_read, seq_read, pipeline_read, interrupted_read, bench_read}
+use Rattle.ix_tool.proofs.Taking.{run_read, extension_is_read, report_is_read, source_is_read, schedule_is_read, seq_read, pipeline_read, interrupted_read, audit_read, bench_read}
 
 -- ---- the words
 abbrev asked_by : List ℕ → List ℕ → List ℕ → List ℕ → ℕ → PipelineCommand
@@ -72,6 +73,11 @@ six_no_run by command unlike [] a b c d n is e = absurd (true≢false (sym is))
 six_no_run by command unlike (word ∷ rest) a b c d n is e =
     ap (λ r. run_by by (word ∷ r)) e
     ∙ none_run (bytes_eq word by) a b c d (number_within 200000 n) (not_its_word word (word_of command) by unlike (and_parts _ _ is).0)
+
+audit_unlike : (form : RunForm) → bytes_eq (word_of Audit) (word_of (command_in form)) ≡ false
+audit_unlike Rows = refl
+audit_unlike Interrupted = refl
+audit_unlike Ports = refl
 
 -- ---- the run
 -- the files that the words name are read, and the text is that of their run in this form
@@ -176,6 +182,9 @@ found_of Ports without files words Wave vs text asked is read out e = run_read_o
 found_of form without files words RunInterrupted vs text asked is read out e =
     let r = interrupted_read files (behind words) vs read in
     absurd (both (run_by (word_of (command_in form)) words) asked e (seven_no_run (word_of (command_in form)) words r.name r.other r.third r.fourth r.fifth r.number RunInterrupted is r.words))
+found_of form without files words Audit vs text asked is read out e =
+    let r = audit_read files (behind words) vs read in
+    absurd (both (run_by (word_of (command_in form)) words) asked e (six_no_run (word_of (command_in form)) Audit (audit_unlike form) words r.name r.other r.third r.fourth r.fifth is r.words))
 
 found : (form : RunForm) → HasLines form None → (files : Option NamedFiles) (words : List (List ℕ)) (before now : Option (List ℕ)) → (o : OutputAnswer files words before now) → (asked : PipelineCommand) → run_by (word_of (command_in form)) words ≡ Some asked → IsRunRead form files asked o.text
 found form without files words before now o asked e = found_of form without files words o.command o.values o.text asked (is_of words o.command o.command_is) o.read o.output e
@@ -188,6 +197,7 @@ runnable r = record { stands = r.runs.stands; handler = handler_of r.runs.design
 pub pipelined : TextLaw → (files : Option NamedFiles) (words : List (List ℕ)) (before now : Option (List ℕ)) → OutputAnswer files words before now → (asked : PipelineCommand) → pipeline_of words ≡ Some asked → PipelineAnswer files asked before now
 pipelined law files words before now o asked e =
     let r = found Rows tt files words before now o asked e in
+    let lawful = law r.runs.design r.image r.waits None asked.cycles o.text (runnable r) r.runs.runs in
     record {
       bytes = r.bytes;
       extension = r.extension;
@@ -212,7 +222,14 @@ pipelined law files words before now o asked e =
         stands = r.runs.stands;
         extension_is = r.runs.extension_is;
         sheet_is = r.runs.sheet_is;
-        runs = law r.runs.design r.image r.waits None asked.cycles o.text (runnable r) r.runs.runs;
+        runs = lawful;
+      };
+      audited = record {
+        design = r.runs.design;
+        stands = r.runs.stands;
+        extension_is = r.runs.extension_is;
+        sheet_is = r.runs.sheet_is;
+        audited = audited r.runs.design r.image r.waits asked.cycles o.text lawful;
       };
       written = o.written;
     }

@@ -6,9 +6,9 @@ use Rattle.std.proofs.lemmas.Bool.{leb-true}
 use Rattle.ix_io.specs.Shelf.{NamedFiles}
 use Rattle.ix_cert.specs.Certificates.{IsFaultless}
 use Rattle.ix_words.specs.declared.command.Command.{Command}
-use Rattle.ix_words.specs.declared.command.Command.TheVariants.{RunImage, Check, Certify, Schedule, Build, Sweep, Seq, Assemble, RunExtension, Bench, Wave, RunInterrupted}
-use Rattle.ix_words.specs.declared.command.FileKind.TheVariants.{Image, Report, Extension, Sheet, Source as source_kind, Waits, Lines}
-use Rattle.ix_words.specs.Readings.{Reading, number_read, image_read, report_read, extension_read, sheet_read, source_read, waits_read, lines_read}
+use Rattle.ix_words.specs.declared.command.Command.TheVariants.{RunImage, Check, Certify, Schedule, Build, Sweep, Seq, Assemble, RunExtension, Bench, Wave, RunInterrupted, Audit}
+use Rattle.ix_words.specs.declared.command.FileKind.TheVariants.{Image, Report, Extension, Sheet, Source as source_kind, Waits, Lines, Trace as trace_kind}
+use Rattle.ix_words.specs.Readings.{Reading, number_read, image_read, report_read, extension_read, sheet_read, source_read, waits_read, lines_read, trace_read}
 use Rattle.rv_asm.specs.ImageText.{IsImageText}
 use Rattle.rv_asm.specs.WaitsText.{IsWaitsText}
 use Rattle.rv_asm.specs.LinesText.{IsLinesText}
@@ -17,9 +17,10 @@ use Rattle.ix_elab.specs.Elaborating.{Elaborates}
 use Rattle.ix_listing.proofs.OneExtension.{is_well_formed}
 use Rattle.ix_words.specs.CommandLine.{slots_of, number_of, at_most, number_within, most_number, most_drawn}
 use Rattle.ix_words.specs.WordsRead.{IsReadAs, IsFile, AreRead, IsSheetRead}
-use Rattle.ix_tool.specs.CommandOutput.{TakesSheet, TakesPipeline, TakesInterrupted, TakesBench, Takes}
+use Rattle.ix_tool.specs.CommandOutput.{TakesSheet, TakesPipeline, TakesInterrupted, TakesAudit, TakesBench, Takes}
 use Rattle.ix_sheet.specs.declared.sheet.Sheet.{Sheet as Datasheet}
 use Rattle.ix_schedules.proofs.Named.{names_are}
+use Rattle.ix_tool.proofs.Given.{given_by}
 
 -- ---- what a file's text is read as
 image_of : (bytes : List ℕ) (v : Reading) → IsReadAs Image bytes v → (image : List ℕ) × (v ≡ image_read image) × IsImageText bytes image
@@ -31,6 +32,7 @@ image_of bytes (source_read x) r = absurd r
 image_of bytes (sheet_read x) r = absurd r
 image_of bytes (waits_read x) r = absurd r
 image_of bytes (lines_read x) r = absurd r
+image_of bytes (trace_read x) r = absurd r
 
 report_in : (bytes : List ℕ) (v : Reading) → IsReadAs Report bytes v → (v ≡ report_read) × IsFaultless bytes
 report_in bytes report_read r = (refl, r)
@@ -41,6 +43,7 @@ report_in bytes (source_read x) r = absurd r
 report_in bytes (sheet_read x) r = absurd r
 report_in bytes (waits_read x) r = absurd r
 report_in bytes (lines_read x) r = absurd r
+report_in bytes (trace_read x) r = absurd r
 
 extension_in : (bytes : List ℕ) (v : Reading) → IsReadAs Extension bytes v → (x : ExtensionTree) × (v ≡ extension_read x) × Elaborates bytes x
 extension_in bytes (extension_read x) r = (x, refl, r)
@@ -51,6 +54,7 @@ extension_in bytes (source_read x) r = absurd r
 extension_in bytes (sheet_read x) r = absurd r
 extension_in bytes (waits_read x) r = absurd r
 extension_in bytes (lines_read x) r = absurd r
+extension_in bytes (trace_read x) r = absurd r
 
 source_in : (bytes : List ℕ) (v : Reading) → IsReadAs source_kind bytes v → v ≡ source_read bytes
 source_in bytes (source_read text) r = ap (λ t. source_read t) r
@@ -61,6 +65,7 @@ source_in bytes (extension_read x) r = absurd r
 source_in bytes (sheet_read x) r = absurd r
 source_in bytes (waits_read x) r = absurd r
 source_in bytes (lines_read x) r = absurd r
+source_in bytes (trace_read x) r = absurd r
 
 sheet_in : (bytes : List ℕ) (v : Reading) → IsReadAs Sheet bytes v → (sheet : Datasheet) × (v ≡ sheet_read sheet) × IsSheetRead bytes sheet
 sheet_in bytes (sheet_read sheet) r = (sheet, refl, r)
@@ -71,6 +76,7 @@ sheet_in bytes (extension_read x) r = absurd r
 sheet_in bytes (source_read x) r = absurd r
 sheet_in bytes (waits_read x) r = absurd r
 sheet_in bytes (lines_read x) r = absurd r
+sheet_in bytes (trace_read x) r = absurd r
 
 waits_in : (bytes : List ℕ) (v : Reading) → IsReadAs Waits bytes v → (waits : List ℕ) × (v ≡ waits_read waits) × IsWaitsText bytes waits
 waits_in bytes (waits_read waits) r = (waits, refl, r)
@@ -81,6 +87,7 @@ waits_in bytes (extension_read x) r = absurd r
 waits_in bytes (sheet_read x) r = absurd r
 waits_in bytes (source_read x) r = absurd r
 waits_in bytes (lines_read x) r = absurd r
+waits_in bytes (trace_read x) r = absurd r
 
 lines_in : (bytes : List ℕ) (v : Reading) → IsReadAs Lines bytes v → (lines : List ℕ) × (v ≡ lines_read lines) × IsLinesText bytes lines
 lines_in bytes (lines_read lines) r = (lines, refl, r)
@@ -91,6 +98,18 @@ lines_in bytes (extension_read x) r = absurd r
 lines_in bytes (sheet_read x) r = absurd r
 lines_in bytes (source_read x) r = absurd r
 lines_in bytes (waits_read x) r = absurd r
+lines_in bytes (trace_read x) r = absurd r
+
+trace_in : (bytes : List ℕ) (v : Reading) → IsReadAs trace_kind bytes v → v ≡ trace_read bytes
+trace_in bytes (trace_read text) r = ap (λ t. trace_read t) r
+trace_in bytes (image_read image) r = absurd r
+trace_in bytes (number_read n) r = absurd r
+trace_in bytes report_read r = absurd r
+trace_in bytes (extension_read x) r = absurd r
+trace_in bytes (source_read x) r = absurd r
+trace_in bytes (sheet_read x) r = absurd r
+trace_in bytes (waits_read x) r = absurd r
+trace_in bytes (lines_read x) r = absurd r
 
 pub record IsRunRead (files : Option NamedFiles) (rest : List (List ℕ)) (vs : List Reading) : Type 0 where
   pub name : List ℕ
@@ -453,6 +472,85 @@ interrupted_takes files rest vs h =
     let r = interrupted_read files rest vs h in
     subst TakesInterrupted (sym r.values) (is_well_formed r.bytes r.extension r.elaborates, names_are r.bytes r.extension r.elaborates, r.sheet_is.valid)
 
+pub record IsAuditRead (files : Option NamedFiles) (rest : List (List ℕ)) (vs : List Reading) : Type 0 where
+  pub name : List ℕ
+  pub other : List ℕ
+  pub third : List ℕ
+  pub fourth : List ℕ
+  pub fifth : List ℕ
+  pub bytes : List ℕ
+  pub extension : ExtensionTree
+  pub sheet_bytes : List ℕ
+  pub sheet : Datasheet
+  pub program : List ℕ
+  pub image : List ℕ
+  pub waits_bytes : List ℕ
+  pub waits : List ℕ
+  pub trace : List ℕ
+  pub words : rest ≡ name ∷ other ∷ third ∷ fourth ∷ fifth ∷ []
+  pub values : vs ≡ extension_read extension ∷ sheet_read sheet ∷ image_read image ∷ waits_read waits ∷ trace_read trace ∷ []
+  pub file : IsFile files name bytes
+  pub elaborates : Elaborates bytes extension
+  pub sheet_file : IsFile files other sheet_bytes
+  pub sheet_is : IsSheetRead sheet_bytes sheet
+  pub program_file : IsFile files third program
+  pub text : IsImageText program image
+  pub waits_file : IsFile files fourth waits_bytes
+  pub waits_are : IsWaitsText waits_bytes waits
+  pub trace_file : IsFile files fifth trace
+
+pub audit_read : (files : Option NamedFiles) (rest : List (List ℕ)) (vs : List Reading) → AreRead files (slots_of Audit) rest vs → IsAuditRead files rest vs
+audit_read files [] vs h = absurd h
+audit_read files (a ∷ rest) [] h = absurd h
+audit_read files (a ∷ []) (v ∷ vs) h = absurd h.1
+audit_read files (a ∷ b ∷ rest) (v ∷ []) h = absurd h.1
+audit_read files (a ∷ b ∷ []) (v ∷ u ∷ vs) h = absurd h.1.1
+audit_read files (a ∷ b ∷ c ∷ rest) (v ∷ u ∷ []) h = absurd h.1.1
+audit_read files (a ∷ b ∷ c ∷ []) (v ∷ u ∷ w ∷ vs) h = absurd h.1.1.1
+audit_read files (a ∷ b ∷ c ∷ d ∷ rest) (v ∷ u ∷ w ∷ []) h = absurd h.1.1.1
+audit_read files (a ∷ b ∷ c ∷ d ∷ []) (v ∷ u ∷ w ∷ z ∷ vs) h = absurd h.1.1.1.1
+audit_read files (a ∷ b ∷ c ∷ d ∷ e ∷ rest) (v ∷ u ∷ w ∷ z ∷ []) h = absurd h.1.1.1.1
+audit_read files (a ∷ b ∷ c ∷ d ∷ e ∷ f ∷ rest) (v ∷ u ∷ w ∷ z ∷ y ∷ vs) h = absurd h.1.1.1.1.1
+audit_read files (a ∷ b ∷ c ∷ d ∷ e ∷ []) (v ∷ u ∷ w ∷ z ∷ y ∷ t ∷ vs) h = absurd h.1.1.1.1.1
+audit_read files (a ∷ b ∷ c ∷ d ∷ e ∷ []) (v ∷ u ∷ w ∷ z ∷ y ∷ []) h =
+    let x = extension_in h.0.0 v h.0.2 in
+    let s = sheet_in h.1.0.0 u h.1.0.2 in
+    let i = image_of h.1.1.0.0 w h.1.1.0.2 in
+    let m = waits_in h.1.1.1.0.0 z h.1.1.1.0.2 in
+    record {
+      name = a;
+      other = b;
+      third = c;
+      fourth = d;
+      fifth = e;
+      bytes = h.0.0;
+      extension = x.0;
+      sheet_bytes = h.1.0.0;
+      sheet = s.0;
+      program = h.1.1.0.0;
+      image = i.0;
+      waits_bytes = h.1.1.1.0.0;
+      waits = m.0;
+      trace = h.1.1.1.1.0.0;
+      words = refl;
+      values = ap (λ r. r ∷ u ∷ w ∷ z ∷ y ∷ []) x.1 ∙ ap (λ r. extension_read x.0 ∷ r ∷ w ∷ z ∷ y ∷ []) s.1 ∙ ap (λ r. extension_read x.0 ∷ sheet_read s.0 ∷ r ∷ z ∷ y ∷ []) i.1
+          ∙ ap (λ r. extension_read x.0 ∷ sheet_read s.0 ∷ image_read i.0 ∷ r ∷ y ∷ []) m.1 ∙ ap (λ r. extension_read x.0 ∷ sheet_read s.0 ∷ image_read i.0 ∷ waits_read m.0 ∷ r ∷ []) (trace_in h.1.1.1.1.0.0 y h.1.1.1.1.0.2);
+      file = h.0.1;
+      elaborates = x.2;
+      sheet_file = h.1.0.1;
+      sheet_is = s.2;
+      program_file = h.1.1.0.1;
+      text = i.2;
+      waits_file = h.1.1.1.0.1;
+      waits_are = m.2;
+      trace_file = h.1.1.1.1.0.1;
+    }
+
+audit_takes : (files : Option NamedFiles) (rest : List (List ℕ)) (vs : List Reading) → AreRead files (slots_of Audit) rest vs → TakesAudit vs
+audit_takes files rest vs h =
+    let r = audit_read files rest vs h in
+    subst TakesAudit (sym r.values) ((is_well_formed r.bytes r.extension r.elaborates, names_are r.bytes r.extension r.elaborates, r.sheet_is.valid), given_by r.program r.image r.waits_bytes r.waits r.text r.waits_are, r.trace_file.within)
+
 -- a number in its range is at most the greatest
 same_number : (m n : ℕ) → ◌≡◌ {A = Option ℕ} (Some m) (Some n) → m ≡ n
 same_number m n e = cc
@@ -547,3 +645,4 @@ takes files RunExtension rest vs h = pipeline_takes files rest vs h
 takes files Bench rest vs h = bench_takes files rest vs h
 takes files Wave rest vs h = pipeline_takes files rest vs h
 takes files RunInterrupted rest vs h = interrupted_takes files rest vs h
+takes files Audit rest vs h = audit_takes files rest vs h

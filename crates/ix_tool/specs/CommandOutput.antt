@@ -1,9 +1,9 @@
 -- What a command answers and writes, from its words and the bytes of its files (this project's choice).
 use Rattle.std.specs.Prelude.{◌≡◌, ◌≢◌, IfSome, ℕ, ◌+◌, ◌<◌, ◌≤◌, List, [], ◌∷◌, ◌++◌, length, Option, Some, None, codes, decimal, ◌⊎◌}
 use Rattle.ix_words.specs.declared.status.Status.{Status}
-use Rattle.ix_words.specs.declared.status.Status.TheVariants.{Ok as ok_status, Usage, ReadFault, WriteFault, Extension as extension_status, NoSchedule, Memory, Source}
+use Rattle.ix_words.specs.declared.status.Status.TheVariants.{Ok as ok_status, Usage, ReadFault, WriteFault, Extension as extension_status, NoSchedule, Memory, Source, Trace}
 use Rattle.ix_words.specs.declared.command.Command.{Command}
-use Rattle.ix_words.specs.declared.command.Command.TheVariants.{RunImage, Check, Certify, Schedule, Build, Sweep, Seq, Assemble, RunExtension, Bench, Wave, RunInterrupted}
+use Rattle.ix_words.specs.declared.command.Command.TheVariants.{RunImage, Check, Certify, Schedule, Build, Sweep, Seq, Assemble, RunExtension, Bench, Wave, RunInterrupted, Audit}
 use Rattle.ix_words.specs.declared.command.RunForm.{RunForm}
 use Rattle.ix_words.specs.declared.command.RunForm.TheVariants.{Rows, Interrupted, Ports}
 use Rattle.ix_words.specs.declared.command.FileKind.{FileKind}
@@ -21,6 +21,11 @@ use Rattle.rv_wave.specs.Waves.{IsDesignWave, IsLawfulWave}
 use Rattle.rv_bench.specs.DrawnImage.{drawn_image}
 use Rattle.rv_bench.specs.Summary.{summary_text}
 use Rattle.rv_text.specs.RunText.{run_text}
+use Rattle.rv_printed.specs.Printed.{AreGiven}
+use Rattle.rv_faults.specs.Audited.{IsAudited}
+use Rattle.rv_audit.specs.Refused.{IsFault}
+use Rattle.rv_audit.specs.declared.auditing.AuditErr.{AuditErr}
+use Rattle.rv_audit.specs.declared.auditing.AuditErr.TheVariants as U
 use Rattle.rv_asm.specs.ImageText.{IsImageText, image_text}
 use Rattle.rv_asm.specs.Sources.{Assembles, IsRefusedAs}
 use Rattle.rv_asm.specs.WaitsText.{IsWaitsText}
@@ -34,8 +39,8 @@ use Rattle.ix_extension.specs.WellFormed.{IsOf}
 use Rattle.ix_tree.specs.TypedTrees.{TypedTextTree}
 use Rattle.ix_elab.specs.Elaborating.{Elaborates}
 use Rattle.ix_listing.specs.Listing.{listing_text}
-use Rattle.ix_words.specs.Readings.{Reading, number_read, image_read, report_read, extension_read, sheet_read, source_read, waits_read, lines_read}
-use Rattle.ix_words.specs.CommandLine.{RunCommand, SeqCommand, AsmCommand, ScheduleCommand, BuildCommand, SweepCommand, PipelineCommand, InterruptedCommand, BenchCommand, most_drawn, run_of, report_of, command_of, slots_of, behind}
+use Rattle.ix_words.specs.Readings.{Reading, number_read, image_read, report_read, extension_read, sheet_read, source_read, waits_read, lines_read, trace_read}
+use Rattle.ix_words.specs.CommandLine.{RunCommand, SeqCommand, AsmCommand, ScheduleCommand, BuildCommand, SweepCommand, PipelineCommand, InterruptedCommand, AuditCommand, BenchCommand, most_drawn, run_of, report_of, command_of, slots_of, behind}
 use Rattle.ix_sheet.specs.declared.sheet.Sheet.{Sheet as Datasheet}
 use Rattle.ix_sheet.specs.Sheets.{IsValidSheet}
 use Rattle.ix_schedules.specs.declared.text.TextErr.{TextErr}
@@ -160,6 +165,57 @@ source_line (A.Reach at) = source_text (codes "Reach") at
 source_line (A.Size at) = source_text (codes "Size") at
 source_line A.Memory = []
 
+-- a refusal of a trace, which names its line and in what respect that is not right
+abbrev pub fault_text : List ℕ → ℕ → List ℕ
+fault_text kind line = codes "refused Trace " ++ decimal line ++ codes " " ++ kind ++ codes "\n"
+
+-- in what respect a line is not right, by its name
+abbrev pub fault_kind : AuditErr → List ℕ
+fault_kind (U.Line line) = codes "Line"
+fault_kind (U.Moves line) = codes "Moves"
+fault_kind (U.Hold line) = codes "Hold"
+fault_kind (U.Fetch line) = codes "Fetch"
+fault_kind (U.Successor line) = codes "Successor"
+fault_kind (U.Unit line) = codes "Unit"
+fault_kind (U.Stop line) = codes "Stop"
+fault_kind (U.Commit line) = codes "Commit"
+fault_kind (U.Write line) = codes "Write"
+fault_kind (U.State line) = codes "State"
+fault_kind U.Memory = codes "Memory"
+
+-- the number of that line, from 1
+abbrev pub fault_at : AuditErr → ℕ
+fault_at (U.Line line) = line
+fault_at (U.Moves line) = line
+fault_at (U.Hold line) = line
+fault_at (U.Fetch line) = line
+fault_at (U.Successor line) = line
+fault_at (U.Unit line) = line
+fault_at (U.Stop line) = line
+fault_at (U.Commit line) = line
+fault_at (U.Write line) = line
+fault_at (U.State line) = line
+fault_at U.Memory = 0
+
+abbrev pub fault_line : AuditErr → List ℕ
+fault_line e = fault_text (fault_kind e) (fault_at e)
+
+-- the text is that of a lawful run of an image on the core of a datasheet with an extension, whose memory has these waits: a design stands for both
+pub record IsAuditedRun (x : ExtensionTree) (sheet : Datasheet) (image waits text : List ℕ) : Type 0 where
+  pub design : Design
+  pub stands : Stands design
+  pub extension_is : view_extension design.extension ≡ x
+  pub sheet_is : design.sheet ≡ sheet
+  pub audited : IsAudited design image waits text
+
+-- the text is refused for this: its first line that is not right, and in what respect
+pub record IsFaultyRun (x : ExtensionTree) (sheet : Datasheet) (image waits text : List ℕ) (error : AuditErr) : Type 0 where
+  pub design : Design
+  pub stands : Stands design
+  pub extension_is : view_extension design.extension ≡ x
+  pub sheet_is : design.sheet ≡ sheet
+  pub fault : IsFault design image waits text error
+
 -- the values are an extension, a datasheet, an image, the waits of a memory and a count of cycles, and the text is that of their run in this form
 pub record IsPipelineOutput (form : RunForm) (values : List Reading) (text : List ℕ) : Type 0 where
   pub extension : ExtensionTree
@@ -190,6 +246,17 @@ pub record IsBenchOutput (values : List Reading) (text : List ℕ) : Type 0 wher
   pub values_are : values ≡ extension_read extension ∷ sheet_read sheet ∷ number_read number ∷ number_read count ∷ []
   pub runs : IsDrawnRun extension sheet number count text
 
+-- the values are an extension, a datasheet, an image, the waits of a memory and the text of a lawful run of these, and the text due is a yes
+pub record IsAuditOutput (values : List Reading) (text : List ℕ) : Type 0 where
+  pub extension : ExtensionTree
+  pub sheet : Datasheet
+  pub image : List ℕ
+  pub waits : List ℕ
+  pub trace : List ℕ
+  pub values_are : values ≡ extension_read extension ∷ sheet_read sheet ∷ image_read image ∷ waits_read waits ∷ trace_read trace ∷ []
+  pub audited : IsAuditedRun extension sheet image waits trace
+  pub text_is : text ≡ codes "yes\n"
+
 -- ---- what a command answers where all its words are read
 -- the bytes due
 abbrev pub IsOutput : Command → List Reading → List ℕ → Type 0
@@ -205,6 +272,7 @@ IsOutput RunExtension values text = IsPipelineOutput Rows values text
 IsOutput Bench values text = IsBenchOutput values text
 IsOutput Wave values text = IsPipelineOutput Ports values text
 IsOutput RunInterrupted values text = IsInterruptedOutput values text
+IsOutput Audit values text = IsAuditOutput values text
 IsOutput command values text = ⊥
 
 -- a refusal of a source with the extension before it
@@ -233,6 +301,7 @@ Schedules RunExtension = Unit {0}
 Schedules Bench = Unit {0}
 Schedules Wave = Unit {0}
 Schedules RunInterrupted = Unit {0}
+Schedules Audit = Unit {0}
 Schedules command = ⊥
 
 -- a refusal of the first behaviour of an extension that is not scheduled on the core of the datasheet
@@ -255,9 +324,24 @@ pub record IsSweepRefusal (command : Command) (values : List Reading) (status : 
   pub refused : IsFirstLarge extension (behaviours_of extension) (W.TooManyOps line)
   pub status_is : status ≡ extension_status
 
+-- a refusal of a trace, where each behaviour of the extension is scheduled on the core of the datasheet
+pub record IsTraceRefusal (command : Command) (values : List Reading) (status : Status) (line : List ℕ) : Type 0 where
+  pub command_is : command ≡ Audit
+  pub extension : ExtensionTree
+  pub sheet : Datasheet
+  pub image : List ℕ
+  pub waits : List ℕ
+  pub trace : List ℕ
+  pub values_are : values ≡ extension_read extension ∷ sheet_read sheet ∷ image_read image ∷ waits_read waits ∷ trace_read trace ∷ []
+  pub error : AuditErr
+  pub faulty : IsFaultyRun extension sheet image waits trace error
+  pub status_is : status ≡ Trace
+  pub line_is : line ≡ fault_line error
+
 -- a refusal of the command's own, behind those of its files
 abbrev pub IsOwnRefusal : Command → List Reading → Status → List ℕ → Type 0
-IsOwnRefusal command values status line = IsSourceRefusal command values status line ⊎ (IsScheduleRefusal command values status line ⊎ IsSweepRefusal command values status line)
+IsOwnRefusal command values status line =
+    IsSourceRefusal command values status line ⊎ (IsScheduleRefusal command values status line ⊎ (IsSweepRefusal command values status line ⊎ IsTraceRefusal command values status line))
 
 -- what the command answers: its own refusal, or its output
 abbrev pub IsAnswer : Command → List Reading → Status → List ℕ → Type 0
@@ -301,6 +385,11 @@ abbrev pub TakesInterrupted : List Reading → Type 0
 TakesInterrupted (extension_read x ∷ sheet_read sheet ∷ image_read image ∷ waits_read waits ∷ lines_read lines ∷ number_read cycles ∷ []) = TakesSheet (extension_read x ∷ sheet_read sheet ∷ [])
 TakesInterrupted values = ⊥
 
+-- or an image, whose words have 32 bits, waits of at most 255 rows, and the bytes of a trace behind these
+abbrev pub TakesAudit : List Reading → Type 0
+TakesAudit (extension_read x ∷ sheet_read sheet ∷ image_read image ∷ waits_read waits ∷ trace_read bytes ∷ []) = TakesSheet (extension_read x ∷ sheet_read sheet ∷ []) × AreGiven image waits × (length bytes ≤ most_bytes)
+TakesAudit values = ⊥
+
 -- the values are those that a run in this form takes
 abbrev pub TakesRun : RunForm → List Reading → Type 0
 TakesRun Rows values = TakesPipeline values
@@ -331,6 +420,7 @@ Takes RunExtension values = TakesPipeline values
 Takes Bench values = TakesBench values
 Takes Wave values = TakesPipeline values
 Takes RunInterrupted values = TakesInterrupted values
+Takes Audit values = TakesAudit values
 Takes command values = ⊥
 
 -- what a command with these values did
@@ -575,7 +665,7 @@ pub record SteppedAnswer (files : Option NamedFiles) (command : SeqCommand) (bef
   pub written : Appends before now (run_text extension image command.steps)
 
 -- The files are the texts of this extension, which is well formed, of this datasheet, of this image, and of these waits. A design
--- stands for the extension and the datasheet, and the text of rows of which the headline holds was written whole.
+-- stands for the extension and the datasheet, and the text of rows of which the headline holds was written whole. An audit of it says yes.
 pub record PipelineAnswer (files : Option NamedFiles) (command : PipelineCommand) (before now : Option (List ℕ)) : Type 0 where
   pub bytes : List ℕ
   pub extension : ExtensionTree
@@ -596,6 +686,7 @@ pub record PipelineAnswer (files : Option NamedFiles) (command : PipelineCommand
   pub waits_file : IsFile files command.waits waits_bytes
   pub waits_read : IsWaitsText waits_bytes waits
   pub runs : IsLawfulRun extension sheet image waits None command.cycles text
+  pub audited : IsAuditedRun extension sheet image waits text
   pub written : Appends before now text
 
 -- The files are the texts of this extension, which is well formed, of this datasheet, of this image, of these waits, and of the rows in which
@@ -651,6 +742,47 @@ pub record WaveAnswer (files : Option NamedFiles) (command : PipelineCommand) (b
   pub waits_read : IsWaitsText waits_bytes waits
   pub runs : IsLawfulWaveRun extension sheet image waits command.cycles text
   pub written : Appends before now text
+
+-- The files are the texts of this extension, which is well formed, of this datasheet, of this image, and of these waits, and the last one is the text of a lawful run. A design
+-- stands for the extension and the datasheet: rows that are lawful on it, and retire and write what the run of the image retires and writes one instruction at a time, have this
+-- text, and the state behind them ends it. A yes was written.
+pub record AuditAnswer (files : Option NamedFiles) (command : AuditCommand) (before now : Option (List ℕ)) : Type 0 where
+  pub bytes : List ℕ
+  pub extension : ExtensionTree
+  pub sheet_bytes : List ℕ
+  pub sheet : Datasheet
+  pub program : List ℕ
+  pub image : List ℕ
+  pub waits_bytes : List ℕ
+  pub waits : List ℕ
+  pub trace : List ℕ
+  pub file : IsFile files command.extension bytes
+  pub elaborates : Elaborates bytes extension
+  pub well_formed : (typed : TypedTextTree) × IsOf typed extension
+  pub sheet_file : IsFile files command.sheet sheet_bytes
+  pub sheet_read : IsSheetRead sheet_bytes sheet
+  pub image_file : IsFile files command.image program
+  pub image_read : IsImageText program image
+  pub waits_file : IsFile files command.waits waits_bytes
+  pub waits_read : IsWaitsText waits_bytes waits
+  pub trace_file : IsFile files command.trace trace
+  pub audited : IsAuditedRun extension sheet image waits trace
+  pub written : Appends before now (codes "yes\n")
+
+-- the first line of a trace that is not right, behind files that are all read and behaviours that are all scheduled, was refused and its line written
+pub record TraceAnswer (files : Option NamedFiles) (words : List (List ℕ)) (before now : Option (List ℕ)) : Type 0 where
+  pub values : List Reading
+  pub extension : ExtensionTree
+  pub sheet : Datasheet
+  pub image : List ℕ
+  pub waits : List ℕ
+  pub trace : List ℕ
+  pub error : AuditErr
+  pub command_is : command_of words ≡ Some Audit
+  pub read : AreRead files (slots_of Audit) (behind words) values
+  pub values_are : values ≡ extension_read extension ∷ sheet_read sheet ∷ image_read image ∷ waits_read waits ∷ trace_read trace ∷ []
+  pub faulty : IsFaultyRun extension sheet image waits trace error
+  pub written : Appends before now (fault_line error)
 
 -- The files are the texts of this extension, which is well formed, and of this datasheet. A design stands for both, and the summary of lawful rows of the image that is drawn
 -- from the number was written whole.

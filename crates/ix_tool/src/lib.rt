@@ -2,6 +2,7 @@
 #![tactic(auto)]
 
 pub mod assembling;
+mod auditing;
 mod benching;
 pub mod building;
 mod running;

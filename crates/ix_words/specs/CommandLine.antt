@@ -4,8 +4,8 @@ use Rattle.std.specs.Option.{option_and_then}
 use Rattle.std.specs.Str.{bytes_eq}
 use Rattle.std.specs.declared.alloc.Global.{Global}
 use Rattle.ix_words.specs.declared.command.Command.{Command}
-use Rattle.ix_words.specs.declared.command.Command.TheVariants.{RunImage, Check, Certify, Schedule, Build, Sweep, Seq, Assemble, RunExtension, Bench, Wave, RunInterrupted}
-use Rattle.ix_words.specs.declared.command.FileKind.TheVariants.{Image, Report, Extension, Sheet, Source, Waits, Lines}
+use Rattle.ix_words.specs.declared.command.Command.TheVariants.{RunImage, Check, Certify, Schedule, Build, Sweep, Seq, Assemble, RunExtension, Bench, Wave, RunInterrupted, Audit}
+use Rattle.ix_words.specs.declared.command.FileKind.TheVariants.{Image, Report, Extension, Sheet, Source, Waits, Lines, Trace}
 use Rattle.ix_words.specs.declared.command.Slot.{Slot}
 use Rattle.ix_words.specs.declared.command.Slot.TheVariants.{Number, File}
 
@@ -44,6 +44,7 @@ word_of RunExtension = codes "run"
 word_of Bench = codes "bench"
 word_of Wave = codes "wave"
 word_of RunInterrupted = codes "run"
+word_of Audit = codes "audit"
 
 -- the greatest number that an image is drawn from, and the greatest count of drawn words
 abbrev pub most_number : ℕ
@@ -66,10 +67,11 @@ slots_of RunExtension = File Extension ∷ File Sheet ∷ File Image ∷ File Wa
 slots_of Bench = File Extension ∷ File Sheet ∷ Number most_number ∷ Number most_drawn ∷ []
 slots_of Wave = File Extension ∷ File Sheet ∷ File Image ∷ File Waits ∷ Number 200000 ∷ []
 slots_of RunInterrupted = File Extension ∷ File Sheet ∷ File Image ∷ File Waits ∷ File Lines ∷ Number 200000 ∷ []
+slots_of Audit = File Extension ∷ File Sheet ∷ File Image ∷ File Waits ∷ File Trace ∷ []
 
 -- the commands, in the order in which words are tried
 abbrev pub commands : List Command
-commands = RunImage ∷ Check ∷ Certify ∷ Seq ∷ Assemble ∷ Schedule ∷ Build ∷ Sweep ∷ RunExtension ∷ Bench ∷ Wave ∷ RunInterrupted ∷ []
+commands = RunImage ∷ Check ∷ Certify ∷ Seq ∷ Assemble ∷ Schedule ∷ Build ∷ Sweep ∷ RunExtension ∷ Bench ∷ Wave ∷ RunInterrupted ∷ Audit ∷ []
 
 -- ---- which command words are
 -- any word names a file; a number is at most the given one
@@ -265,6 +267,25 @@ interrupted_of (command ∷ extension ∷ sheet ∷ image ∷ waits ∷ []) = No
 interrupted_of (command ∷ extension ∷ sheet ∷ image ∷ waits ∷ lines ∷ []) = None
 interrupted_of (command ∷ extension ∷ sheet ∷ image ∷ waits ∷ lines ∷ cycles ∷ []) = interrupted_command (bytes_eq command (codes "run")) extension sheet image waits lines (number_within 200000 cycles)
 interrupted_of (command ∷ extension ∷ sheet ∷ image ∷ waits ∷ lines ∷ cycles ∷ more ∷ rest) = None
+
+-- ---- audit EXT SHEET IMAGE WAITS TRACE
+pub record AuditCommand : Type 0 where
+  pub extension : List ℕ
+  pub sheet : List ℕ
+  pub image : List ℕ
+  pub waits : List ℕ
+  pub trace : List ℕ
+
+-- the trace that these words ask to be judged, with the files that it is judged by, if they do
+abbrev pub audit_of : List (List ℕ) → Option AuditCommand
+audit_of [] = None
+audit_of (command ∷ []) = None
+audit_of (command ∷ extension ∷ []) = None
+audit_of (command ∷ extension ∷ sheet ∷ []) = None
+audit_of (command ∷ extension ∷ sheet ∷ image ∷ []) = None
+audit_of (command ∷ extension ∷ sheet ∷ image ∷ waits ∷ []) = None
+audit_of (command ∷ extension ∷ sheet ∷ image ∷ waits ∷ trace ∷ []) = if bytes_eq command (codes "audit") then Some (record { extension = extension; sheet = sheet; image = image; waits = waits; trace = trace }) else None
+audit_of (command ∷ extension ∷ sheet ∷ image ∷ waits ∷ trace ∷ more ∷ rest) = None
 
 -- ---- bench EXT SHEET NUMBER COUNT, with a number of 32 bits and 0 to 10,000 drawn words
 pub record BenchCommand : Type 0 where

@@ -1,9 +1,9 @@
 -- What the words behind the first stand for, and the first of them that is refused (this project's choice).
 use Rattle.std.specs.Prelude.{◌≡◌, IfSome, ℕ, ◌<◌, ◌≤◌, List, [], ◌∷◌, ◌++◌, length, Option, Some, codes, decimal, ◌⊎◌, string_bytes, Result, Ok, Err}
 use Rattle.ix_words.specs.declared.status.Status.{Status}
-use Rattle.ix_words.specs.declared.status.Status.TheVariants.{ReadFault, TooLong, Extension as extension_status, Sheet as sheet_status, Image as image_status, Certificate, Source, Waits as waits_status, Lines as lines_status}
+use Rattle.ix_words.specs.declared.status.Status.TheVariants.{ReadFault, TooLong, Extension as extension_status, Sheet as sheet_status, Image as image_status, Certificate, Source, Waits as waits_status, Lines as lines_status, Trace as trace_status}
 use Rattle.ix_words.specs.declared.command.FileKind.{FileKind}
-use Rattle.ix_words.specs.declared.command.FileKind.TheVariants.{Image, Report, Extension, Sheet, Source as source_kind, Waits, Lines}
+use Rattle.ix_words.specs.declared.command.FileKind.TheVariants.{Image, Report, Extension, Sheet, Source as source_kind, Waits, Lines, Trace as trace_kind}
 use Rattle.ix_words.specs.declared.command.Slot.{Slot}
 use Rattle.ix_words.specs.declared.command.Slot.TheVariants.{Number, File}
 use Rattle.ix_words.specs.declared.value.Value.{Value}
@@ -16,7 +16,7 @@ use Rattle.ix_elab.specs.declared.error.FrontErr.{FrontErr}
 use Rattle.ix_elab.specs.Elaborating.{Elaborates}
 use Rattle.ix_elab.specs.Refusing.{IsRefused as IsRefusedExtension}
 use Rattle.ix_listing.specs.RefusalLine.{refusal_line}
-use Rattle.ix_words.specs.Readings.{Reading, number_read, image_read, report_read, extension_read, sheet_read, source_read, waits_read, lines_read, reading_of}
+use Rattle.ix_words.specs.Readings.{Reading, number_read, image_read, report_read, extension_read, sheet_read, source_read, waits_read, lines_read, trace_read, reading_of}
 use Rattle.ix_words.specs.CommandLine.{number_within}
 use Rattle.ix_sheet.specs.declared.sheet.Sheet.{Sheet as Datasheet}
 use Rattle.ix_sheet.specs.declared.sheet.SheetErr.{SheetErr}
@@ -82,6 +82,7 @@ IsRefusedText Waits bytes line = (number : ℕ) × IsBadWait bytes number × (li
 IsRefusedText Lines bytes line = (number : ℕ) × IsBadRow bytes number × (line ≡ lines_line number)
 IsRefusedText Sheet bytes line = (e : SheetErr) × IsRefusedSheet bytes e × (line ≡ sheet_line e)
 IsRefusedText source_kind bytes line = ⊥
+IsRefusedText trace_kind bytes line = ⊥
 
 -- the status of that refusal
 abbrev pub refusal_status : FileKind → Status
@@ -92,6 +93,7 @@ refusal_status Waits = waits_status
 refusal_status Lines = lines_status
 refusal_status Sheet = sheet_status
 refusal_status source_kind = Source
+refusal_status trace_kind = trace_status
 
 -- the text of a file of this kind is read as this value
 abbrev pub IsReadAs : FileKind → List ℕ → Reading → Type 0
@@ -109,6 +111,8 @@ IsReadAs Sheet bytes (sheet_read sheet) = IsSheetRead bytes sheet
 IsReadAs Sheet bytes v = ⊥
 IsReadAs source_kind bytes (source_read text) = text ≡ bytes
 IsReadAs source_kind bytes v = ⊥
+IsReadAs trace_kind bytes (trace_read text) = text ≡ bytes
+IsReadAs trace_kind bytes v = ⊥
 
 -- ---- the words behind the first, in order: each file is read whole and judged before the next is read
 -- the bytes of a file that was read whole: those that are told, or some where nothing is told

@@ -28,6 +28,8 @@ pub enum Command {
     Wave,
     /// `run EXT SHEET IMAGE WAITS LINES CYCLES`, with 0 to 200,000 cycles.
     RunInterrupted,
+    /// `audit EXT SHEET IMAGE WAITS TRACE`.
+    Audit,
 }
 
 /// What is written of a run with an extension.
@@ -58,6 +60,8 @@ pub enum FileKind {
     Waits,
     /// The rows in which an interrupt line is raised.
     Lines,
+    /// The text of a trace.
+    Trace,
 }
 
 /// What may stand in a place behind the first word.
@@ -70,7 +74,7 @@ pub enum Slot {
 }
 
 /// The commands, in the order in which words are tried.
-const COMMANDS: [Command; 12] = [
+const COMMANDS: [Command; 13] = [
     Command::RunImage,
     Command::Check,
     Command::Certify,
@@ -83,6 +87,7 @@ const COMMANDS: [Command; 12] = [
     Command::Bench,
     Command::Wave,
     Command::RunInterrupted,
+    Command::Audit,
 ];
 
 /// What stands behind `run` for an image alone.
@@ -129,6 +134,15 @@ const RUN_INTERRUPTED: [Slot; 6] = [
     Slot::Number(200_000),
 ];
 
+/// What stands behind `audit`.
+const AUDIT: [Slot; 5] = [
+    Slot::File(FileKind::Extension),
+    Slot::File(FileKind::Sheet),
+    Slot::File(FileKind::Image),
+    Slot::File(FileKind::Waits),
+    Slot::File(FileKind::Trace),
+];
+
 /// What stands behind `bench`.
 const BENCH: [Slot; 4] = [
     Slot::File(FileKind::Extension),
@@ -155,6 +169,7 @@ impl Command {
             Command::Bench => "bench",
             Command::Wave => "wave",
             Command::RunInterrupted => "run",
+            Command::Audit => "audit",
         }
     }
 
@@ -175,6 +190,7 @@ impl Command {
             Command::Bench => &BENCH,
             Command::Wave => &RUN_EXTENSION,
             Command::RunInterrupted => &RUN_INTERRUPTED,
+            Command::Audit => &AUDIT,
         }
     }
 }

@@ -32,6 +32,8 @@ pub enum Status {
     Waits,
     /// A list of the rows in which an interrupt line is raised is refused.
     Lines,
+    /// A trace is refused.
+    Trace,
 }
 
 impl Status {
@@ -54,6 +56,7 @@ impl Status {
             Status::Source => 13,
             Status::Waits => 14,
             Status::Lines => 15,
+            Status::Trace => 16,
         }
     }
 }

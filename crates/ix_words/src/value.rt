@@ -7,7 +7,7 @@ ghost use Rattle.ix_words.specs.CommandLine.{fits_slot, fits_slots, bytes_of};
 ghost use Rattle.ix_words.specs.WordsRead.{image_line, file_line, certificate_line, sheet_text, sheet_line, waits_line, lines_line, Refuses, Judged, WordRead, WordsRefused, AreRead, RoseIn};
 ghost use Rattle.ix_words.specs.Readings.{reading_of};
 ghost use Rattle.ix_words.specs.declared.command.FileKind.{FileKind as Kind};
-ghost use Rattle.ix_words.specs.declared.command.FileKind.TheVariants.{Image as image_kind, Report as report_kind, Extension as extension_kind, Sheet as sheet_kind, Source as source_kind, Waits as waits_kind, Lines as lines_kind};
+ghost use Rattle.ix_words.specs.declared.command.FileKind.TheVariants.{Image as image_kind, Report as report_kind, Extension as extension_kind, Sheet as sheet_kind, Source as source_kind, Waits as waits_kind, Lines as lines_kind, Trace as trace_kind};
 
 use crate::command::{FileKind, Slot, number_within};
 use crate::status::Status;
@@ -42,6 +42,8 @@ pub enum Value {
     Waits(Waits),
     /// The rows in which an interrupt line is raised.
     Lines(Lines),
+    /// The bytes of the text of a trace.
+    Trace(List<u8>),
 }
 
 /// Why a word stands for nothing: the status and the line of the refusal.
@@ -216,6 +218,16 @@ fn judge_source(alloc: Global, bytes: &[u8]) -> Result<Value, Refusal>
     }
 }
 
+/// A trace is read as its bytes; whether it is that of a lawful run depends on the files before it.
+fn judge_trace(alloc: Global, bytes: &[u8]) -> Result<Value, Refusal>
+    ensures { Judged trace_kind bytes.now result }
+{
+    match List::from_slice(alloc, bytes) {
+        Ok(list) => Ok(Value::Trace(list)),
+        Err(_) => Err(Refusal::Memory),
+    }
+}
+
 /// What the text of a file is read as, or its refusal.
 fn judge(alloc: Global, kind: FileKind, bytes: &[u8]) -> Result<Value, Refusal>
     requires { length bytes.now ≤ most_bytes }
@@ -229,6 +241,7 @@ fn judge(alloc: Global, kind: FileKind, bytes: &[u8]) -> Result<Value, Refusal>
         FileKind::Source => judge_source(alloc, bytes),
         FileKind::Waits => judge_waits(alloc, bytes),
         FileKind::Lines => judge_lines(alloc, bytes),
+        FileKind::Trace => judge_trace(alloc, bytes),
     }
 }
 

@@ -7,3 +7,6 @@ mod Causes
 mod Ending
 mod Ended
 mod Rows
+mod OnePlan
+mod OneSetting
+mod OneAnswer

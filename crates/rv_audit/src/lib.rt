@@ -4,5 +4,7 @@
 
 mod auditing;
 mod judging;
+mod laws;
 
 pub use auditing::{AuditErr, audit};
+pub use laws::answer_laws;

@@ -25,6 +25,11 @@ returns-in-Some-clause-source c kind n w line e =
     let found = c.in-Some.ensures (codes "Source") (before kind (decimal n)) (word_of (codes "Source") refl) e in
     told_line string_bytes c.args.name.now c.args.bytes.now n c.finding_of.result.place c.tell.result (c.finding_of.ensures.source kind n w line (found.0.source refl) found.1) c.tell.ensures.at
 
+pub returns-in-Some-clause-trace : goal.returns-in-Some-clause-trace
+returns-in-Some-clause-trace c kind n line e =
+    let found = c.in-Some.ensures (codes "Trace") (before (decimal n) kind) (word_of (codes "Trace") refl) e in
+    told_line string_bytes c.args.name.now c.args.bytes.now n c.finding_of.result.place c.tell.result (c.finding_of.ensures.trace kind n line (found.0.trace refl) found.1) c.tell.ensures.at
+
 pub returns-in-None-clause-extension : goal.returns-in-None-clause-extension
 returns-in-None-clause-extension c kind from to w low high within e =
     absurd (c.in-None.ensures (codes "Extension") (before kind (before (decimal from) (decimal to))) (word_of (codes "Extension") refl) e)
@@ -37,3 +42,6 @@ returns-in-None-clause-certificate c kind n line e = absurd (c.in-None.ensures (
 
 pub returns-in-None-clause-source : goal.returns-in-None-clause-source
 returns-in-None-clause-source c kind n w line e = absurd (c.in-None.ensures (codes "Source") (before kind (decimal n)) (word_of (codes "Source") refl) e)
+
+pub returns-in-None-clause-trace : goal.returns-in-None-clause-trace
+returns-in-None-clause-trace c kind n line e = absurd (c.in-None.ensures (codes "Trace") (before (decimal n) kind) (word_of (codes "Trace") refl) e)

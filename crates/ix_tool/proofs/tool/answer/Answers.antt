@@ -22,3 +22,8 @@ pub returns-in-Wave : goal.returns-in-Wave
 returns-in-Wave g c =
     subst (λ k. Answered k (map reading_of c.args.values.items) (g.S.Sink.written c.args.sink.now) (g.S.Sink.written c.answer_run-in-Wave.new.sink) (g.S.Sink.faults c.args.sink.now) (g.S.Sink.faults c.answer_run-in-Wave.new.sink) c.answer_run-in-Wave.result)
     (sym c.in-Wave.is) c.answer_run-in-Wave.ensures
+
+pub returns-in-Audit : goal.returns-in-Audit
+returns-in-Audit g c =
+    subst (λ k. Answered k (map reading_of c.args.values.items) (g.S.Sink.written c.args.sink.now) (g.S.Sink.written c.answer_audit.new.sink) (g.S.Sink.faults c.args.sink.now) (g.S.Sink.faults c.answer_audit.new.sink) c.answer_audit.result)
+    (sym c.in-Audit.is) c.answer_audit.ensures

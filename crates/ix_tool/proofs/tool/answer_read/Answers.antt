@@ -18,6 +18,7 @@ asm_values (value.Source s ∷ vs) h = absurd h
 asm_values (value.Sheet s ∷ vs) h = absurd h
 asm_values (value.Waits w ∷ vs) h = absurd h
 asm_values (value.Lines w ∷ vs) h = absurd h
+asm_values (value.Trace w ∷ vs) h = absurd h
 asm_values (value.Extension x ∷ []) h = absurd h
 asm_values (value.Extension x ∷ value.Number n ∷ vs) h = absurd h
 asm_values (value.Extension x ∷ value.Image i ∷ vs) h = absurd h
@@ -26,6 +27,7 @@ asm_values (value.Extension x ∷ value.Extension y ∷ vs) h = absurd h
 asm_values (value.Extension x ∷ value.Sheet s ∷ vs) h = absurd h
 asm_values (value.Extension x ∷ value.Waits w ∷ vs) h = absurd h
 asm_values (value.Extension x ∷ value.Lines w ∷ vs) h = absurd h
+asm_values (value.Extension x ∷ value.Trace w ∷ vs) h = absurd h
 asm_values (value.Extension x ∷ value.Source s ∷ []) h = (x, s, refl)
 asm_values (value.Extension x ∷ value.Source s ∷ w ∷ vs) h = absurd h
 
@@ -44,3 +46,8 @@ pub returns-in-Sweep-default : goal.returns-in-Sweep-default
 returns-in-Sweep-default g c =
     subst (λ k. Answered k (map reading_of c.args.values.now) (g.S.Sink.written c.args.sink.now) (g.S.Sink.written c.answer_sweep.new.sink) (g.S.Sink.faults c.args.sink.now) (g.S.Sink.faults c.answer_sweep.new.sink) c.answer_sweep.result)
     (sym c.in-Sweep-default.is-0) c.answer_sweep.ensures
+
+pub returns-in-Build-default : goal.returns-in-Build-default
+returns-in-Build-default g c =
+    subst (λ k. Answered k (map reading_of c.args.values.now) (g.S.Sink.written c.args.sink.now) (g.S.Sink.written c.answer_build.new.sink) (g.S.Sink.faults c.args.sink.now) (g.S.Sink.faults c.answer_build.new.sink) c.answer_build.result)
+    (sym c.in-Build-default.is-0) c.answer_build.ensures

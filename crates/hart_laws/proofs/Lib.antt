@@ -1,0 +1,3 @@
+mod AddingRows
+mod SpawningRows
+mod JumpingRows

@@ -1,0 +1,4 @@
+pub mod Hands
+pub mod Adding
+pub mod Spawning
+pub mod Jumping

@@ -1,0 +1,7 @@
+//! The definition of the rows of two harts, tried on rows that are written out: those of the base
+//! set, of a core that takes some instructions as decoupled, and of one whose jumps come late.
+#![tactic(auto)]
+
+mod laws;
+
+pub use laws::{adding_harts, jumping_harts, spawning_harts};
