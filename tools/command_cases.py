@@ -538,6 +538,51 @@ for n, (old, new, line) in enumerate([
     due(f"audit NONE CORE3 ONE NOWAITS TONE{n}", 16, f"refused Trace {line}\n")
 file("TSTOPPED", EMPTY_RUN.replace("state", "1 - - - stop Fetch\nstate"))
 due("audit NONE CORE3 EMPTY NOWAITS TSTOPPED", 16, "refused Trace 2 Stop\n")
+# a row behind the one with the stop: the instruction that stopped the run stays or is gone
+file("BREAK", "00100073\n00500093\n")
+file("LOAD", "10000137\n00012083\n001081b3\n")
+BREAK_RUN = "0 0@00000000 - -\n1 1@00000004/Behind 0@00000000 - stop Ebreak\nstate\npc 00000000\n"
+LOAD_RUN = """0 0@00000000 - - - -
+1 1@00000004 0@00000000 - - -
+2 2@00000008/Behind 1@00000004/Operand(x2,0) 0@00000000 - -
+3 2@00000008/Behind 1@00000004/Operand(x2,0) - 0@00000000 -
+4 2@00000008/Behind 1@00000004/Operand(x2,0) - - 0@00000000 r0
+= 0 00000000 10000137 x2=10000000
+5 2@00000008 1@00000004 - - -
+6 - 2@00000008/Operand(x1,1) 1@00000004 - - stop DataRange
+state
+pc 00000004
+x2 10000000
+"""
+for image, core, run, behind in [
+    ("BREAK", "CORE3", BREAK_RUN, [
+        ("2 1@00000004 - -", "3 Stop"),
+        ("2 1@00000004 0@00000000 -", "3 Stop"),
+        ("2 1@00000004/Behind 0@00000000 - stop Ebreak", "3 Stop"),
+        ("2 1@00000004/Behind 0@00000000 -", "3 Hold"),
+        ("2 1@00000004 0@00000000/Behind - w0 f1\n+ 0", "3 Hold"),
+        ("2 1@00000004 - 0@00000000", "3 Moves"),
+        ("2 - 1@00000004 -", "3 Moves"),
+        ("2 1@00000004 - - w0 f1\n+ 0", "3 Successor"),
+        ("2 1@00000004 0@00000000 - p00000004 stop Fetch", "3 Successor"),
+        ("2 1@00000004 - - w0 stop Fetch\n+ 0", "3 Unit"),
+    ]),
+    ("LOAD", "CORE5", LOAD_RUN, [
+        ("7 - 2@00000008/Operand(x1,1) - - -", "9 Stop"),
+        ("7 - 2@00000008/Operand(x1,1) 1@00000004 - -", "9 Stop"),
+        ("7 - 2@00000008 - - -", "9 Hold"),
+        ("7 - 2@00000008/Behind 1@00000004 - -", "9 Hold"),
+        ("7 3@0000000c/Behind 2@00000008/Operand(x1,1) - - - p0000000c", "9 Fetch"),
+        ("7 - - 2@00000008 - -", "9 Moves"),
+        ("7 - 2@00000008 - - - f1", "9 Successor"),
+        ("7 - 2@00000008/Operand(x1,1) - - - p0000000c", "9 Successor"),
+    ]),
+]:
+    file(f"T{image}", run)
+    due(f"audit NONE {core} {image} NOWAITS T{image}", 0, "yes\n")
+    for n, (row, line) in enumerate(behind):
+        file(f"T{image}{n}", run.replace("state", row + "\nstate"))
+        due(f"audit NONE {core} {image} NOWAITS T{image}{n}", 16, f"refused Trace {line}\n")
 file("THANDLED", HANDLED_RUN)
 due("audit NONE CORE3 HANDLED NOWAITS THANDLED", 16, "refused Trace 5 Line\n")
 # a sum that its unit writes, in a row in which another instruction retires
@@ -602,6 +647,114 @@ due("audit NONE CORE3 ADD NOWAITS T", 0, "yes\n", (9, 4096, "-", 4096))
 for n in range(6):
     due("audit NONE CORE3 ADD NOWAITS T", 0 if n > 3 else 5, "yes\n"[:n], ("-", 4096, n, 1))
     due("audit NONE CORE3 ADD NOWAITS EMPTY", 16 if n > 2 else 5, "refused Trace 1 Line\n"[: 8 * n], ("-", 4096, n, 8))
+
+# two harts in turn: a sum beside nothing and beside a stop; what waits is turned; two units each
+ADD_ROWS = """2 a1@00000004 {} a0@00000000 ra0{}
+=a 0 00000000 00500093 x1=00000005
+3 - a1@00000004 -
+4 a2@00000008 - a1@00000004 ra1
+=a 1 00000004 00700113 x2=00000007
+5 - a2@00000008 -
+6 a3@0000000c - a2@00000008 ra2
+=a 2 00000008 002081b3 x3=0000000c
+7 - a3@0000000c - stop a Ebreak
+state a
+pc 0000000c
+x1 00000005
+x2 00000007
+x3 0000000c
+state b
+pc 00000000
+"""
+BESIDE_NONE = "0 a0@00000000 - -\n1 - a0@00000000 - stop b Fetch\n" + ADD_ROWS.format("-", "")
+BESIDE_BREAK = "0 a0@00000000 - -\n1 b0@00000000 a0@00000000 -\n" + ADD_ROWS.format("b0@00000000", " stop b Ebreak")
+file("BREAK", "00100073\n")
+file("CORE3LONG", 'core = "three"\nperiod = 1000\n[delay]\nadd = 600\n')
+file("LIMIT", "InstructionSet Limit extends RV32I { instructions { t { encoding: 7'd0 :: rs2[4:0] :: rs1[4:0] :: 3'd0 :: rd[4:0] :: 7'b0001011; behavior: { unsigned<32> t = X[rs1]; t = (unsigned<32>)(t + X[rs2]); t = (unsigned<32>)(t + X[rs2]); t = (unsigned<32>)(t + X[rs2]); t = (unsigned<32>)(t + X[rs2]); X[rd] = t; } } } }\n")
+for core in ["CORE3", "CORE3F"]:
+    due(f"barrel NONE {core} ADD EMPTY 20", 0, BESIDE_NONE)
+    due(f"barrel NONE {core} ADD BREAK 20", 0, BESIDE_BREAK)
+due("barrel NONE CORE3 ADD EMPTY 8", 0, BESIDE_NONE)
+due("barrel NONE CORE3 ADD EMPTY 3", 0, "".join(BESIDE_NONE.splitlines(True)[:4]) + "state a\npc 00000004\nx1 00000005\nstate b\npc 00000000\n")
+due("barrel NONE CORE3 ADD ADD 0", 0, "state a\npc 00000000\nstate b\npc 00000000\n")
+due("barrel NONE CORE3 EMPTY EMPTY 20", 0, "0 - - - stop a Fetch\n1 - - - stop b Fetch\nstate a\npc 00000000\nstate b\npc 00000000\n")
+# a jump to itself, as the first hart and as the second, until no more rows may be made
+due("barrel NONE CORE3 HERE BREAK 5", 0, """0 a0@00000000 - -
+1 b0@00000000 a0@00000000 - pa00000000
+2 a1@00000000 b0@00000000 a0@00000000 ra0 stop b Ebreak
+=a 0 00000000 0000006f pc=00000000
+3 - a1@00000000 - pa00000000
+4 a2@00000000 - a1@00000000 ra1
+=a 1 00000000 0000006f pc=00000000
+state a
+pc 00000000
+state b
+pc 00000000
+""")
+due("barrel NONE CORE3 BREAK HERE 5", 0, """0 a0@00000000 - -
+1 b0@00000000 a0@00000000 - stop a Ebreak
+2 - b0@00000000 - pb00000000
+3 b1@00000000 - b0@00000000 rb0
+=b 0 00000000 0000006f pc=00000000
+4 - b1@00000000 - pb00000000
+state a
+pc 00000000
+state b
+pc 00000000
+""")
+# two units, of which each hart has its own
+file("SLOWQUICK", "InstructionSet SlowQuick extends RV32I { instructions { slow { encoding: 7'd0 :: rs2[4:0] :: rs1[4:0] :: 3'd0 :: rd[4:0] :: 7'b0001011; behavior: spawn X[rd] = (unsigned<32>)(X[rs1] + X[rs2] + 1 + 1 + 1); } quick { encoding: 7'd0 :: rs2[4:0] :: rs1[4:0] :: 3'd1 :: rd[4:0] :: 7'b0001011; behavior: spawn X[rd] = (unsigned<32>)(X[rs1] + X[rs2]); } } }\n")
+file("APART", "0020828b\n0020930b\n00100393\n00100073\n")
+due("barrel SLOWQUICK CORE3LONG APART APART 100", 0, """0 a0@00000000 - -
+1 b0@00000000 a0@00000000 -
+2 a1@00000004 b0@00000000 a0@00000000 ra0
+=a 0 00000000 0020828b x5=later
+3 b1@00000004 a1@00000004 b0@00000000 rb0
+=b 0 00000000 0020828b x5=later
+4 a2@00000008 b1@00000004 a1@00000004 ra1
+=a 1 00000004 0020930b x6=later
+5 b2@00000008 a2@00000008 b1@00000004 wa0 rb1
++a 0 x5=00000003
+=b 1 00000004 0020930b x6=later
+6 a3@0000000c b2@00000008 a2@00000008 ra2 wb0
+=a 2 00000008 00100393 x7=00000001
++b 0 x5=00000003
+7 b3@0000000c a3@0000000c b2@00000008 wa1 stop a Ebreak rb2
++a 1 x6=00000000
+=b 2 00000008 00100393 x7=00000001
+8 - b3@0000000c - wb1 stop b Ebreak
++b 1 x6=00000000
+state a
+pc 0000000c
+x5 00000003
+x7 00000001
+state b
+pc 0000000c
+x5 00000003
+x7 00000001
+""")
+# words, files in order, either image, the schedule behind them all, and what waits in the last stage behind the schedules
+for words in ["barrel", "barrel NONE CORE3 ADD ADD", "barrel NONE CORE3 ADD ADD 20 20", "barrel NONE CORE3 ADD 20", "barrel NONE CORE3 ADD ADD 200001", "barrel NONE CORE3 ADD ADD -1", "barrels NONE CORE3 ADD ADD 20", "Barrel NONE CORE3 ADD ADD 20"]:
+    due(words, 2, "refused Usage\n")
+due("barrel EMPTY LOST LOST LOST 20", 7, "refused Extension At 0 0\n")
+due("barrel NONE NOTEXT LOST LOST 20", 8, "refused Sheet Utf8 -\n")
+due("barrel NONE CORE3 BADWORD LOST 20", 9, "refused Image 2\n")
+due("barrel NONE CORE3 LOST BADWORD 20", 4, "refused ReadFault LOST\n")
+due("barrel NONE CORE3 ADD BADWORD 20", 9, "refused Image 2\n")
+due("barrel NONE CORE3 ADD LINES1 20", 6, "refused TooLong LINES1\n")
+due("barrel MULX SLOW ADD LOST 20", 4, "refused ReadFault LOST\n")
+due("barrel MULX SLOW ADD ADD 20", 10, (NONE + UNTIMED).replace("delay 600", "delay 1200") + "cycle chain 2\nend\n")
+due("barrel LARGE FIVE ADD ADD 20", 7, "refused Extension TooManyOps large\n")
+due("barrel LIMIT CORE3LONG ADD ADD 20", 17, "refused Barrel t\n")
+due("barrel LIMIT CORE3LONG ADD ADD 0", 17, "refused Barrel t\n")
+due("barrel LIMIT CORE3LONG ADD BADWORD 20", 9, "refused Image 2\n")
+# a file takes one read more than it has parts of 4,096 bytes, which sees its end
+for n, name in enumerate(["NONE", "NONE", "CORE3", "CORE3", "ADD", "ADD", "EMPTY"]):
+    due("barrel NONE CORE3 ADD EMPTY 20", 4, f"refused ReadFault {name}\n", (n, 4096, "-", 4096))
+due("barrel NONE CORE3 ADD EMPTY 20", 0, BESIDE_NONE, (7, 4096, "-", 4096))
+for n in range(4):
+    due("barrel NONE CORE3 ADD EMPTY 20", 5 if 150 * n < len(BESIDE_NONE) else 0, BESIDE_NONE[: 150 * n], ("-", 4096, n, 150))
+    due("barrel LIMIT CORE3LONG ADD ADD 20", 17 if n > 2 else 5, "refused Barrel t\n"[: 6 * n], ("-", 4096, n, 6))
 
 STORED = [Path(__file__).resolve().parent / "commands" / name for name in ["tutorial", "schedules", "runs", "forwards", "base", "diagnoses"]]
 FOLDER.joinpath("stdin").write_bytes(b"".join(it.with_suffix(".cases").read_bytes() for it in STORED) + "".join(part + END for part in parts).encode())

@@ -1,3 +1,4 @@
 mod AddingRows
 mod SpawningRows
 mod JumpingRows
+mod PrintedRows

@@ -2,3 +2,4 @@ pub mod Hands
 pub mod Adding
 pub mod Spawning
 pub mod Jumping
+pub mod Texts

@@ -1,3 +1,6 @@
+ghost use Rattle.std.specs.Prelude.{◌≡◌};
+ghost use Rattle.rv_barrel_text.specs.BarrelRowText.{barrel_rows_text};
+ghost use Rattle.hart_laws.specs.Texts.{beside_empty_text, sharing_text, late_text};
 ghost use Rattle.hart_laws.specs.Adding.{adding, empty, rows_beside_empty, breaking, rows_beside_break};
 ghost use Rattle.hart_laws.specs.Hands.{HaveRows, plain, three, five};
 ghost use Rattle.hart_laws.specs.Jumping.{leaping, doubling, jumping_rows, late_jumps, leaping_late, stepping_late, late_rows};
@@ -28,4 +31,12 @@ pub fn spawning_harts()
 pub fn jumping_harts()
     ensures jumping { HaveRows (plain five) leaping doubling jumping_rows }
     ensures late { HaveRows late_jumps leaping_late stepping_late late_rows }
+{}
+
+/// How such rows are printed: on three stages those beside an empty image and those with two units,
+/// and on five stages those with late jumps.
+pub fn printed_harts()
+    ensures beside_empty { barrel_rows_text 3 0 rows_beside_empty ≡ beside_empty_text }
+    ensures sharing { barrel_rows_text 3 0 sharing_rows ≡ sharing_text }
+    ensures late { barrel_rows_text 5 0 late_rows ≡ late_text }
 {}

@@ -195,6 +195,14 @@ fn schedule_finding<'a>(name: &'a str, bytes: &[u8]) -> Finding<'a> {
     }
 }
 
+fn barrel_finding<'a>(name: &'a str, bytes: &[u8]) -> Finding<'a> {
+    Finding {
+        place: declaration(bytes, name),
+        sentence: "the mode of this behaviour is Tight, so that it waits in the last stage, and where two harts take turns nothing can wait: write what takes long into a `spawn` body, or smaller delays or a greater period into the datasheet",
+        about: name,
+    }
+}
+
 /// What is found of a refusal, in the bytes of the file that is refused.
 pub(crate) fn finding_of<'a>(refusal: Refusal<'a>, bytes: &[u8]) -> Finding<'a>
     ensures { FindsPlace refusal.entry.status refusal.entry.rest.now bytes.now result.place }
@@ -209,6 +217,7 @@ pub(crate) fn finding_of<'a>(refusal: Refusal<'a>, bytes: &[u8]) -> Finding<'a>
         Status::Lines => lines_finding(refusal.rest, bytes),
         Status::Trace => trace_finding(refusal.rest, bytes),
         Status::NoSchedule => schedule_finding(refusal.rest, bytes),
+        Status::Barrel => barrel_finding(refusal.rest, bytes),
         Status::ReadFault => at(
             None,
             "the file cannot be read: write the name of a file that is there and may be read",
@@ -219,7 +228,7 @@ pub(crate) fn finding_of<'a>(refusal: Refusal<'a>, bytes: &[u8]) -> Finding<'a>
         ),
         Status::Usage | Status::Other => at(
             None,
-            "these words are not a command: write `run IMAGE CYCLES`, `run EXT SHEET IMAGE WAITS CYCLES`, `run EXT SHEET IMAGE WAITS LINES CYCLES`, `check EXT`, `certify REPORT`, `seq EXT IMAGE STEPS`, `asm EXT SOURCE`, `schedule EXT SHEET`, `build EXT SHEET`, `sweep EXT SHEET`, `bench EXT SHEET NUMBER COUNT`, `wave EXT SHEET IMAGE WAITS CYCLES` or `audit EXT SHEET IMAGE WAITS TRACE`, CYCLES and STEPS being numbers from 0 to 200000, NUMBER from 0 to 4294967295, and COUNT from 0 to 10000",
+            "these words are not a command: write `run IMAGE CYCLES`, `run EXT SHEET IMAGE WAITS CYCLES`, `run EXT SHEET IMAGE WAITS LINES CYCLES`, `check EXT`, `certify REPORT`, `seq EXT IMAGE STEPS`, `asm EXT SOURCE`, `schedule EXT SHEET`, `build EXT SHEET`, `sweep EXT SHEET`, `bench EXT SHEET NUMBER COUNT`, `wave EXT SHEET IMAGE WAITS CYCLES`, `audit EXT SHEET IMAGE WAITS TRACE` or `barrel EXT SHEET IMAGEA IMAGEB CYCLES`, CYCLES and STEPS being numbers from 0 to 200000, NUMBER from 0 to 4294967295, and COUNT from 0 to 10000",
         ),
     }
 }

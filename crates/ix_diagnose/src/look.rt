@@ -1,7 +1,7 @@
 ghost use Rattle.std.specs.Prelude.{◌≤◌, length};
 
 use crate::place::line_end;
-use crate::text::{behind_blanks, name_end, token_end};
+use crate::text::{before_blanks, behind_blanks, name_end, token_end};
 
 /// What kind of file a text looks like.
 #[derive(Clone, Copy, Debug, PartialEq, Eq)]
@@ -38,6 +38,16 @@ fn starts_sheet(text: &[u8]) -> bool {
 /// Whether a text starts with a word of eight hexadecimal digits.
 fn starts_image(text: &[u8]) -> bool {
     name_end(text, 0) == 8 && text[..8].iter().all(|b| b.is_ascii_hexdigit())
+}
+
+/// Whether a line of an image is a word, a comment, or empty.
+pub(crate) fn is_image_line(line: &[u8]) -> bool {
+    let text = &line[behind_blanks(line, 0)..];
+    let text = &text[..before_blanks(text, text.len())];
+    text.is_empty()
+        || text.starts_with(b"#")
+        || text.starts_with(b"//")
+        || text.len() == 8 && starts_image(text)
 }
 
 /// What a file looks like by its first word.

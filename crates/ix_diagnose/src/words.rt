@@ -19,6 +19,7 @@ pub(crate) enum Status {
     Waits,
     Lines,
     Trace,
+    Barrel,
     /// No line of the tool begins so.
     Other,
 }
@@ -47,6 +48,7 @@ fn status_of(word: &str) -> Status
         "Waits" => Status::Waits,
         "Lines" => Status::Lines,
         "Trace" => Status::Trace,
+        "Barrel" => Status::Barrel,
         _ => Status::Other,
     }
 }

@@ -11,7 +11,7 @@ use Rattle.ix_sheet.specs.declared.sheet.Sheet.{Sheet}
 use Rattle.ix_schedules.specs.declared.text.TextErr.{TextErr}
 use Rattle.ix_schedules.specs.ScheduleText.{IsScheduleText, IsRefusedText as IsRefusedSchedule}
 use Rattle.ix_words.specs.declared.status.Status.{Status}
-use Rattle.ix_words.specs.declared.status.Status.TheVariants.{Ok as ok_status, Memory, Source, Extension as extension_status, Trace}
+use Rattle.ix_words.specs.declared.status.Status.TheVariants.{Ok as ok_status, Memory, Source, Extension as extension_status, Trace, Barrel as barrel_status}
 use Rattle.rv_audit.specs.declared.auditing.AuditErr.{AuditErr}
 use Rattle.ix_modules.specs.Modules.{IsModulesText}
 use Rattle.ix_schedules.specs.Scheduling.{behaviours_of}
@@ -19,10 +19,11 @@ use Rattle.ix_sweeps.specs.declared.sweeping.SweepErr.TheVariants as W
 use Rattle.ix_sweeps.specs.Sweeping.{IsFirstLarge}
 use Rattle.ix_sweeps.specs.SweepText.{IsSweepText}
 use Rattle.ix_words.specs.declared.command.Command.{Command}
-use Rattle.ix_words.specs.declared.command.Command.TheVariants.{Assemble, Schedule, Build, Sweep, Seq, Bench, Audit}
+use Rattle.ix_words.specs.declared.command.Command.TheVariants.{Assemble, Schedule, Build, Sweep, Seq, Bench, Audit, Barrel}
 use Rattle.ix_words.specs.declared.command.RunForm.{RunForm}
 use Rattle.ix_words.specs.declared.command.RunForm.TheVariants.{Rows, Interrupted, Ports}
 use Rattle.ix_words.specs.Readings.{Reading, extension_read, sheet_read, source_read, image_read, waits_read, lines_read, trace_read, number_read}
+use Rattle.ix_tool.specs.BarrelOutput.{IsBarrelRun, IsTightFor, tight_line}
 use Rattle.ix_tool.specs.CommandOutput.{command_in, run_values, HasLines, Writes, IsToldAs, Schedules, Answered, IsExtensionRun, IsDrawnRun, IsAuditedRun, IsFaultyRun, source_line, fault_line}
 
 module _ (x : ExtensionTree) (bytes : List ℕ) (before now : Option (List ℕ)) (faults faults_now : ℕ) (result : Status) where
@@ -101,7 +102,22 @@ module _ (x : ExtensionTree) (sheet : Sheet) (before now : Option (List ℕ)) (f
       inr (
         Trace,
         fault_line e,
-        inl (inr (inr (inr (record { command_is = refl; extension = x; sheet = sheet; image = image; waits = waits; trace = trace; values_are = refl; error = e; faulty = h; status_is = refl; line_is = refl })))),
+        inl (inr (inr (inr (inl (record { command_is = refl; extension = x; sheet = sheet; image = image; waits = waits; trace = trace; values_are = refl; error = e; faulty = h; status_is = refl; line_is = refl }))))),
+        w,
+      )
+
+  pub barrel_answered : (first second : List ℕ) (cycles : ℕ) (text : List ℕ) → IsBarrelRun x sheet first second cycles text → Writes ok_status text before now faults faults_now result
+      → Answered Barrel (extension_read x ∷ sheet_read sheet ∷ image_read first ∷ image_read second ∷ number_read cycles ∷ []) before now faults faults_now result
+  barrel_answered first second cycles text h w =
+      inr (ok_status, text, inr (refl, record { extension = x; sheet = sheet; first = first; second = second; cycles = cycles; values_are = refl; runs = h }), w)
+
+  pub tight_answered : (others : List Reading) (name : List ℕ) → IsTightFor x sheet name → Writes barrel_status (tight_line name) before now faults faults_now result
+      → Answered Barrel (extension_read x ∷ sheet_read sheet ∷ others) before now faults faults_now result
+  tight_answered others name h w =
+      inr (
+        barrel_status,
+        tight_line name,
+        inl (inr (inr (inr (inr (record { command_is = refl; extension = x; sheet = sheet; others = others; values_are = refl; name = name; tight = h; status_is = refl; line_is = refl }))))),
         w,
       )
 

@@ -9,7 +9,7 @@ use Rattle.ix_extension.specs.Extensions.{ExtensionTree}
 use Rattle.ix_sheet.specs.declared.sheet.Sheet.{Sheet}
 use Rattle.ix_listing.proofs.OneExtension.{is_well_formed}
 use Rattle.ix_words.specs.declared.command.Command.{Command}
-use Rattle.ix_words.specs.declared.command.Command.TheVariants.{RunImage, Check, Certify, Schedule, Build, Sweep, Seq, Assemble, RunExtension, Bench, Wave, RunInterrupted, Audit}
+use Rattle.ix_words.specs.declared.command.Command.TheVariants.{RunImage, Check, Certify, Schedule, Build, Sweep, Seq, Assemble, RunExtension, Bench, Wave, RunInterrupted, Audit, Barrel}
 use Rattle.ix_words.specs.Readings.{Reading, extension_read, sheet_read, image_read, waits_read, trace_read}
 use Rattle.ix_words.specs.CommandLine.{word_of, is_command, slots_of, behind, AuditCommand, audit_of}
 use Rattle.ix_words.specs.WordsRead.{AreRead}
@@ -17,7 +17,7 @@ use Rattle.ix_tool.specs.CommandOutput.{IsAuditedRun, IsAuditOutput, IsOutput, O
 use Rattle.ix_tool.proofs.Due.{both, one}
 use Rattle.ix_tool.proofs.Headlines.{is_of, not_its_word}
 use Rattle.ix_tool.proofs.InterruptedShown.{as_many}
-use Rattle.ix_tool.proofs.Taking.{pipeline_read, audit_read}
+use Rattle.ix_tool.proofs.Taking.{pipeline_read, audit_read, barrel_read}
 
 -- ---- the words
 abbrev asked_by : List ℕ → List ℕ → List ℕ → List ℕ → List ℕ → AuditCommand
@@ -105,6 +105,9 @@ found_of files words before now o asked RunExtension is read out e =
 found_of files words before now o asked Wave is read out e =
     let r = pipeline_read files (behind words) o.values read in
     absurd (both (audit_of words) asked e (six_no_audit Wave refl words r.name r.other r.third r.fourth r.number is r.words))
+found_of files words before now o asked Barrel is read out e =
+    let r = barrel_read files (behind words) o.values read in
+    absurd (both (audit_of words) asked e (six_no_audit Barrel refl words r.name r.other r.third r.fourth r.number is r.words))
 found_of files words before now o asked RunImage is read out e = absurd (both (audit_of words) asked e (no_audit files words RunImage o.values is read (λ n. omega (arith, n))))
 found_of files words before now o asked Check is read out e = absurd (both (audit_of words) asked e (no_audit files words Check o.values is read (λ n. omega (arith, n))))
 found_of files words before now o asked Certify is read out e = absurd (both (audit_of words) asked e (no_audit files words Certify o.values is read (λ n. omega (arith, n))))

@@ -17,7 +17,7 @@ use Rattle.rv_bench.specs.DrawnImage.{drawn_image}
 use Rattle.rv_bench.specs.Words.{IsWord, WordsLaw}
 use Rattle.rv_machine.specs.Promises.{RowsLaw, IsRunnable}
 use Rattle.ix_words.specs.declared.command.Command.{Command}
-use Rattle.ix_words.specs.declared.command.Command.TheVariants.{RunImage, Check, Certify, Schedule, Build, Sweep, Seq, Assemble, RunExtension, Bench, Wave, RunInterrupted, Audit}
+use Rattle.ix_words.specs.declared.command.Command.TheVariants.{RunImage, Check, Certify, Schedule, Build, Sweep, Seq, Assemble, RunExtension, Bench, Wave, RunInterrupted, Audit, Barrel}
 use Rattle.ix_words.specs.Readings.{Reading, extension_read, sheet_read, number_read}
 use Rattle.ix_words.specs.CommandLine.{is_command, slots_of, behind, number_within, most_number, most_drawn, BenchCommand, bench_command, bench_of}
 use Rattle.ix_words.specs.WordsRead.{AreRead}
@@ -25,7 +25,7 @@ use Rattle.ix_tool.specs.CommandOutput.{IsDesignSummary, IsLawfulSummary, IsDraw
 use Rattle.ix_tool.proofs.Due.{both, one}
 use Rattle.ix_tool.proofs.Headlines.{is_of}
 use Rattle.ix_tool.proofs.Handlers.{handler_of}
-use Rattle.ix_tool.proofs.Taking.{run_read, extension_is_read, report_is_read, source_is_read, schedule_is_read, seq_read, pipeline_read, interrupted_read, audit_read, bench_read}
+use Rattle.ix_tool.proofs.Taking.{run_read, extension_is_read, report_is_read, source_is_read, schedule_is_read, seq_read, pipeline_read, interrupted_read, audit_read, barrel_read, bench_read}
 
 -- ---- the words of a drawn image
 same_word : (m n : ℕ) → ◌≡◌ {A = Option ℕ} (Some m) (Some n) → m ≡ n
@@ -143,6 +143,9 @@ benched_of rows law files words before now RunInterrupted vs text asked is read 
 benched_of rows law files words before now Audit vs text asked is read out a e =
     let r = audit_read files (behind words) vs read in
     absurd (both (bench_of words) asked e (six_no_bench words r.name r.other r.third r.fourth r.fifth Audit is r.words))
+benched_of rows law files words before now Barrel vs text asked is read out a e =
+    let r = barrel_read files (behind words) vs read in
+    absurd (both (bench_of words) asked e (six_no_bench words r.name r.other r.third r.fourth r.number Barrel is r.words))
 benched_of rows law files words before now Bench vs text asked is read out a e =
     let r = bench_read files (behind words) vs read in
     let there : IsBenchOutput vs text = out in

@@ -5,7 +5,7 @@ use Rattle.ix_io.specs.Limits.{most_bytes}
 use Rattle.ix_io.specs.Shelf.{NamedFiles, told_file}
 use Rattle.ix_io.specs.Sink.{Appends}
 use Rattle.ix_words.specs.declared.status.Status.{Status}
-use Rattle.ix_words.specs.declared.status.Status.TheVariants.{Ok as ok_status, Usage, ReadFault, WriteFault, TooLong, Extension as extension_status, Image as image_status, Sheet as sheet_status, NoSchedule, Certificate, Memory, Source, Waits as waits_status, Lines as lines_status, Trace as trace_status}
+use Rattle.ix_words.specs.declared.status.Status.TheVariants.{Ok as ok_status, Usage, ReadFault, WriteFault, TooLong, Extension as extension_status, Image as image_status, Sheet as sheet_status, NoSchedule, Certificate, Memory, Source, Waits as waits_status, Lines as lines_status, Trace as trace_status, Barrel as barrel_status}
 use Rattle.ix_words.specs.declared.command.Command.{Command}
 use Rattle.ix_words.specs.declared.command.FileKind.{FileKind}
 use Rattle.ix_words.specs.declared.command.FileKind.TheVariants.{Image, Report, Extension, Sheet, Source as source_kind, Waits, Lines, Trace as trace_kind}
@@ -17,6 +17,8 @@ use Rattle.ix_words.specs.CommandLine.{command_of, slots_of, behind}
 use Rattle.ix_words.specs.WordsRead.{RoseIn, file_line, refusal_status, IsRefusedFile, not_read, too_long, bad_text, IsFirstRefused, IsFileOf, AreRead}
 use Rattle.ix_tool.specs.CommandOutput.{Outcome, NoneRises, IsAnswer, IsDue, due_usage, due_file, due_answer, UsageAnswer, ReadFaultAnswer, WriteFaultAnswer, TooLongAnswer, TextAnswer, OutputAnswer, SourceAnswer, IsToldAs, IsScheduleRefusal, IsSweepRefusal, TraceAnswer, UnscheduledAnswer, UnsweptAnswer, NoScheduleAnswer, ExtensionAnswer, IsStatusOr, Premises, Completes}
 use Rattle.rv_audit.specs.Alike.{OneAnswerLaw}
+use Rattle.ix_sheet.specs.Laws.{OneLaw}
+use Rattle.ix_tool.specs.BarrelOutput.{TightAnswer}
 use Rattle.ix_words.proofs.Reading.{at_found}
 use Rattle.ix_tool.proofs.Due.{all_one, not_refused, told_status, own_status, commanded, usage_alone, due_one}
 
@@ -65,28 +67,28 @@ of_first P f l t files R command words status line h =
     of_refusal P f l t files R found.0 found.1 status line found.2
 
 -- the status of a command's answer, by what is so of each
-of_answer : (P : Status → Type 0) → P ok_status → P Source → P extension_status → P NoSchedule → P trace_status → (command : Command) (vs : List Reading) (status : Status) (bytes : List ℕ) → IsAnswer command vs status bytes → P status
-of_answer P o s x n t command vs status bytes (inl own) = own_status P s x n t command vs status bytes own
-of_answer P o s x n t command vs status bytes (inr out) = subst P (sym out.0) o
+of_answer : (P : Status → Type 0) → P ok_status → P Source → P extension_status → P NoSchedule → P trace_status → P barrel_status → (command : Command) (vs : List Reading) (status : Status) (bytes : List ℕ) → IsAnswer command vs status bytes → P status
+of_answer P o s x n t b command vs status bytes (inl own) = own_status P s x n t b command vs status bytes own
+of_answer P o s x n t b command vs status bytes (inr out) = subst P (sym out.0) o
 
 -- a status that is due, by what is so of each
-of_due : (P : Status → Type 0) → P ok_status → P Usage → P ReadFault → P TooLong → ((kind : FileKind) → P (refusal_status kind)) → P NoSchedule → (files : Option NamedFiles) (R : List ℕ → Type 0) (words : List (List ℕ)) (status : Status) (bytes : List ℕ) → IsDue files R words status bytes → P status
-of_due P o u f l t n files R words _ _ (due_usage none) = u
-of_due P o u f l t n files R words _ _ (due_file command status line is first) = of_first P f l t files R command words status line first
-of_due P o u f l t n files R words _ _ (due_answer command vs status bytes is read answer) = of_answer P o (t source_kind) (t Extension) n (t trace_kind) command vs status bytes answer
+of_due : (P : Status → Type 0) → P ok_status → P Usage → P ReadFault → P TooLong → ((kind : FileKind) → P (refusal_status kind)) → P NoSchedule → P barrel_status → (files : Option NamedFiles) (R : List ℕ → Type 0) (words : List (List ℕ)) (status : Status) (bytes : List ℕ) → IsDue files R words status bytes → P status
+of_due P o u f l t n b files R words _ _ (due_usage none) = u
+of_due P o u f l t n b files R words _ _ (due_file command status line is first) = of_first P f l t files R command words status line first
+of_due P o u f l t n b files R words _ _ (due_answer command vs status bytes is read answer) = of_answer P o (t source_kind) (t Extension) n (t trace_kind) b command vs status bytes answer
 
 due_no_fault : (files : Option NamedFiles) (R : List ℕ → Type 0) (words : List (List ℕ)) (status : Status) (bytes : List ℕ) → IsDue files R words status bytes → status ≡ WriteFault → ⊥
-due_no_fault = of_due (λ s. s ≡ WriteFault → ⊥) (λ e. cc) (λ e. cc) (λ e. cc) (λ e. cc) text_no_write_fault (λ e. cc)
+due_no_fault = of_due (λ s. s ≡ WriteFault → ⊥) (λ e. cc) (λ e. cc) (λ e. cc) (λ e. cc) text_no_write_fault (λ e. cc) (λ e. cc)
 
 due_no_memory : (files : Option NamedFiles) (R : List ℕ → Type 0) (words : List (List ℕ)) (status : Status) (bytes : List ℕ) → IsDue files R words status bytes → status ≡ Memory → ⊥
-due_no_memory = of_due (λ s. s ≡ Memory → ⊥) (λ e. cc) (λ e. cc) (λ e. cc) (λ e. cc) text_no_memory (λ e. cc)
+due_no_memory = of_due (λ s. s ≡ Memory → ⊥) (λ e. cc) (λ e. cc) (λ e. cc) (λ e. cc) text_no_memory (λ e. cc) (λ e. cc)
 
 -- ---- what is due, by its status
 usage_of : (files : Option NamedFiles) (R : List ℕ → Type 0) (words : List (List ℕ)) (before now : Option (List ℕ)) (status : Status) (bytes : List ℕ) → IsDue files R words status bytes → status ≡ Usage → Appends before now bytes → UsageAnswer words before now
 usage_of files R words before now _ _ (due_usage none) e a = (none, a)
 usage_of files R words before now _ _ (due_file command status line is first) e a =
     absurd (of_first (λ s. s ≡ Usage → ⊥) (λ q. cc) (λ q. cc) text_no_usage files R command words status line first e)
-usage_of files R words before now _ _ (due_answer command vs status bytes is read answer) e a = absurd (of_answer (λ s. s ≡ Usage → ⊥) (λ q. cc) (λ q. cc) (λ q. cc) (λ q. cc) (λ q. cc) command vs status bytes answer e)
+usage_of files R words before now _ _ (due_answer command vs status bytes is read answer) e a = absurd (of_answer (λ s. s ≡ Usage → ⊥) (λ q. cc) (λ q. cc) (λ q. cc) (λ q. cc) (λ q. cc) (λ q. cc) command vs status bytes answer e)
 
 fault_of : (files : Option NamedFiles) (counts counts_now : List ℕ → ℕ) (before now : Option (List ℕ)) (kind : FileKind) (name : List ℕ) (status : Status) (line : List ℕ) → IsRefusedFile files (RoseIn counts counts_now) kind name status line → status ≡ ReadFault → Appends before now line
     → RoseIn counts counts_now name × Appends before now (file_line (codes "ReadFault") name)
@@ -100,7 +102,7 @@ read_fault_of files counts counts_now words before now _ _ (due_file command sta
     let found = at_found files (λ kind name. IsRefusedFile files (RoseIn counts counts_now) kind name status line) (slots_of command) (behind words) first in
     let cause = fault_of files counts counts_now before now found.0 found.1 status line found.2 e a in
     record { command = command; kind = found.0; name = found.1; command_is = is; file = found.3; rose = cause.0; line = cause.1 }
-read_fault_of files counts counts_now words before now _ _ (due_answer command vs status bytes is read answer) e a = absurd (of_answer (λ s. s ≡ ReadFault → ⊥) (λ q. cc) (λ q. cc) (λ q. cc) (λ q. cc) (λ q. cc) command vs status bytes answer e)
+read_fault_of files counts counts_now words before now _ _ (due_answer command vs status bytes is read answer) e a = absurd (of_answer (λ s. s ≡ ReadFault → ⊥) (λ q. cc) (λ q. cc) (λ q. cc) (λ q. cc) (λ q. cc) (λ q. cc) command vs status bytes answer e)
 
 long_of : (files : Option NamedFiles) (R : List ℕ → Type 0) (before now : Option (List ℕ)) (kind : FileKind) (name : List ℕ) (status : Status) (line : List ℕ) → IsRefusedFile files R kind name status line → status ≡ TooLong → Appends before now line
     → IfSome (told_file files name) (λ file. most_bytes < length file) × Appends before now (file_line (codes "TooLong") name)
@@ -114,7 +116,7 @@ too_long_of files R words before now _ _ (due_file command status line is first)
     let found = at_found files (λ kind name. IsRefusedFile files R kind name status line) (slots_of command) (behind words) first in
     let cause = long_of files R before now found.0 found.1 status line found.2 e a in
     record { command = command; kind = found.0; name = found.1; command_is = is; file = found.3; long = cause.0; line = cause.1 }
-too_long_of files R words before now _ _ (due_answer command vs status bytes is read answer) e a = absurd (of_answer (λ s. s ≡ TooLong → ⊥) (λ q. cc) (λ q. cc) (λ q. cc) (λ q. cc) (λ q. cc) command vs status bytes answer e)
+too_long_of files R words before now _ _ (due_answer command vs status bytes is read answer) e a = absurd (of_answer (λ s. s ≡ TooLong → ⊥) (λ q. cc) (λ q. cc) (λ q. cc) (λ q. cc) (λ q. cc) (λ q. cc) command vs status bytes answer e)
 
 bad_of : (files : Option NamedFiles) (R : List ℕ → Type 0) (words : List (List ℕ)) (wanted : Status) (before now : Option (List ℕ)) (command : Command) (found : FileKind) (name : List ℕ) (status : Status) (line : List ℕ) → command_of words ≡ Some command → IsRefusedFile files R found name status line
     → IsFileOf files found name (slots_of command) (behind words) → status ≡ wanted → (ReadFault ≡ wanted → ⊥) → (TooLong ≡ wanted → ⊥) → Appends before now line → TextAnswer files words wanted before now
@@ -135,19 +137,19 @@ bad_of files R words wanted before now command found name _ _ is (bad_text bytes
       written = a;
     }
 
-text_of_kind : (files : Option NamedFiles) (R : List ℕ → Type 0) (words : List (List ℕ)) (kind : FileKind) → (refusal_status kind ≡ Source → ⊥) → (refusal_status kind ≡ extension_status → ⊥) → (refusal_status kind ≡ trace_status → ⊥) → (before now : Option (List ℕ)) (status : Status) (bytes : List ℕ) → IsDue files R words status bytes → status ≡ refusal_status kind → Appends before now bytes → TextAnswer files words (refusal_status kind) before now
-text_of_kind files R words kind apart other no_trace before now _ _ (due_usage none) e a = absurd (text_no_usage kind (sym e))
-text_of_kind files R words kind apart other no_trace before now _ _ (due_file command status line is first) e a =
+text_of_kind : (files : Option NamedFiles) (R : List ℕ → Type 0) (words : List (List ℕ)) (kind : FileKind) → (refusal_status kind ≡ Source → ⊥) → (refusal_status kind ≡ extension_status → ⊥) → (refusal_status kind ≡ trace_status → ⊥) → (refusal_status kind ≡ barrel_status → ⊥) → (before now : Option (List ℕ)) (status : Status) (bytes : List ℕ) → IsDue files R words status bytes → status ≡ refusal_status kind → Appends before now bytes → TextAnswer files words (refusal_status kind) before now
+text_of_kind files R words kind apart other no_trace no_barrel before now _ _ (due_usage none) e a = absurd (text_no_usage kind (sym e))
+text_of_kind files R words kind apart other no_trace no_barrel before now _ _ (due_file command status line is first) e a =
     let found = at_found files (λ other name. IsRefusedFile files R other name status line) (slots_of command) (behind words) first in
     bad_of files R words (refusal_status kind) before now command found.0 found.1 status line is found.2 found.3 e (λ q. text_no_read_fault kind (sym q)) (λ q. text_not_long kind (sym q)) a
-text_of_kind files R words kind apart other no_trace before now _ _ (due_answer command vs status bytes is read answer) e a =
-    absurd (of_answer (λ s. s ≡ refusal_status kind → ⊥) (λ q. text_not_ok kind (sym q)) (λ q. apart (sym q)) (λ q. other (sym q)) (λ q. text_no_schedule kind (sym q)) (λ q. no_trace (sym q)) command vs status bytes answer e)
+text_of_kind files R words kind apart other no_trace no_barrel before now _ _ (due_answer command vs status bytes is read answer) e a =
+    absurd (of_answer (λ s. s ≡ refusal_status kind → ⊥) (λ q. text_not_ok kind (sym q)) (λ q. apart (sym q)) (λ q. other (sym q)) (λ q. text_no_schedule kind (sym q)) (λ q. no_trace (sym q)) (λ q. no_barrel (sym q)) command vs status bytes answer e)
 
 output_of : (files : Option NamedFiles) (R : List ℕ → Type 0) (words : List (List ℕ)) (before now : Option (List ℕ)) (status : Status) (bytes : List ℕ) → IsDue files R words status bytes → status ≡ ok_status → Appends before now bytes → OutputAnswer files words before now
 output_of files R words before now _ _ (due_usage none) e a = absurd cc
 output_of files R words before now _ _ (due_file command status line is first) e a =
     absurd (of_first (λ s. s ≡ ok_status → ⊥) (λ q. cc) (λ q. cc) text_not_ok files R command words status line first e)
-output_of files R words before now _ _ (due_answer command vs status bytes is read (inl own)) e a = absurd (own_status (λ s. s ≡ ok_status → ⊥) (λ q. cc) (λ q. cc) (λ q. cc) (λ q. cc) command vs status bytes own e)
+output_of files R words before now _ _ (due_answer command vs status bytes is read (inl own)) e a = absurd (own_status (λ s. s ≡ ok_status → ⊥) (λ q. cc) (λ q. cc) (λ q. cc) (λ q. cc) (λ q. cc) command vs status bytes own e)
 output_of files R words before now _ _ (due_answer command vs status bytes is read (inr out)) e a = record { command = command; values = vs; text = bytes; command_is = is; read = read; output = out.1; written = a }
 
 -- a source's file is never refused by its text alone
@@ -170,7 +172,8 @@ source_answer_of files R words before now _ _ (due_file command status line is f
     absurd (no_source_file files R found.0 found.1 status line found.2 e)
 source_answer_of files R words before now _ _ (due_answer command vs status bytes is read (inl (inr (inl own)))) e a = absurd (told_status (λ s. s ≡ Source → ⊥) (λ q. cc) (λ q. cc) own.error status bytes own.told e)
 source_answer_of files R words before now _ _ (due_answer command vs status bytes is read (inl (inr (inr (inl own))))) e a = absurd (let x = sym own.status_is ∙ e in cc)
-source_answer_of files R words before now _ _ (due_answer command vs status bytes is read (inl (inr (inr (inr own))))) e a = absurd (let x = sym own.status_is ∙ e in cc)
+source_answer_of files R words before now _ _ (due_answer command vs status bytes is read (inl (inr (inr (inr (inl own)))))) e a = absurd (let x = sym own.status_is ∙ e in cc)
+source_answer_of files R words before now _ _ (due_answer command vs status bytes is read (inl (inr (inr (inr (inr own)))))) e a = absurd (let x = sym own.status_is ∙ e in cc)
 source_answer_of files R words before now _ _ (due_answer command vs status bytes is read (inl (inl own))) e a =
     record {
       values = vs;
@@ -238,7 +241,8 @@ no_schedule_of files R words before now _ _ (due_file command status line is fir
 no_schedule_of files R words before now _ _ (due_answer command vs status bytes is read (inl (inl own))) e a = absurd (let x = sym own.status_is ∙ e in cc)
 no_schedule_of files R words before now _ _ (due_answer command vs status bytes is read (inl (inr (inl own)))) e a = none_by files words before now command vs status bytes own.error is read own refl own.told e a
 no_schedule_of files R words before now _ _ (due_answer command vs status bytes is read (inl (inr (inr (inl own))))) e a = absurd (let x = sym own.status_is ∙ e in cc)
-no_schedule_of files R words before now _ _ (due_answer command vs status bytes is read (inl (inr (inr (inr own))))) e a = absurd (let x = sym own.status_is ∙ e in cc)
+no_schedule_of files R words before now _ _ (due_answer command vs status bytes is read (inl (inr (inr (inr (inl own)))))) e a = absurd (let x = sym own.status_is ∙ e in cc)
+no_schedule_of files R words before now _ _ (due_answer command vs status bytes is read (inl (inr (inr (inr (inr own)))))) e a = absurd (let x = sym own.status_is ∙ e in cc)
 no_schedule_of files R words before now _ _ (due_answer command vs status bytes is read (inr out)) e a = absurd (let ok = out.0 in grind (arith, ok, e))
 
 extension_of_due : (files : Option NamedFiles) (R : List ℕ → Type 0) (words : List (List ℕ)) (before now : Option (List ℕ)) (status : Status) (bytes : List ℕ) → IsDue files R words status bytes → status ≡ extension_status → Appends before now bytes → ExtensionAnswer files words before now
@@ -249,7 +253,8 @@ extension_of_due files R words before now _ _ (due_file command status line is f
 extension_of_due files R words before now _ _ (due_answer command vs status bytes is read (inl (inl own))) e a = absurd (let x = sym own.status_is ∙ e in cc)
 extension_of_due files R words before now _ _ (due_answer command vs status bytes is read (inl (inr (inl own)))) e a = inr (inl (large_by files words before now command vs status bytes own.error is read own refl own.told e a))
 extension_of_due files R words before now _ _ (due_answer command vs status bytes is read (inl (inr (inr (inl own))))) e a = inr (inr (unswept files words before now command vs status bytes is read own a))
-extension_of_due files R words before now _ _ (due_answer command vs status bytes is read (inl (inr (inr (inr own))))) e a = absurd (let x = sym own.status_is ∙ e in cc)
+extension_of_due files R words before now _ _ (due_answer command vs status bytes is read (inl (inr (inr (inr (inl own)))))) e a = absurd (let x = sym own.status_is ∙ e in cc)
+extension_of_due files R words before now _ _ (due_answer command vs status bytes is read (inl (inr (inr (inr (inr own)))))) e a = absurd (let x = sym own.status_is ∙ e in cc)
 extension_of_due files R words before now _ _ (due_answer command vs status bytes is read (inr out)) e a = absurd (let ok = out.0 in grind (arith, ok, e))
 
 -- ---- traces
@@ -274,7 +279,7 @@ trace_answer_of files R words before now _ _ (due_file command status line is fi
 trace_answer_of files R words before now _ _ (due_answer command vs status bytes is read (inl (inl own))) e a = absurd (let x = sym own.status_is ∙ e in cc)
 trace_answer_of files R words before now _ _ (due_answer command vs status bytes is read (inl (inr (inl own)))) e a = absurd (told_status (λ s. s ≡ trace_status → ⊥) (λ q. cc) (λ q. cc) own.error status bytes own.told e)
 trace_answer_of files R words before now _ _ (due_answer command vs status bytes is read (inl (inr (inr (inl own))))) e a = absurd (let x = sym own.status_is ∙ e in cc)
-trace_answer_of files R words before now _ _ (due_answer command vs status bytes is read (inl (inr (inr (inr own))))) e a =
+trace_answer_of files R words before now _ _ (due_answer command vs status bytes is read (inl (inr (inr (inr (inl own)))))) e a =
     record {
       values = vs;
       extension = own.extension;
@@ -289,7 +294,36 @@ trace_answer_of files R words before now _ _ (due_answer command vs status bytes
       faulty = own.faulty;
       written = subst (λ l. Appends before now l) own.line_is a;
     }
+trace_answer_of files R words before now _ _ (due_answer command vs status bytes is read (inl (inr (inr (inr (inr own)))))) e a = absurd (let x = sym own.status_is ∙ e in cc)
 trace_answer_of files R words before now _ _ (due_answer command vs status bytes is read (inr out)) e a = absurd (let ok = out.0 in grind (arith, ok, e))
+
+-- ---- Tight behaviours
+-- no text alone is refused with their status
+text_no_barrel : (kind : FileKind) → refusal_status kind ≡ barrel_status → ⊥
+text_no_barrel = no_text barrel_status (λ q. cc) (λ q. cc) (λ q. cc) (λ q. cc) (λ q. cc) (λ q. cc) (λ q. cc) (λ q. cc)
+
+tight_answer_of : (files : Option NamedFiles) (R : List ℕ → Type 0) (words : List (List ℕ)) (before now : Option (List ℕ)) (status : Status) (bytes : List ℕ) → IsDue files R words status bytes → status ≡ barrel_status → Appends before now bytes → TightAnswer files words before now
+tight_answer_of files R words before now _ _ (due_usage none) e a = absurd cc
+tight_answer_of files R words before now _ _ (due_file command status line is first) e a =
+    absurd (of_first (λ s. s ≡ barrel_status → ⊥) (λ q. cc) (λ q. cc) text_no_barrel files R command words status line first e)
+tight_answer_of files R words before now _ _ (due_answer command vs status bytes is read (inl (inl own))) e a = absurd (let x = sym own.status_is ∙ e in cc)
+tight_answer_of files R words before now _ _ (due_answer command vs status bytes is read (inl (inr (inl own)))) e a = absurd (told_status (λ s. s ≡ barrel_status → ⊥) (λ q. cc) (λ q. cc) own.error status bytes own.told e)
+tight_answer_of files R words before now _ _ (due_answer command vs status bytes is read (inl (inr (inr (inl own))))) e a = absurd (let x = sym own.status_is ∙ e in cc)
+tight_answer_of files R words before now _ _ (due_answer command vs status bytes is read (inl (inr (inr (inr (inl own)))))) e a = absurd (let x = sym own.status_is ∙ e in cc)
+tight_answer_of files R words before now _ _ (due_answer command vs status bytes is read (inl (inr (inr (inr (inr own)))))) e a =
+    record {
+      values = vs;
+      extension = own.extension;
+      sheet = own.sheet;
+      others = own.others;
+      name = own.name;
+      command_is = subst (λ c. command_of words ≡ Some c) own.command_is is;
+      read = subst (λ c. AreRead files (slots_of c) (behind words) vs) own.command_is read;
+      values_are = own.values_are;
+      tight = own.tight;
+      written = subst (λ l. Appends before now l) own.line_is a;
+    }
+tight_answer_of files R words before now _ _ (due_answer command vs status bytes is read (inr out)) e a = absurd (let ok = out.0 in grind (arith, ok, e))
 
 -- ---- from the outcome
 module _ (files : Option NamedFiles) (counts counts_now : List ℕ → ℕ) (words : List (List ℕ)) (before now : Option (List ℕ)) (faults faults_now : ℕ) (result : Status)
@@ -314,22 +348,22 @@ module _ (files : Option NamedFiles) (counts counts_now : List ℕ → ℕ) (wor
   too_long_answer e = let w = written (λ q. grind (arith, e, q)) (λ q. grind (arith, e, q)) in too_long_of files (RoseIn counts counts_now) words before now result w.0 w.1 e w.2
 
   pub image : result ≡ image_status → TextAnswer files words image_status before now
-  image e = let w = written (λ q. grind (arith, e, q)) (λ q. grind (arith, e, q)) in text_of_kind files (RoseIn counts counts_now) words Image (λ q. cc) (λ q. cc) (λ q. cc) before now result w.0 w.1 e w.2
+  image e = let w = written (λ q. grind (arith, e, q)) (λ q. grind (arith, e, q)) in text_of_kind files (RoseIn counts counts_now) words Image (λ q. cc) (λ q. cc) (λ q. cc) (λ q. cc) before now result w.0 w.1 e w.2
 
   pub certificate : result ≡ Certificate → TextAnswer files words Certificate before now
-  certificate e = let w = written (λ q. grind (arith, e, q)) (λ q. grind (arith, e, q)) in text_of_kind files (RoseIn counts counts_now) words Report (λ q. cc) (λ q. cc) (λ q. cc) before now result w.0 w.1 e w.2
+  certificate e = let w = written (λ q. grind (arith, e, q)) (λ q. grind (arith, e, q)) in text_of_kind files (RoseIn counts counts_now) words Report (λ q. cc) (λ q. cc) (λ q. cc) (λ q. cc) before now result w.0 w.1 e w.2
 
   pub extension : result ≡ extension_status → ExtensionAnswer files words before now
   extension e = let w = written (λ q. grind (arith, e, q)) (λ q. grind (arith, e, q)) in extension_of_due files (RoseIn counts counts_now) words before now result w.0 w.1 e w.2
 
   pub sheet : result ≡ sheet_status → TextAnswer files words sheet_status before now
-  sheet e = let w = written (λ q. grind (arith, e, q)) (λ q. grind (arith, e, q)) in text_of_kind files (RoseIn counts counts_now) words Sheet (λ q. cc) (λ q. cc) (λ q. cc) before now result w.0 w.1 e w.2
+  sheet e = let w = written (λ q. grind (arith, e, q)) (λ q. grind (arith, e, q)) in text_of_kind files (RoseIn counts counts_now) words Sheet (λ q. cc) (λ q. cc) (λ q. cc) (λ q. cc) before now result w.0 w.1 e w.2
 
   pub waits : result ≡ waits_status → TextAnswer files words waits_status before now
-  waits e = let w = written (λ q. grind (arith, e, q)) (λ q. grind (arith, e, q)) in text_of_kind files (RoseIn counts counts_now) words Waits (λ q. cc) (λ q. cc) (λ q. cc) before now result w.0 w.1 e w.2
+  waits e = let w = written (λ q. grind (arith, e, q)) (λ q. grind (arith, e, q)) in text_of_kind files (RoseIn counts counts_now) words Waits (λ q. cc) (λ q. cc) (λ q. cc) (λ q. cc) before now result w.0 w.1 e w.2
 
   pub lines : result ≡ lines_status → TextAnswer files words lines_status before now
-  lines e = let w = written (λ q. grind (arith, e, q)) (λ q. grind (arith, e, q)) in text_of_kind files (RoseIn counts counts_now) words Lines (λ q. cc) (λ q. cc) (λ q. cc) before now result w.0 w.1 e w.2
+  lines e = let w = written (λ q. grind (arith, e, q)) (λ q. grind (arith, e, q)) in text_of_kind files (RoseIn counts counts_now) words Lines (λ q. cc) (λ q. cc) (λ q. cc) (λ q. cc) before now result w.0 w.1 e w.2
 
   pub no_schedule : result ≡ NoSchedule → NoScheduleAnswer files words before now
   no_schedule e = let w = written (λ q. grind (arith, e, q)) (λ q. grind (arith, e, q)) in no_schedule_of files (RoseIn counts counts_now) words before now result w.0 w.1 e w.2
@@ -339,6 +373,9 @@ module _ (files : Option NamedFiles) (counts counts_now : List ℕ → ℕ) (wor
 
   pub trace : result ≡ trace_status → TraceAnswer files words before now
   trace e = let w = written (λ q. grind (arith, e, q)) (λ q. grind (arith, e, q)) in trace_answer_of files (RoseIn counts counts_now) words before now result w.0 w.1 e w.2
+
+  pub tight : result ≡ barrel_status → TightAnswer files words before now
+  tight e = let w = written (λ q. grind (arith, e, q)) (λ q. grind (arith, e, q)) in tight_answer_of files (RoseIn counts counts_now) words before now result w.0 w.1 e w.2
 
   pub output : result ≡ ok_status → OutputAnswer files words before now
   output e = let w = written (λ q. grind (arith, e, q)) (λ q. grind (arith, e, q)) in output_of files (RoseIn counts counts_now) words before now result w.0 w.1 e w.2
@@ -370,11 +407,11 @@ module _ (files : Option NamedFiles) (counts counts_now : List ℕ → ℕ) (wor
     ]
   ]
 
-  pub due_status : OneAnswerLaw → (status : Status) (bytes : List ℕ) → files ≢ None → IsDue files NoneRises words status bytes → IsStatusOr status result
-  due_status law status bytes told other = elim outcome [
+  pub due_status : OneAnswerLaw → OneLaw → (status : Status) (bytes : List ℕ) → files ≢ None → IsDue files NoneRises words status bytes → IsStatusOr status result
+  due_status law chosen status bytes told other = elim outcome [
     | inl memory ↦ inr (inr (inr memory.1))
     | inr due ↦ elim due.3 [
-      | inl whole ↦ elim (due_one law files (RoseIn counts counts_now) words due.0 status due.1 bytes told due.2 other) [
+      | inl whole ↦ elim (due_one law chosen files (RoseIn counts counts_now) words due.0 status due.1 bytes told due.2 other) [
         | inl same ↦ inl (whole.0 ∙ same)
         | inr fault ↦ inr (inl (whole.0 ∙ fault))
       ]

@@ -5,8 +5,8 @@ use Rattle.ix_io.specs.Limits.{most_bytes}
 use Rattle.ix_io.specs.Shelf.{NamedFiles, told_file, file_named}
 use Rattle.ix_cert.proofs.Verdicts.{faultless_not_refused}
 use Rattle.ix_words.specs.declared.status.Status.{Status}
-use Rattle.ix_words.specs.declared.status.Status.TheVariants.{Usage, ReadFault, Source, Extension as extension_status, NoSchedule, Trace}
-use Rattle.ix_words.specs.declared.command.Command.TheVariants.{RunImage, Check, Certify, Assemble, Seq, Schedule, Build, Sweep, RunExtension, Bench, Wave, RunInterrupted, Audit}
+use Rattle.ix_words.specs.declared.status.Status.TheVariants.{Usage, ReadFault, Source, Extension as extension_status, NoSchedule, Trace, Barrel as barrel_status}
+use Rattle.ix_words.specs.declared.command.Command.TheVariants.{RunImage, Check, Certify, Assemble, Seq, Schedule, Build, Sweep, RunExtension, Bench, Wave, RunInterrupted, Audit, Barrel}
 use Rattle.ix_words.specs.declared.command.Command.{Command}
 use Rattle.ix_words.specs.declared.command.RunForm.{RunForm}
 use Rattle.ix_words.specs.declared.command.RunForm.TheVariants.{Rows, Ports}
@@ -35,6 +35,9 @@ use Rattle.ix_sweeps.proofs.OneAnswer.{swept_not_refused}
 use Rattle.ix_modules.proofs.OneText.{built_not_refused as modules_not_refused, design_not_refused}
 use Rattle.rv_faults.specs.Audited.{IsAudited}
 use Rattle.rv_audit.specs.Alike.{AreAlike, OneAnswerLaw}
+use Rattle.ix_sheet.specs.Laws.{OneLaw}
+use Rattle.ix_tool.specs.BarrelOutput.{tight_behaviour, IsBarrelOutput, IsBarrelRefusal}
+use Rattle.ix_tool.proofs.TightPlans.{one_tight}
 use Rattle.ix_tool.proofs.OneSheet.{one_sheet, sheet_not_refused}
 use Rattle.ix_tool.proofs.Taking.{takes}
 
@@ -335,11 +338,12 @@ told_status P x n (T.NoSchedule text) status line told = subst P (sym told.0) n
 told_status P x n T.Memory status line told = absurd told
 
 -- their statuses, by what is so of each
-pub own_status : (P : Status → Type 0) → P Source → P extension_status → P NoSchedule → P Trace → (command : Command) (vs : List Reading) (status : Status) (line : List ℕ) → IsOwnRefusal command vs status line → P status
-own_status P s x n t command vs status line (inl own) = subst P (sym own.status_is) s
-own_status P s x n t command vs status line (inr (inl own)) = told_status P x n own.error status line own.told
-own_status P s x n t command vs status line (inr (inr (inl own))) = subst P (sym own.status_is) x
-own_status P s x n t command vs status line (inr (inr (inr own))) = subst P (sym own.status_is) t
+pub own_status : (P : Status → Type 0) → P Source → P extension_status → P NoSchedule → P Trace → P barrel_status → (command : Command) (vs : List Reading) (status : Status) (line : List ℕ) → IsOwnRefusal command vs status line → P status
+own_status P s x n t b command vs status line (inl own) = subst P (sym own.status_is) s
+own_status P s x n t b command vs status line (inr (inl own)) = told_status P x n own.error status line own.told
+own_status P s x n t b command vs status line (inr (inr (inl own))) = subst P (sym own.status_is) x
+own_status P s x n t b command vs status line (inr (inr (inr (inl own)))) = subst P (sym own.status_is) t
+own_status P s x n t b command vs status line (inr (inr (inr (inr own)))) = subst P (sym own.status_is) b
 
 -- a source that is refused has no words
 source_apart : (command : Command) (vs : List Reading) (s : Status) (a b : List ℕ) → IsSourceRefusal command vs s a → IsOutput command vs b → ⊥
@@ -382,6 +386,13 @@ audit_apart x sheet others b e some out refused =
     subst (λ y. IsRefusedSchedule y out.audited.design.sheet e) (same.0 ∙ sym out.audited.extension_is) (subst (λ d. IsRefusedSchedule x d e) (same.1 ∙ sym out.audited.sheet_is) refused) in
     design_not_refused out.audited.design e some out.audited.stands there
 
+barrel_apart : (x : ExtensionTree) (sheet : Datasheet) (others : List Reading) (b : List ℕ) (e : TextErr) → e ≢ T.Memory → IsBarrelOutput (extension_read x ∷ sheet_read sheet ∷ others) b → IsRefusedSchedule x sheet e → ⊥
+barrel_apart x sheet others b e some out refused =
+    let same : (x ≡ out.extension) × (sheet ≡ out.sheet) = (let v = out.values_are in cc, let v = out.values_are in cc) in
+    let there : IsRefusedSchedule (view_extension out.runs.design.extension) out.runs.design.sheet e =
+    subst (λ y. IsRefusedSchedule y out.runs.design.sheet e) (same.0 ∙ sym out.runs.extension_is) (subst (λ d. IsRefusedSchedule x d e) (same.1 ∙ sym out.runs.sheet_is) refused) in
+    design_not_refused out.runs.design e some out.runs.stands there
+
 sheet_apart : (command : Command) (x : ExtensionTree) (sheet : Datasheet) (others : List Reading) (b : List ℕ) (e : TextErr) → Schedules command → e ≢ T.Memory → IsOutput command (extension_read x ∷ sheet_read sheet ∷ others) b → IsRefusedSchedule x sheet e → ⊥
 sheet_apart Schedule x sheet [] b e h some out refused = scheduled_not_refused x sheet b e some out refused
 sheet_apart Schedule x sheet (v ∷ vs) b e h some out refused = out
@@ -392,6 +403,7 @@ sheet_apart Wave x sheet others b e h some out refused = run_apart Ports x sheet
 sheet_apart RunInterrupted x sheet others b e h some out refused = interrupted_apart x sheet others b e some out refused
 sheet_apart Bench x sheet others b e h some out refused = bench_apart x sheet others b e some out refused
 sheet_apart Audit x sheet others b e h some out refused = audit_apart x sheet others b e some out refused
+sheet_apart Barrel x sheet others b e h some out refused = barrel_apart x sheet others b e some out refused
 sheet_apart RunImage x sheet others b e h some out refused = h
 sheet_apart Check x sheet others b e h some out refused = h
 sheet_apart Certify x sheet others b e h some out refused = h
@@ -432,11 +444,25 @@ trace_apart law command vs s a b taken own out =
     let within = given.2 in
     law d e own.image own.waits own.trace own.error there.audited.stands own.faulty.stands alike given.1 (omega (arith, within)) audited own.faulty.fault
 
-own_apart : OneAnswerLaw → (command : Command) (vs : List Reading) (s : Status) (a b : List ℕ) → Takes command vs → IsOwnRefusal command vs s a → IsOutput command vs b → ⊥
-own_apart law command vs s a b taken (inl own) out = source_apart command vs s a b own out
-own_apart law command vs s a b taken (inr (inl own)) out = schedule_apart command vs s a b own out
-own_apart law command vs s a b taken (inr (inr (inl own))) out = sweep_apart command vs s a b own out
-own_apart law command vs s a b taken (inr (inr (inr own))) out = trace_apart law command vs s a b taken own out
+read_parts : (x y : ExtensionTree) (s t : Datasheet) (xs ys : List Reading) → extension_read x ∷ sheet_read s ∷ xs ≡ extension_read y ∷ sheet_read t ∷ ys → (x ≡ y) × (s ≡ t)
+read_parts x y s t xs ys e = (cc, cc)
+
+-- an extension with a Tight behaviour has no run of two harts
+tight_apart : OneLaw → (command : Command) (vs : List Reading) (s : Status) (a b : List ℕ) → IsBarrelRefusal command vs s a → IsOutput command vs b → ⊥
+tight_apart chosen command vs s a b own out =
+    let there : IsBarrelOutput vs b = subst (λ c. IsOutput c vs b) own.command_is out in
+    let same = read_parts own.extension there.extension own.sheet there.sheet own.others (image_read there.first ∷ image_read there.second ∷ number_read there.cycles ∷ []) (sym own.values_are ∙ there.values_are) in
+    let d = own.tight.design in
+    let e = there.runs.design in
+    let alike : AreAlike d e = record { extension = own.tight.extension_is ∙ same.0 ∙ sym there.runs.extension_is; sheet = own.tight.sheet_is ∙ same.1 ∙ sym there.runs.sheet_is } in
+    both (tight_behaviour d) own.tight.behaviour own.tight.tight (one_tight chosen d e own.tight.stands there.runs.stands alike ∙ there.runs.no_tight)
+
+own_apart : OneAnswerLaw → OneLaw → (command : Command) (vs : List Reading) (s : Status) (a b : List ℕ) → Takes command vs → IsOwnRefusal command vs s a → IsOutput command vs b → ⊥
+own_apart law chosen command vs s a b taken (inl own) out = source_apart command vs s a b own out
+own_apart law chosen command vs s a b taken (inr (inl own)) out = schedule_apart command vs s a b own out
+own_apart law chosen command vs s a b taken (inr (inr (inl own))) out = sweep_apart command vs s a b own out
+own_apart law chosen command vs s a b taken (inr (inr (inr (inl own)))) out = trace_apart law command vs s a b taken own out
+own_apart law chosen command vs s a b taken (inr (inr (inr (inr own)))) out = tight_apart chosen command vs s a b own out
 
 -- a behaviour is refused with one status
 refused_one : (x : ExtensionTree) (sheet : Datasheet) (e f : TextErr) (s t : Status) (a b : List ℕ) → IsRefusedSchedule x sheet e → IsRefusedSchedule x sheet f → IsToldAs e s a → IsToldAs f t b → s ≡ t
@@ -447,9 +473,6 @@ refused_one x sheet (T.NoSchedule k) (T.TooManyOps l) s t a b p q told other = a
 refused_one x sheet T.Memory f s t a b p q told other = absurd told
 refused_one x sheet (T.TooManyOps k) T.Memory s t a b p q told other = absurd other
 refused_one x sheet (T.NoSchedule k) T.Memory s t a b p q told other = absurd other
-
-read_parts : (x y : ExtensionTree) (s t : Datasheet) (xs ys : List Reading) → extension_read x ∷ sheet_read s ∷ xs ≡ extension_read y ∷ sheet_read t ∷ ys → (x ≡ y) × (s ≡ t)
-read_parts x y s t xs ys e = (cc, cc)
 
 schedules_one : (command : Command) (vs : List Reading) (s t : Status) (a b : List ℕ) → IsScheduleRefusal command vs s a → IsScheduleRefusal command vs t b → s ≡ t
 schedules_one command vs s t a b own other =
@@ -475,6 +498,15 @@ assembly_or_audit command e f = let same = sym e ∙ f in cc
 sweep_or_audit : (command : Command) → command ≡ Sweep → command ≡ Audit → ⊥
 sweep_or_audit command e f = let same = sym e ∙ f in cc
 
+assembly_or_barrel : (command : Command) → command ≡ Assemble → command ≡ Barrel → ⊥
+assembly_or_barrel command e f = let same = sym e ∙ f in cc
+
+sweep_or_barrel : (command : Command) → command ≡ Sweep → command ≡ Barrel → ⊥
+sweep_or_barrel command e f = let same = sym e ∙ f in cc
+
+audit_or_barrel : (command : Command) → command ≡ Audit → command ≡ Barrel → ⊥
+audit_or_barrel command e f = let same = sym e ∙ f in cc
+
 -- a trace is refused where each behaviour is scheduled
 trace_scheduled : (command : Command) (vs : List Reading) (s t : Status) (a b : List ℕ) → IsScheduleRefusal command vs s a → IsTraceRefusal command vs t b → ⊥
 trace_scheduled command vs s t a b own other =
@@ -484,30 +516,48 @@ trace_scheduled command vs s t a b own other =
     subst (λ x. IsRefusedSchedule x d.sheet own.error) (same.0 ∙ sym other.faulty.extension_is) (subst (λ y. IsRefusedSchedule own.extension y own.error) (same.1 ∙ sym other.faulty.sheet_is) own.refused) in
     design_not_refused d own.error (told_some own.error s a own.told) other.faulty.stands there
 
+-- and so is a Tight behaviour
+tight_scheduled : (command : Command) (vs : List Reading) (s t : Status) (a b : List ℕ) → IsScheduleRefusal command vs s a → IsBarrelRefusal command vs t b → ⊥
+tight_scheduled command vs s t a b own other =
+    let same = read_parts own.extension other.extension own.sheet other.sheet own.others other.others (sym own.values_are ∙ other.values_are) in
+    let d = other.tight.design in
+    let there : IsRefusedSchedule (view_extension d.extension) d.sheet own.error =
+    subst (λ x. IsRefusedSchedule x d.sheet own.error) (same.0 ∙ sym other.tight.extension_is) (subst (λ y. IsRefusedSchedule own.extension y own.error) (same.1 ∙ sym other.tight.sheet_is) own.refused) in
+    design_not_refused d own.error (told_some own.error s a own.told) other.tight.stands there
+
 own_one : (command : Command) (vs : List Reading) (s t : Status) (a b : List ℕ) → IsOwnRefusal command vs s a → IsOwnRefusal command vs t b → s ≡ t
 own_one command vs s t a b (inl own) (inl other) = own.status_is ∙ sym other.status_is
 own_one command vs s t a b (inl own) (inr (inl other)) = absurd (no_scheduling command own.command_is other.schedules)
 own_one command vs s t a b (inl own) (inr (inr (inl other))) = absurd (assembly_or_sweep command own.command_is other.command_is)
-own_one command vs s t a b (inl own) (inr (inr (inr other))) = absurd (assembly_or_audit command own.command_is other.command_is)
+own_one command vs s t a b (inl own) (inr (inr (inr (inl other)))) = absurd (assembly_or_audit command own.command_is other.command_is)
 own_one command vs s t a b (inr (inl own)) (inl other) = absurd (no_scheduling command other.command_is own.schedules)
 own_one command vs s t a b (inr (inl own)) (inr (inl other)) = schedules_one command vs s t a b own other
 own_one command vs s t a b (inr (inl own)) (inr (inr (inl other))) = absurd (no_sweeping command other.command_is own.schedules)
-own_one command vs s t a b (inr (inl own)) (inr (inr (inr other))) = absurd (trace_scheduled command vs s t a b own other)
+own_one command vs s t a b (inr (inl own)) (inr (inr (inr (inl other)))) = absurd (trace_scheduled command vs s t a b own other)
 own_one command vs s t a b (inr (inr (inl own))) (inl other) = absurd (assembly_or_sweep command other.command_is own.command_is)
 own_one command vs s t a b (inr (inr (inl own))) (inr (inl other)) = absurd (no_sweeping command own.command_is other.schedules)
 own_one command vs s t a b (inr (inr (inl own))) (inr (inr (inl other))) = own.status_is ∙ sym other.status_is
-own_one command vs s t a b (inr (inr (inl own))) (inr (inr (inr other))) = absurd (sweep_or_audit command own.command_is other.command_is)
-own_one command vs s t a b (inr (inr (inr own))) (inl other) = absurd (assembly_or_audit command other.command_is own.command_is)
-own_one command vs s t a b (inr (inr (inr own))) (inr (inl other)) = absurd (trace_scheduled command vs t s b a other own)
-own_one command vs s t a b (inr (inr (inr own))) (inr (inr (inl other))) = absurd (sweep_or_audit command other.command_is own.command_is)
-own_one command vs s t a b (inr (inr (inr own))) (inr (inr (inr other))) = own.status_is ∙ sym other.status_is
+own_one command vs s t a b (inr (inr (inl own))) (inr (inr (inr (inl other)))) = absurd (sweep_or_audit command own.command_is other.command_is)
+own_one command vs s t a b (inr (inr (inr (inl own)))) (inl other) = absurd (assembly_or_audit command other.command_is own.command_is)
+own_one command vs s t a b (inr (inr (inr (inl own)))) (inr (inl other)) = absurd (trace_scheduled command vs t s b a other own)
+own_one command vs s t a b (inr (inr (inr (inl own)))) (inr (inr (inl other))) = absurd (sweep_or_audit command other.command_is own.command_is)
+own_one command vs s t a b (inr (inr (inr (inl own)))) (inr (inr (inr (inl other)))) = own.status_is ∙ sym other.status_is
+own_one command vs s t a b (inl own) (inr (inr (inr (inr other)))) = absurd (assembly_or_barrel command own.command_is other.command_is)
+own_one command vs s t a b (inr (inl own)) (inr (inr (inr (inr other)))) = absurd (tight_scheduled command vs s t a b own other)
+own_one command vs s t a b (inr (inr (inl own))) (inr (inr (inr (inr other)))) = absurd (sweep_or_barrel command own.command_is other.command_is)
+own_one command vs s t a b (inr (inr (inr (inl own)))) (inr (inr (inr (inr other)))) = absurd (audit_or_barrel command own.command_is other.command_is)
+own_one command vs s t a b (inr (inr (inr (inr own)))) (inl other) = absurd (assembly_or_barrel command other.command_is own.command_is)
+own_one command vs s t a b (inr (inr (inr (inr own)))) (inr (inl other)) = absurd (tight_scheduled command vs t s b a other own)
+own_one command vs s t a b (inr (inr (inr (inr own)))) (inr (inr (inl other))) = absurd (sweep_or_barrel command other.command_is own.command_is)
+own_one command vs s t a b (inr (inr (inr (inr own)))) (inr (inr (inr (inl other)))) = absurd (audit_or_barrel command other.command_is own.command_is)
+own_one command vs s t a b (inr (inr (inr (inr own)))) (inr (inr (inr (inr other)))) = own.status_is ∙ sym other.status_is
 
 -- a command answers its values with one status
-answer_one : OneAnswerLaw → (command : Command) (vs : List Reading) (s t : Status) (a b : List ℕ) → Takes command vs → IsAnswer command vs s a → IsAnswer command vs t b → s ≡ t
-answer_one law command vs s t a b taken (inl own) (inl other) = own_one command vs s t a b own other
-answer_one law command vs s t a b taken (inl own) (inr out) = absurd (own_apart law command vs s a b taken own out.1)
-answer_one law command vs s t a b taken (inr out) (inl own) = absurd (own_apart law command vs t b a taken own out.1)
-answer_one law command vs s t a b taken (inr out) (inr other) = out.0 ∙ sym other.0
+answer_one : OneAnswerLaw → OneLaw → (command : Command) (vs : List Reading) (s t : Status) (a b : List ℕ) → Takes command vs → IsAnswer command vs s a → IsAnswer command vs t b → s ≡ t
+answer_one law chosen command vs s t a b taken (inl own) (inl other) = own_one command vs s t a b own other
+answer_one law chosen command vs s t a b taken (inl own) (inr out) = absurd (own_apart law chosen command vs s a b taken own out.1)
+answer_one law chosen command vs s t a b taken (inr out) (inl own) = absurd (own_apart law chosen command vs t b a taken own out.1)
+answer_one law chosen command vs s t a b taken (inr out) (inr other) = out.0 ∙ sym other.0
 
 -- ---- what is due to a command: a refusal of a file, or its answer
 abbrev pub IsCommanded : Option NamedFiles → (List ℕ → Type 0) → List (List ℕ) → Command → Status → List ℕ → Type 0
@@ -523,13 +573,13 @@ commanded files R words command _ _ e (due_answer other vs status bytes is read 
     subst (λ c. IsCommanded files R words c status bytes) (one (command_of words) other command is e) (inr (vs, read, answer))
 
 -- ---- one status is due
-due_commanded : OneAnswerLaw → (files : Option NamedFiles) (R : List ℕ → Type 0) (words : List (List ℕ)) (command : Command) (s t : Status) (a b : List ℕ) → files ≢ None → IsCommanded files R words command s a → IsCommanded files NoneRises words command t b → (s ≡ t) ⊎ (s ≡ ReadFault)
-due_commanded law files R words command s t a b told (inl f) (inl g) = first_two files R (slots_of command) (behind words) s t a b told f g
-due_commanded law files R words command s t a b told (inl f) (inr g) = inr (first_fault files R (slots_of command) (behind words) g.0 s a told f g.1)
-due_commanded law files R words command s t a b told (inr f) (inl g) =
+due_commanded : OneAnswerLaw → OneLaw → (files : Option NamedFiles) (R : List ℕ → Type 0) (words : List (List ℕ)) (command : Command) (s t : Status) (a b : List ℕ) → files ≢ None → IsCommanded files R words command s a → IsCommanded files NoneRises words command t b → (s ≡ t) ⊎ (s ≡ ReadFault)
+due_commanded law chosen files R words command s t a b told (inl f) (inl g) = first_two files R (slots_of command) (behind words) s t a b told f g
+due_commanded law chosen files R words command s t a b told (inl f) (inr g) = inr (first_fault files R (slots_of command) (behind words) g.0 s a told f g.1)
+due_commanded law chosen files R words command s t a b told (inr f) (inl g) =
     absurd (not_refused files NoneRises (slots_of command) (behind words) f.0 t b told (none_rises (slots_of command) (behind words)) g f.1)
-due_commanded law files R words command s t a b told (inr f) (inr g) =
-    inl (answer_one law command g.0 s t a b (takes files command (behind words) g.0 g.1) (subst (λ vs. IsAnswer command vs s a) (all_one files (slots_of command) (behind words) f.0 g.0 told f.1 g.1) f.2) g.2)
+due_commanded law chosen files R words command s t a b told (inr f) (inr g) =
+    inl (answer_one law chosen command g.0 s t a b (takes files command (behind words) g.0 g.1) (subst (λ vs. IsAnswer command vs s a) (all_one files (slots_of command) (behind words) f.0 g.0 told f.1 g.1) f.2) g.2)
 
 command_or_none : (o : Option Command) → (o ≡ None) ⊎ ((command : Command) × (o ≡ Some command))
 command_or_none None = inl refl
@@ -540,8 +590,8 @@ usage_alone files R words _ _ none (due_usage e) = refl
 usage_alone files R words _ _ none (due_file command status line is first) = absurd (both (command_of words) command is none)
 usage_alone files R words _ _ none (due_answer command vs status bytes is read answer) = absurd (both (command_of words) command is none)
 
-pub due_one : OneAnswerLaw → (files : Option NamedFiles) (R : List ℕ → Type 0) (words : List (List ℕ)) (s t : Status) (a b : List ℕ) → files ≢ None → IsDue files R words s a → IsDue files NoneRises words t b → (s ≡ t) ⊎ (s ≡ ReadFault)
-due_one law files R words s t a b told d e = elim (command_or_none (command_of words)) [
+pub due_one : OneAnswerLaw → OneLaw → (files : Option NamedFiles) (R : List ℕ → Type 0) (words : List (List ℕ)) (s t : Status) (a b : List ℕ) → files ≢ None → IsDue files R words s a → IsDue files NoneRises words t b → (s ≡ t) ⊎ (s ≡ ReadFault)
+due_one law chosen files R words s t a b told d e = elim (command_or_none (command_of words)) [
   | inl none ↦ inl (usage_alone files R words s a none d ∙ sym (usage_alone files NoneRises words t b none e))
-  | inr some ↦ due_commanded law files R words some.0 s t a b told (commanded files R words some.0 s a some.1 d) (commanded files NoneRises words some.0 t b some.1 e)
+  | inr some ↦ due_commanded law chosen files R words some.0 s t a b told (commanded files R words some.0 s a some.1 d) (commanded files NoneRises words some.0 t b some.1 e)
 ]

@@ -8,7 +8,7 @@ use Rattle.ix_io.specs.Shelf.{NamedFiles, told_file}
 use Rattle.ix_io.specs.Sink.{Appends}
 use Rattle.ix_cert.proofs.Verdicts.{faultless_certified}
 use Rattle.ix_words.specs.declared.command.Command.{Command}
-use Rattle.ix_words.specs.declared.command.Command.TheVariants.{RunImage, Check, Certify, Schedule, Build, Sweep, Seq, Assemble, RunExtension, Bench, Wave, RunInterrupted, Audit}
+use Rattle.ix_words.specs.declared.command.Command.TheVariants.{RunImage, Check, Certify, Schedule, Build, Sweep, Seq, Assemble, RunExtension, Bench, Wave, RunInterrupted, Audit, Barrel}
 use Rattle.ix_words.specs.Readings.{Reading, extension_read, source_read}
 use Rattle.ix_listing.specs.Listing.{listing_text}
 use Rattle.rv_text.specs.RunText.{run_text}
@@ -22,7 +22,7 @@ use Rattle.ix_words.specs.WordsRead.{IsFile, AreRead}
 use Rattle.ix_tool.specs.CommandOutput.{IsRunOutput, IsLawfulPlainRun, IsOutput, OutputAnswer, RunAnswer, ListedAnswer, CertifiedAnswer, SteppedAnswer, AssembledAnswer, ScheduledAnswer, image_of_run, told_of}
 use Rattle.ix_schedules.specs.ScheduleText.{IsScheduleText}
 use Rattle.ix_tool.proofs.Due.{both, one}
-use Rattle.ix_tool.proofs.Taking.{run_read, report_is_read, extension_is_read, source_is_read, schedule_is_read, seq_read, pipeline_read, interrupted_read, audit_read, bench_read}
+use Rattle.ix_tool.proofs.Taking.{run_read, report_is_read, extension_is_read, source_is_read, schedule_is_read, seq_read, pipeline_read, interrupted_read, audit_read, barrel_read, bench_read}
 
 -- ---- the words of a command
 found_at : (c : Command) (rest : List Command) (words : List (List ℕ)) (command : Command) (b : Bool) → is_command c words ≡ b → (if b then Some c else first_command rest words) ≡ Some command → (first_command rest words ≡ Some command → is_command command words ≡ true) → is_command command words ≡ true
@@ -141,6 +141,11 @@ audit_no_other files words vs is read =
     let r = audit_read files (behind words) vs read in
     six_no_other words r.name r.other r.third r.fourth r.fifth Audit is r.words
 
+pub barrel_no_other : (files : Option NamedFiles) (words : List (List ℕ)) (vs : List Reading) → is_command Barrel words ≡ true → AreRead files (slots_of Barrel) (behind words) vs → AreNoOther words
+barrel_no_other files words vs is read =
+    let r = barrel_read files (behind words) vs read in
+    six_no_other words r.name r.other r.third r.fourth r.number Barrel is r.words
+
 -- fewer words are no sequential run
 one_no_seq : (words : List (List ℕ)) (name : List ℕ) (command : Command) → is_command command words ≡ true → behind words ≡ name ∷ [] → seq_of words ≡ None
 one_no_seq [] name command is e = absurd (true≢false (sym is))
@@ -210,6 +215,7 @@ headline_of law files words before now RunExtension vs text is read out a told =
 headline_of law files words before now Wave vs text is read out a told = absurd (told (ap (λ o. image_of_run files o) (pipeline_no_other files words vs Wave is read).run))
 headline_of law files words before now RunInterrupted vs text is read out a told = absurd (told (ap (λ o. image_of_run files o) (interrupted_no_other files words vs is read).run))
 headline_of law files words before now Audit vs text is read out a told = absurd (told (ap (λ o. image_of_run files o) (audit_no_other files words vs is read).run))
+headline_of law files words before now Barrel vs text is read out a told = absurd (told (ap (λ o. image_of_run files o) (barrel_no_other files words vs is read).run))
 headline_of law files words before now Bench vs text is read out a told = absurd (told (ap (λ o. image_of_run files o) (bench_no_other files words vs is read).run))
 headline_of law files words before now RunImage vs text is read out a told =
     let r = run_read files (behind words) vs read in
@@ -270,6 +276,7 @@ certified_of files words before now RunExtension vs text report is read out a e 
 certified_of files words before now Wave vs text report is read out a e = absurd (both (report_of words) report e (pipeline_no_other files words vs Wave is read).report)
 certified_of files words before now RunInterrupted vs text report is read out a e = absurd (both (report_of words) report e (interrupted_no_other files words vs is read).report)
 certified_of files words before now Audit vs text report is read out a e = absurd (both (report_of words) report e (audit_no_other files words vs is read).report)
+certified_of files words before now Barrel vs text report is read out a e = absurd (both (report_of words) report e (barrel_no_other files words vs is read).report)
 certified_of files words before now Bench vs text report is read out a e = absurd (both (report_of words) report e (bench_no_other files words vs is read).report)
 certified_of files words before now Certify vs text report is read out a e =
     let r = report_is_read files (behind words) vs read in
@@ -328,6 +335,7 @@ listed_of files words before now RunExtension vs text name is read out a e = abs
 listed_of files words before now Wave vs text name is read out a e = absurd (both (extension_of words) name e (pipeline_no_other files words vs Wave is read).extension)
 listed_of files words before now RunInterrupted vs text name is read out a e = absurd (both (extension_of words) name e (interrupted_no_other files words vs is read).extension)
 listed_of files words before now Audit vs text name is read out a e = absurd (both (extension_of words) name e (audit_no_other files words vs is read).extension)
+listed_of files words before now Barrel vs text name is read out a e = absurd (both (extension_of words) name e (barrel_no_other files words vs is read).extension)
 listed_of files words before now Bench vs text name is read out a e = absurd (both (extension_of words) name e (bench_no_other files words vs is read).extension)
 listed_of files words before now Check vs text name is read out a e =
     let r = extension_is_read files (behind words) vs read in
@@ -381,6 +389,7 @@ stepped_of files words before now RunExtension vs text asked is read out a e = a
 stepped_of files words before now Wave vs text asked is read out a e = absurd (both (seq_of words) asked e (pipeline_no_other files words vs Wave is read).seq)
 stepped_of files words before now RunInterrupted vs text asked is read out a e = absurd (both (seq_of words) asked e (interrupted_no_other files words vs is read).seq)
 stepped_of files words before now Audit vs text asked is read out a e = absurd (both (seq_of words) asked e (audit_no_other files words vs is read).seq)
+stepped_of files words before now Barrel vs text asked is read out a e = absurd (both (seq_of words) asked e (barrel_no_other files words vs is read).seq)
 stepped_of files words before now Bench vs text asked is read out a e = absurd (both (seq_of words) asked e (bench_no_other files words vs is read).seq)
 stepped_of files words before now Seq vs text asked is read out a e =
     let r = seq_read files (behind words) vs read in
@@ -457,6 +466,7 @@ assembled_of files words before now RunExtension vs text asked is read out a e =
 assembled_of files words before now Wave vs text asked is read out a e = absurd (both (source_of words) asked e (pipeline_no_other files words vs Wave is read).source)
 assembled_of files words before now RunInterrupted vs text asked is read out a e = absurd (both (source_of words) asked e (interrupted_no_other files words vs is read).source)
 assembled_of files words before now Audit vs text asked is read out a e = absurd (both (source_of words) asked e (audit_no_other files words vs is read).source)
+assembled_of files words before now Barrel vs text asked is read out a e = absurd (both (source_of words) asked e (barrel_no_other files words vs is read).source)
 assembled_of files words before now Bench vs text asked is read out a e = absurd (both (source_of words) asked e (bench_no_other files words vs is read).source)
 assembled_of files words before now Assemble vs text asked is read out a e =
     let r = source_is_read files (behind words) vs read in
@@ -531,6 +541,7 @@ scheduled_of files words before now RunExtension vs text asked is read out a e =
 scheduled_of files words before now Wave vs text asked is read out a e = absurd (both (schedule_of words) asked e (pipeline_no_other files words vs Wave is read).schedule)
 scheduled_of files words before now RunInterrupted vs text asked is read out a e = absurd (both (schedule_of words) asked e (interrupted_no_other files words vs is read).schedule)
 scheduled_of files words before now Audit vs text asked is read out a e = absurd (both (schedule_of words) asked e (audit_no_other files words vs is read).schedule)
+scheduled_of files words before now Barrel vs text asked is read out a e = absurd (both (schedule_of words) asked e (barrel_no_other files words vs is read).schedule)
 scheduled_of files words before now Bench vs text asked is read out a e = absurd (both (schedule_of words) asked e (bench_no_other files words vs is read).schedule)
 scheduled_of files words before now Schedule vs text asked is read out a e =
     let r = schedule_is_read files (behind words) vs read in

@@ -8,7 +8,7 @@ use Rattle.ix_extension.specs.Extensions.{ExtensionTree}
 use Rattle.ix_sheet.specs.declared.sheet.Sheet.{Sheet}
 use Rattle.ix_listing.proofs.OneExtension.{is_well_formed}
 use Rattle.ix_words.specs.declared.command.Command.{Command}
-use Rattle.ix_words.specs.declared.command.Command.TheVariants.{RunImage, Check, Certify, Schedule, Build, Sweep, Seq, Assemble, RunExtension, Bench, Wave, RunInterrupted, Audit}
+use Rattle.ix_words.specs.declared.command.Command.TheVariants.{RunImage, Check, Certify, Schedule, Build, Sweep, Seq, Assemble, RunExtension, Bench, Wave, RunInterrupted, Audit, Barrel}
 use Rattle.ix_words.specs.declared.command.RunForm.TheVariants.{Interrupted}
 use Rattle.ix_words.specs.declared.command.Slot.{Slot}
 use Rattle.ix_words.specs.Readings.{Reading, extension_read, sheet_read, image_read, waits_read, lines_read, number_read}
@@ -126,6 +126,7 @@ found_of law files words before now o asked RunExtension is read out e = absurd 
 found_of law files words before now o asked Bench is read out e = absurd (both (interrupted_of words) asked e (no_run files words Bench o.values is read (omega arith)))
 found_of law files words before now o asked Wave is read out e = absurd (both (interrupted_of words) asked e (no_run files words Wave o.values is read (omega arith)))
 found_of law files words before now o asked Audit is read out e = absurd (both (interrupted_of words) asked e (no_run files words Audit o.values is read (omega arith)))
+found_of law files words before now o asked Barrel is read out e = absurd (both (interrupted_of words) asked e (no_run files words Barrel o.values is read (omega arith)))
 
 pub interrupted : TextLaw → (files : Option NamedFiles) (words : List (List ℕ)) (before now : Option (List ℕ)) → OutputAnswer files words before now → (asked : InterruptedCommand) → interrupted_of words ≡ Some asked → InterruptedAnswer files asked before now
 interrupted law files words before now o asked e = found_of law files words before now o asked o.command (is_of words o.command o.command_is) o.read o.output e

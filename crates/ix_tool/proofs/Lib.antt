@@ -20,3 +20,7 @@ mod Summaries
 mod BenchesShown
 mod AuditValues
 mod AuditsShown
+mod NearStages
+mod BarrelValues
+mod TightPlans
+mod BarrelsShown

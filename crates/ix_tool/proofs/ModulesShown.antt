@@ -8,13 +8,13 @@ use Rattle.ix_io.specs.Sink.{Appends}
 use Rattle.ix_listing.proofs.OneExtension.{is_well_formed}
 use Rattle.ix_modules.specs.Modules.{IsModulesText}
 use Rattle.ix_words.specs.declared.command.Command.{Command}
-use Rattle.ix_words.specs.declared.command.Command.TheVariants.{RunImage, Check, Certify, Schedule, Build, Sweep, Seq, Assemble, RunExtension, Bench, Wave, RunInterrupted, Audit}
+use Rattle.ix_words.specs.declared.command.Command.TheVariants.{RunImage, Check, Certify, Schedule, Build, Sweep, Seq, Assemble, RunExtension, Bench, Wave, RunInterrupted, Audit, Barrel}
 use Rattle.ix_words.specs.Readings.{Reading}
 use Rattle.ix_words.specs.CommandLine.{word_of, is_command, slots_of, behind, BuildCommand, build_of}
 use Rattle.ix_words.specs.WordsRead.{AreRead}
 use Rattle.ix_tool.specs.CommandOutput.{IsOutput, OutputAnswer, ModulesAnswer}
 use Rattle.ix_tool.proofs.Due.{both, one}
-use Rattle.ix_tool.proofs.Headlines.{is_of, pipeline_no_other, interrupted_no_other, audit_no_other, bench_no_other, not_its_word}
+use Rattle.ix_tool.proofs.Headlines.{is_of, pipeline_no_other, interrupted_no_other, audit_no_other, barrel_no_other, bench_no_other, not_its_word}
 use Rattle.ix_tool.proofs.Taking.{run_read, extension_is_read, report_is_read, source_is_read, schedule_is_read, seq_read}
 
 none_build : (b : Bool) (o : BuildCommand) → b ≡ false → (if b then Some o else None) ≡ None
@@ -70,6 +70,7 @@ modules_of files words before now RunExtension vs text asked is read out a e = a
 modules_of files words before now Wave vs text asked is read out a e = absurd (both (build_of words) asked e (pipeline_no_other files words vs Wave is read).build)
 modules_of files words before now RunInterrupted vs text asked is read out a e = absurd (both (build_of words) asked e (interrupted_no_other files words vs is read).build)
 modules_of files words before now Audit vs text asked is read out a e = absurd (both (build_of words) asked e (audit_no_other files words vs is read).build)
+modules_of files words before now Barrel vs text asked is read out a e = absurd (both (build_of words) asked e (barrel_no_other files words vs is read).build)
 modules_of files words before now Bench vs text asked is read out a e = absurd (both (build_of words) asked e (bench_no_other files words vs is read).build)
 modules_of files words before now Build vs text asked is read out a e =
     let r = schedule_is_read files (behind words) vs read in

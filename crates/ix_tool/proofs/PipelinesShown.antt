@@ -8,7 +8,7 @@ use Rattle.ix_extension.specs.Extensions.{ExtensionTree}
 use Rattle.ix_sheet.specs.declared.sheet.Sheet.{Sheet}
 use Rattle.ix_listing.proofs.OneExtension.{is_well_formed}
 use Rattle.ix_words.specs.declared.command.Command.{Command}
-use Rattle.ix_words.specs.declared.command.Command.TheVariants.{RunImage, Check, Certify, Schedule, Build, Sweep, Seq, Assemble, RunExtension, Bench, Wave, RunInterrupted, Audit}
+use Rattle.ix_words.specs.declared.command.Command.TheVariants.{RunImage, Check, Certify, Schedule, Build, Sweep, Seq, Assemble, RunExtension, Bench, Wave, RunInterrupted, Audit, Barrel}
 use Rattle.ix_words.specs.declared.command.RunForm.{RunForm}
 use Rattle.ix_words.specs.declared.command.RunForm.TheVariants.{Rows, Interrupted, Ports}
 use Rattle.ix_words.specs.Readings.{Reading, extension_read, sheet_read, image_read, waits_read, number_read}
@@ -27,7 +27,7 @@ use Rattle.ix_tool.proofs.Lawfully.{audited}
 use Rattle.ix_tool.proofs.Handlers.{handler_of}
 use Rattle.ix_tool.proofs.Due.{both, one}
 use Rattle.ix_tool.proofs.Headlines.{is_of, not_its_word}
-use Rattle.ix_tool.proofs.Taking.{run_read, extension_is_read, report_is_read, source_is_read, schedule_is_read, seq_read, pipeline_read, interrupted_read, audit_read, bench_read}
+use Rattle.ix_tool.proofs.Taking.{run_read, extension_is_read, report_is_read, source_is_read, schedule_is_read, seq_read, pipeline_read, interrupted_read, audit_read, barrel_read, bench_read}
 
 -- ---- the words
 abbrev asked_by : List ℕ → List ℕ → List ℕ → List ℕ → ℕ → PipelineCommand
@@ -78,6 +78,11 @@ audit_unlike : (form : RunForm) → bytes_eq (word_of Audit) (word_of (command_i
 audit_unlike Rows = refl
 audit_unlike Interrupted = refl
 audit_unlike Ports = refl
+
+barrel_unlike : (form : RunForm) → bytes_eq (word_of Barrel) (word_of (command_in form)) ≡ false
+barrel_unlike Rows = refl
+barrel_unlike Interrupted = refl
+barrel_unlike Ports = refl
 
 -- ---- the run
 -- the files that the words name are read, and the text is that of their run in this form
@@ -185,6 +190,9 @@ found_of form without files words RunInterrupted vs text asked is read out e =
 found_of form without files words Audit vs text asked is read out e =
     let r = audit_read files (behind words) vs read in
     absurd (both (run_by (word_of (command_in form)) words) asked e (six_no_run (word_of (command_in form)) Audit (audit_unlike form) words r.name r.other r.third r.fourth r.fifth is r.words))
+found_of form without files words Barrel vs text asked is read out e =
+    let r = barrel_read files (behind words) vs read in
+    absurd (both (run_by (word_of (command_in form)) words) asked e (six_no_run (word_of (command_in form)) Barrel (barrel_unlike form) words r.name r.other r.third r.fourth r.number is r.words))
 
 found : (form : RunForm) → HasLines form None → (files : Option NamedFiles) (words : List (List ℕ)) (before now : Option (List ℕ)) → (o : OutputAnswer files words before now) → (asked : PipelineCommand) → run_by (word_of (command_in form)) words ≡ Some asked → IsRunRead form files asked o.text
 found form without files words before now o asked e = found_of form without files words o.command o.values o.text asked (is_of words o.command o.command_is) o.read o.output e

@@ -6,7 +6,7 @@ use Rattle.std.proofs.lemmas.Bool.{leb-true}
 use Rattle.ix_io.specs.Shelf.{NamedFiles}
 use Rattle.ix_cert.specs.Certificates.{IsFaultless}
 use Rattle.ix_words.specs.declared.command.Command.{Command}
-use Rattle.ix_words.specs.declared.command.Command.TheVariants.{RunImage, Check, Certify, Schedule, Build, Sweep, Seq, Assemble, RunExtension, Bench, Wave, RunInterrupted, Audit}
+use Rattle.ix_words.specs.declared.command.Command.TheVariants.{RunImage, Check, Certify, Schedule, Build, Sweep, Seq, Assemble, RunExtension, Bench, Wave, RunInterrupted, Audit, Barrel}
 use Rattle.ix_words.specs.declared.command.FileKind.TheVariants.{Image, Report, Extension, Sheet, Source as source_kind, Waits, Lines, Trace as trace_kind}
 use Rattle.ix_words.specs.Readings.{Reading, number_read, image_read, report_read, extension_read, sheet_read, source_read, waits_read, lines_read, trace_read}
 use Rattle.rv_asm.specs.ImageText.{IsImageText}
@@ -17,10 +17,11 @@ use Rattle.ix_elab.specs.Elaborating.{Elaborates}
 use Rattle.ix_listing.proofs.OneExtension.{is_well_formed}
 use Rattle.ix_words.specs.CommandLine.{slots_of, number_of, at_most, number_within, most_number, most_drawn}
 use Rattle.ix_words.specs.WordsRead.{IsReadAs, IsFile, AreRead, IsSheetRead}
-use Rattle.ix_tool.specs.CommandOutput.{TakesSheet, TakesPipeline, TakesInterrupted, TakesAudit, TakesBench, Takes}
+use Rattle.ix_tool.specs.CommandOutput.{TakesSheet, TakesPipeline, TakesInterrupted, TakesAudit, TakesBarrel, TakesBench, Takes}
 use Rattle.ix_sheet.specs.declared.sheet.Sheet.{Sheet as Datasheet}
 use Rattle.ix_schedules.proofs.Named.{names_are}
 use Rattle.ix_tool.proofs.Given.{given_by}
+use Rattle.ix_tool.proofs.NearStages.{near_of}
 
 -- ---- what a file's text is read as
 image_of : (bytes : List ℕ) (v : Reading) → IsReadAs Image bytes v → (image : List ℕ) × (v ≡ image_read image) × IsImageText bytes image
@@ -551,6 +552,85 @@ audit_takes files rest vs h =
     let r = audit_read files rest vs h in
     subst TakesAudit (sym r.values) ((is_well_formed r.bytes r.extension r.elaborates, names_are r.bytes r.extension r.elaborates, r.sheet_is.valid), given_by r.program r.image r.waits_bytes r.waits r.text r.waits_are, r.trace_file.within)
 
+pub record IsBarrelRead (files : Option NamedFiles) (rest : List (List ℕ)) (vs : List Reading) : Type 0 where
+  pub name : List ℕ
+  pub other : List ℕ
+  pub third : List ℕ
+  pub fourth : List ℕ
+  pub number : List ℕ
+  pub bytes : List ℕ
+  pub extension : ExtensionTree
+  pub sheet_bytes : List ℕ
+  pub sheet : Datasheet
+  pub program : List ℕ
+  pub first : List ℕ
+  pub other_program : List ℕ
+  pub second : List ℕ
+  pub cycles : ℕ
+  pub words : rest ≡ name ∷ other ∷ third ∷ fourth ∷ number ∷ []
+  pub values : vs ≡ extension_read extension ∷ sheet_read sheet ∷ image_read first ∷ image_read second ∷ number_read cycles ∷ []
+  pub file : IsFile files name bytes
+  pub elaborates : Elaborates bytes extension
+  pub sheet_file : IsFile files other sheet_bytes
+  pub sheet_is : IsSheetRead sheet_bytes sheet
+  pub program_file : IsFile files third program
+  pub text : IsImageText program first
+  pub other_file : IsFile files fourth other_program
+  pub other_text : IsImageText other_program second
+  pub within : number_within 200000 number ≡ Some cycles
+
+pub barrel_read : (files : Option NamedFiles) (rest : List (List ℕ)) (vs : List Reading) → AreRead files (slots_of Barrel) rest vs → IsBarrelRead files rest vs
+barrel_read files [] vs h = absurd h
+barrel_read files (a ∷ rest) [] h = absurd h
+barrel_read files (a ∷ []) (v ∷ vs) h = absurd h.1
+barrel_read files (a ∷ b ∷ rest) (v ∷ []) h = absurd h.1
+barrel_read files (a ∷ b ∷ []) (v ∷ u ∷ vs) h = absurd h.1.1
+barrel_read files (a ∷ b ∷ c ∷ rest) (v ∷ u ∷ []) h = absurd h.1.1
+barrel_read files (a ∷ b ∷ c ∷ []) (v ∷ u ∷ w ∷ vs) h = absurd h.1.1.1
+barrel_read files (a ∷ b ∷ c ∷ d ∷ rest) (v ∷ u ∷ w ∷ []) h = absurd h.1.1.1
+barrel_read files (a ∷ b ∷ c ∷ d ∷ []) (v ∷ u ∷ w ∷ z ∷ vs) h = absurd h.1.1.1.1
+barrel_read files (a ∷ b ∷ c ∷ d ∷ e ∷ rest) (v ∷ u ∷ w ∷ z ∷ []) h = absurd h.1.1.1.1
+barrel_read files (a ∷ b ∷ c ∷ d ∷ e ∷ f ∷ rest) (v ∷ u ∷ w ∷ z ∷ y ∷ vs) h = absurd h.1.1.1.1.1
+barrel_read files (a ∷ b ∷ c ∷ d ∷ e ∷ []) (v ∷ u ∷ w ∷ z ∷ y ∷ t ∷ vs) h = absurd h.1.1.1.1.1
+barrel_read files (a ∷ b ∷ c ∷ d ∷ e ∷ []) (v ∷ u ∷ w ∷ z ∷ y ∷ []) h =
+    let x = extension_in h.0.0 v h.0.2 in
+    let s = sheet_in h.1.0.0 u h.1.0.2 in
+    let i = image_of h.1.1.0.0 w h.1.1.0.2 in
+    let j = image_of h.1.1.1.0.0 z h.1.1.1.0.2 in
+    record {
+      name = a;
+      other = b;
+      third = c;
+      fourth = d;
+      number = e;
+      bytes = h.0.0;
+      extension = x.0;
+      sheet_bytes = h.1.0.0;
+      sheet = s.0;
+      program = h.1.1.0.0;
+      first = i.0;
+      other_program = h.1.1.1.0.0;
+      second = j.0;
+      cycles = h.1.1.1.1.0.0;
+      words = refl;
+      values = ap (λ r. r ∷ u ∷ w ∷ z ∷ y ∷ []) x.1 ∙ ap (λ r. extension_read x.0 ∷ r ∷ w ∷ z ∷ y ∷ []) s.1 ∙ ap (λ r. extension_read x.0 ∷ sheet_read s.0 ∷ r ∷ z ∷ y ∷ []) i.1
+          ∙ ap (λ r. extension_read x.0 ∷ sheet_read s.0 ∷ image_read i.0 ∷ r ∷ y ∷ []) j.1 ∙ ap (λ r. extension_read x.0 ∷ sheet_read s.0 ∷ image_read i.0 ∷ image_read j.0 ∷ r ∷ []) h.1.1.1.1.0.2;
+      file = h.0.1;
+      elaborates = x.2;
+      sheet_file = h.1.0.1;
+      sheet_is = s.2;
+      program_file = h.1.1.0.1;
+      text = i.2;
+      other_file = h.1.1.1.0.1;
+      other_text = j.2;
+      within = h.1.1.1.1.0.1;
+    }
+
+barrel_takes : (files : Option NamedFiles) (rest : List (List ℕ)) (vs : List Reading) → AreRead files (slots_of Barrel) rest vs → TakesBarrel vs
+barrel_takes files rest vs h =
+    let r = barrel_read files rest vs h in
+    subst TakesBarrel (sym r.values) ((is_well_formed r.bytes r.extension r.elaborates, names_are r.bytes r.extension r.elaborates, r.sheet_is.valid), near_of r.sheet_bytes r.sheet r.sheet_is.sheet_is)
+
 -- a number in its range is at most the greatest
 same_number : (m n : ℕ) → ◌≡◌ {A = Option ℕ} (Some m) (Some n) → m ≡ n
 same_number m n e = cc
@@ -646,3 +726,4 @@ takes files Bench rest vs h = bench_takes files rest vs h
 takes files Wave rest vs h = pipeline_takes files rest vs h
 takes files RunInterrupted rest vs h = interrupted_takes files rest vs h
 takes files Audit rest vs h = audit_takes files rest vs h
+takes files Barrel rest vs h = barrel_takes files rest vs h

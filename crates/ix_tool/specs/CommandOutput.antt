@@ -3,7 +3,7 @@ use Rattle.std.specs.Prelude.{◌≡◌, ◌≢◌, IfSome, ℕ, ◌+◌, ◌<�
 use Rattle.ix_words.specs.declared.status.Status.{Status}
 use Rattle.ix_words.specs.declared.status.Status.TheVariants.{Ok as ok_status, Usage, ReadFault, WriteFault, Extension as extension_status, NoSchedule, Memory, Source, Trace}
 use Rattle.ix_words.specs.declared.command.Command.{Command}
-use Rattle.ix_words.specs.declared.command.Command.TheVariants.{RunImage, Check, Certify, Schedule, Build, Sweep, Seq, Assemble, RunExtension, Bench, Wave, RunInterrupted, Audit}
+use Rattle.ix_words.specs.declared.command.Command.TheVariants.{RunImage, Check, Certify, Schedule, Build, Sweep, Seq, Assemble, RunExtension, Bench, Wave, RunInterrupted, Audit, Barrel}
 use Rattle.ix_words.specs.declared.command.RunForm.{RunForm}
 use Rattle.ix_words.specs.declared.command.RunForm.TheVariants.{Rows, Interrupted, Ports}
 use Rattle.ix_words.specs.declared.command.FileKind.{FileKind}
@@ -56,6 +56,7 @@ use Rattle.ix_io.specs.Faults.{Rose}
 use Rattle.ix_io.specs.Limits.{most_bytes}
 use Rattle.ix_io.specs.Shelf.{NamedFiles, told_file}
 use Rattle.ix_io.specs.Sink.{Appends, AppendsFront}
+use Rattle.ix_tool.specs.BarrelOutput.{IsBarrelOutput, IsBarrelRefusal}
 use Rattle.ix_words.specs.WordsRead.{file_line, IsSheetRead, IsRefusedText, refusal_status, IsFile, AreRead, IsFirstRefused, RoseIn, IsFileOf}
 
 -- ---- the texts of outputs and of refusals
@@ -273,6 +274,7 @@ IsOutput Bench values text = IsBenchOutput values text
 IsOutput Wave values text = IsPipelineOutput Ports values text
 IsOutput RunInterrupted values text = IsInterruptedOutput values text
 IsOutput Audit values text = IsAuditOutput values text
+IsOutput Barrel values text = IsBarrelOutput values text
 IsOutput command values text = ⊥
 
 -- a refusal of a source with the extension before it
@@ -302,6 +304,7 @@ Schedules Bench = Unit {0}
 Schedules Wave = Unit {0}
 Schedules RunInterrupted = Unit {0}
 Schedules Audit = Unit {0}
+Schedules Barrel = Unit {0}
 Schedules command = ⊥
 
 -- a refusal of the first behaviour of an extension that is not scheduled on the core of the datasheet
@@ -341,7 +344,8 @@ pub record IsTraceRefusal (command : Command) (values : List Reading) (status : 
 -- a refusal of the command's own, behind those of its files
 abbrev pub IsOwnRefusal : Command → List Reading → Status → List ℕ → Type 0
 IsOwnRefusal command values status line =
-    IsSourceRefusal command values status line ⊎ (IsScheduleRefusal command values status line ⊎ (IsSweepRefusal command values status line ⊎ IsTraceRefusal command values status line))
+    IsSourceRefusal command values status line
+    ⊎ (IsScheduleRefusal command values status line ⊎ (IsSweepRefusal command values status line ⊎ (IsTraceRefusal command values status line ⊎ IsBarrelRefusal command values status line)))
 
 -- what the command answers: its own refusal, or its output
 abbrev pub IsAnswer : Command → List Reading → Status → List ℕ → Type 0
@@ -390,6 +394,12 @@ abbrev pub TakesAudit : List Reading → Type 0
 TakesAudit (extension_read x ∷ sheet_read sheet ∷ image_read image ∷ waits_read waits ∷ trace_read bytes ∷ []) = TakesSheet (extension_read x ∷ sheet_read sheet ∷ []) × AreGiven image waits × (length bytes ≤ most_bytes)
 TakesAudit values = ⊥
 
+-- or the images of two harts and a count of cycles, on a core whose last stage is at most one behind MEM
+abbrev pub TakesBarrel : List Reading → Type 0
+TakesBarrel (extension_read x ∷ sheet_read sheet ∷ image_read first ∷ image_read second ∷ number_read cycles ∷ []) =
+    TakesSheet (extension_read x ∷ sheet_read sheet ∷ []) × (sheet.shape.stages ≤ sheet.shape.mem + 2)
+TakesBarrel values = ⊥
+
 -- the values are those that a run in this form takes
 abbrev pub TakesRun : RunForm → List Reading → Type 0
 TakesRun Rows values = TakesPipeline values
@@ -421,6 +431,7 @@ Takes Bench values = TakesBench values
 Takes Wave values = TakesPipeline values
 Takes RunInterrupted values = TakesInterrupted values
 Takes Audit values = TakesAudit values
+Takes Barrel values = TakesBarrel values
 Takes command values = ⊥
 
 -- what a command with these values did

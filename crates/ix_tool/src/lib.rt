@@ -10,3 +10,4 @@ mod scheduling;
 pub mod sure;
 mod sweeping;
 pub mod tool;
+mod turning;

@@ -1,13 +1,14 @@
 ghost use Rattle.std.specs.Prelude.{◌≡◌, ◌≢◌, ℕ, List, map, Some, None, ◌⊎◌};
 ghost use Rattle.ix_words.specs.declared.status.Status.{Status};
 ghost use Rattle.ix_words.specs.declared.command.Command.{Command as TheCommand};
-ghost use Rattle.ix_words.specs.CommandLine.{SeqCommand, AsmCommand, ScheduleCommand, BuildCommand, SweepCommand, PipelineCommand, InterruptedCommand, AuditCommand, BenchCommand, command_of as specified_command_of, extension_of, report_of, seq_of, source_of, schedule_of, build_of, sweep_of, pipeline_of, interrupted_of, audit_of, bench_of, wave_of, bytes_of};
+ghost use Rattle.ix_words.specs.CommandLine.{SeqCommand, AsmCommand, ScheduleCommand, BuildCommand, SweepCommand, PipelineCommand, InterruptedCommand, AuditCommand, BarrelCommand, BenchCommand, command_of as specified_command_of, extension_of, report_of, seq_of, source_of, schedule_of, build_of, sweep_of, pipeline_of, interrupted_of, audit_of, barrel_of, bench_of, wave_of, bytes_of};
 ghost use Rattle.ix_extension.specs.Extensions.{view_extension};
 ghost use Rattle.ix_extension.specs.WellFormed.{IsWellFormed};
 ghost use Rattle.ix_listing.specs.Listing.{listing_text};
 ghost use Rattle.rv_text.specs.RunText.{run_text};
 ghost use Rattle.ix_words.specs.Readings.{Reading, reading_of};
 ghost use Rattle.ix_words.specs.WordsRead.{RoseIn};
+ghost use Rattle.ix_tool.specs.BarrelOutput.{BarrelAnswer, TightAnswer};
 ghost use Rattle.ix_tool.specs.CommandOutput.{IsRunOutput, Writes, Takes, Answered, Outcome, NoneRises, IsDue, UsageAnswer, ReadFaultAnswer, WriteFaultAnswer, TooLongAnswer, TextAnswer, OutputAnswer, RunAnswer, ListedAnswer, CertifiedAnswer, SteppedAnswer, AssembledAnswer, SourceAnswer, ScheduledAnswer, ModulesAnswer, SweptAnswer, NoScheduleAnswer, ExtensionAnswer, PipelineAnswer, InterruptedAnswer, BenchAnswer, WaveAnswer, AuditAnswer, TraceAnswer, IsStatusOr, Premises, Completes, told_of};
 
 use crate::assembling::assemble_source;
@@ -17,14 +18,18 @@ use crate::building::build_extension;
 use crate::running::{answer_run, run_design};
 use crate::scheduling::schedule_extension;
 use crate::sweeping::sweep_extension;
+use crate::turning::answer_barrel;
 use ix_io::{Shelf, Sink, write_all};
 use ix_listing::listing;
+use ix_sheet::chosen_law;
 use ix_tree::Extension;
 use ix_words::command::{Command, RunForm, command_of};
 use ix_words::status::Status;
 use ix_words::value::{Refusal, Value, read_words};
 use rv_audit::answer_laws;
+use rv_barrel::barrel_laws;
 use rv_bench::drawn_laws;
+use rv_harts::harts_are_apart;
 use rv_isa::Image;
 use rv_machine::rows_laws;
 use rv_plain::plain_design;
@@ -96,6 +101,17 @@ fn run_steps<S: Sink>(
     }
 }
 
+/// Writes the run of the base set that these values ask for.
+fn answer_image<S: Sink>(alloc: Global, values: &[Value], sink: &mut S) -> Status
+    requires { Takes Command.RunImage (map reading_of values.now) }
+    ensures { Answered Command.RunImage (map reading_of values.now) (S.written sink.old) (S.written sink.new) (S.faults sink.old) (S.faults sink.new) result }
+{
+    match values {
+        [Value::Image(image), Value::Number(cycles)] => run_image(alloc, image, *cycles, sink),
+        _ => unreachable!(),
+    }
+}
+
 /// Writes the sequential run that these values ask for.
 fn answer_seq<S: Sink>(alloc: Global, values: &[Value], sink: &mut S) -> Status
     requires { Takes Command.Seq (map reading_of values.now) }
@@ -157,13 +173,12 @@ fn answer_read<S: Sink>(alloc: Global, command: Command, values: &[Value], sink:
     requires shows_no_ports { command ≢ Command.Wave }
     requires has_no_line { command ≢ Command.RunInterrupted }
     requires judges_nothing { command ≢ Command.Audit }
+    requires takes_no_turns { command ≢ Command.Barrel }
     requires takes { Takes command (map reading_of values.now) }
     ensures { Answered command (map reading_of values.now) (S.written sink.old) (S.written sink.new) (S.faults sink.old) (S.faults sink.new) result }
 {
     match (command, values) {
-        (Command::RunImage, [Value::Image(image), Value::Number(cycles)]) => {
-            run_image(alloc, image, *cycles, sink)
-        }
+        (Command::RunImage, _) => answer_image(alloc, values, sink),
         (Command::Check, [Value::Extension(extension)]) => list_extension(alloc, extension, sink),
         (Command::Certify, [Value::Report]) => finish(sink, Status::Ok, b"yes\n"),
         (Command::Seq, _) => answer_seq(alloc, values, sink),
@@ -188,6 +203,7 @@ fn answer<S: Sink>(alloc: Global, command: Command, values: Vec<Value>, sink: &m
         Command::Wave => answer_run(alloc, RunForm::Ports, values, sink),
         Command::Bench => answer_bench(alloc, values, sink),
         Command::Audit => answer_audit(alloc, values, sink),
+        Command::Barrel => answer_barrel(alloc, values, sink),
         _ => answer_read(alloc, command, values.as_slice(), sink),
     }
 }
@@ -222,7 +238,8 @@ fn run_words<F: Shelf, S: Sink>(
 /// and the state of a run on the core of a datasheet with an extension, over a memory with a list of waits of at most 65,536 numbers, and `run EXT SHEET IMAGE WAITS LINES CYCLES` that of one with an interrupt line,
 /// which is raised in at most 4,096 rows. `bench EXT SHEET NUMBER COUNT` draws an image
 /// of at most 10,000 words from a number, runs it there for at most 200,000 cycles, and writes how many words, rows, retirements and outstanding writes there were, and the stop. `wave EXT SHEET IMAGE WAITS CYCLES` writes what the ports of the modules show in each row of the run that `run` writes with these words, as a value change dump.
-/// `audit EXT SHEET IMAGE WAITS TRACE` writes `yes` where a trace, wherever it comes from, is that of a lawful run. The files are read whole and judged one after another, in the order of the words. A refusal writes its one line
+/// `audit EXT SHEET IMAGE WAITS TRACE` writes `yes` where a trace, wherever it comes from, is that of a lawful run. `barrel EXT SHEET IMAGEA IMAGEB CYCLES` writes the rows of two harts that take turns
+/// in one pipeline, each over its own image and with its own state, and both states; a behaviour that may wait in the last stage is refused. The files are read whole and judged one after another, in the order of the words. A refusal writes its one line
 /// alone, but that a behaviour without a schedule is named and then reported; want of memory writes nothing, and comes before the first cycle.
 pub fn run_tool<F: Shelf, S: Sink>(
     alloc: Global,
@@ -297,6 +314,12 @@ pub fn run_tool<F: Shelf, S: Sink>(
     ensures audited { result ≡ Status.Ok → (command : AuditCommand) → audit_of (bytes_of words.now) ≡ Some command
         → AuditAnswer (F.files shelf.old) command (S.written sink.old) (S.written sink.new) }
 
+    // The rows of two harts are those of a design that stands for the extension and the datasheet which the files are the texts of. Each hart has in them what its own image gives,
+    // whatever the other one is; what it retires is a prefix of the run of its image one instruction at a time with the extension, and its state, with the outstanding writes
+    // applied, is that run's.
+    ensures barrel { result ≡ Status.Ok → (command : BarrelCommand) → barrel_of (bytes_of words.now) ≡ Some command
+        → BarrelAnswer (F.files shelf.old) command (S.written sink.old) (S.written sink.new) }
+
     // For every command: the status and the bytes that were written are due, by the words and the bytes of the files. Of a
     // file of which nothing is told, they are some bytes of at most the greatest length.
     ensures outcome { Outcome (F.files shelf.old) (RoseIn (F.faults shelf.old) (F.faults shelf.new)) (bytes_of words.now)
@@ -331,6 +354,8 @@ pub fn run_tool<F: Shelf, S: Sink>(
         → TextAnswer (F.files shelf.old) (bytes_of words.now) Status.Lines (S.written sink.old) (S.written sink.new) }
     ensures trace { result ≡ Status.Trace
         → TraceAnswer (F.files shelf.old) (bytes_of words.now) (S.written sink.old) (S.written sink.new) }
+    ensures tight { result ≡ Status.Barrel
+        → TightAnswer (F.files shelf.old) (bytes_of words.now) (S.written sink.old) (S.written sink.new) }
     ensures memory { result ≡ Status.Memory → S.written sink.new ≡ S.written sink.old }
 
     // What is due of told files is answered, but for faults and want of memory; a refusal of the words yields to neither
@@ -348,5 +373,8 @@ pub fn run_tool<F: Shelf, S: Sink>(
     drawn_laws();
     wave_laws();
     answer_laws();
+    chosen_law();
+    harts_are_apart();
+    barrel_laws();
     run_words(alloc, words, shelf, sink)
 }

@@ -1,7 +1,7 @@
 -- The exit status of each answer (this project's choice).
 use Rattle.std.specs.Prelude.{ℕ}
 use Rattle.ix_words.specs.declared.status.Status.{Status}
-use Rattle.ix_words.specs.declared.status.Status.TheVariants.{Ok, Usage, ReadFault, WriteFault, TooLong, Extension, Sheet, Image, NoSchedule, Certificate, Memory, Source, Waits, Lines, Trace}
+use Rattle.ix_words.specs.declared.status.Status.TheVariants.{Ok, Usage, ReadFault, WriteFault, TooLong, Extension, Sheet, Image, NoSchedule, Certificate, Memory, Source, Waits, Lines, Trace, Barrel}
 
 -- the exit status of each answer
 abbrev pub code_of : Status → ℕ
@@ -20,3 +20,4 @@ code_of Source = 13
 code_of Waits = 14
 code_of Lines = 15
 code_of Trace = 16
+code_of Barrel = 17

@@ -4,7 +4,7 @@ use Rattle.std.specs.Option.{option_and_then}
 use Rattle.std.specs.Str.{bytes_eq}
 use Rattle.std.specs.declared.alloc.Global.{Global}
 use Rattle.ix_words.specs.declared.command.Command.{Command}
-use Rattle.ix_words.specs.declared.command.Command.TheVariants.{RunImage, Check, Certify, Schedule, Build, Sweep, Seq, Assemble, RunExtension, Bench, Wave, RunInterrupted, Audit}
+use Rattle.ix_words.specs.declared.command.Command.TheVariants.{RunImage, Check, Certify, Schedule, Build, Sweep, Seq, Assemble, RunExtension, Bench, Wave, RunInterrupted, Audit, Barrel}
 use Rattle.ix_words.specs.declared.command.FileKind.TheVariants.{Image, Report, Extension, Sheet, Source, Waits, Lines, Trace}
 use Rattle.ix_words.specs.declared.command.Slot.{Slot}
 use Rattle.ix_words.specs.declared.command.Slot.TheVariants.{Number, File}
@@ -45,6 +45,7 @@ word_of Bench = codes "bench"
 word_of Wave = codes "wave"
 word_of RunInterrupted = codes "run"
 word_of Audit = codes "audit"
+word_of Barrel = codes "barrel"
 
 -- the greatest number that an image is drawn from, and the greatest count of drawn words
 abbrev pub most_number : ℕ
@@ -68,10 +69,11 @@ slots_of Bench = File Extension ∷ File Sheet ∷ Number most_number ∷ Number
 slots_of Wave = File Extension ∷ File Sheet ∷ File Image ∷ File Waits ∷ Number 200000 ∷ []
 slots_of RunInterrupted = File Extension ∷ File Sheet ∷ File Image ∷ File Waits ∷ File Lines ∷ Number 200000 ∷ []
 slots_of Audit = File Extension ∷ File Sheet ∷ File Image ∷ File Waits ∷ File Trace ∷ []
+slots_of Barrel = File Extension ∷ File Sheet ∷ File Image ∷ File Image ∷ Number 200000 ∷ []
 
 -- the commands, in the order in which words are tried
 abbrev pub commands : List Command
-commands = RunImage ∷ Check ∷ Certify ∷ Seq ∷ Assemble ∷ Schedule ∷ Build ∷ Sweep ∷ RunExtension ∷ Bench ∷ Wave ∷ RunInterrupted ∷ Audit ∷ []
+commands = RunImage ∷ Check ∷ Certify ∷ Seq ∷ Assemble ∷ Schedule ∷ Build ∷ Sweep ∷ RunExtension ∷ Bench ∷ Wave ∷ RunInterrupted ∷ Audit ∷ Barrel ∷ []
 
 -- ---- which command words are
 -- any word names a file; a number is at most the given one
@@ -286,6 +288,30 @@ audit_of (command ∷ extension ∷ sheet ∷ image ∷ []) = None
 audit_of (command ∷ extension ∷ sheet ∷ image ∷ waits ∷ []) = None
 audit_of (command ∷ extension ∷ sheet ∷ image ∷ waits ∷ trace ∷ []) = if bytes_eq command (codes "audit") then Some (record { extension = extension; sheet = sheet; image = image; waits = waits; trace = trace }) else None
 audit_of (command ∷ extension ∷ sheet ∷ image ∷ waits ∷ trace ∷ more ∷ rest) = None
+
+-- ---- barrel EXT SHEET IMAGEA IMAGEB CYCLES, with 0 to 200,000 cycles
+pub record BarrelCommand : Type 0 where
+  pub extension : List ℕ
+  pub sheet : List ℕ
+  pub first : List ℕ
+  pub second : List ℕ
+  pub cycles : ℕ
+
+-- the run of two harts in turn that these files and this number are of, where the first word is that of one
+abbrev pub barrel_command : Bool → List ℕ → List ℕ → List ℕ → List ℕ → Option ℕ → Option BarrelCommand
+barrel_command is_barrel extension sheet first second None = None
+barrel_command is_barrel extension sheet first second (Some n) = if is_barrel then Some (record { extension = extension; sheet = sheet; first = first; second = second; cycles = n }) else None
+
+-- the run of two harts in turn that these words ask for, if they do
+abbrev pub barrel_of : List (List ℕ) → Option BarrelCommand
+barrel_of [] = None
+barrel_of (command ∷ []) = None
+barrel_of (command ∷ extension ∷ []) = None
+barrel_of (command ∷ extension ∷ sheet ∷ []) = None
+barrel_of (command ∷ extension ∷ sheet ∷ first ∷ []) = None
+barrel_of (command ∷ extension ∷ sheet ∷ first ∷ second ∷ []) = None
+barrel_of (command ∷ extension ∷ sheet ∷ first ∷ second ∷ cycles ∷ []) = barrel_command (bytes_eq command (codes "barrel")) extension sheet first second (number_within 200000 cycles)
+barrel_of (command ∷ extension ∷ sheet ∷ first ∷ second ∷ cycles ∷ more ∷ rest) = None
 
 -- ---- bench EXT SHEET NUMBER COUNT, with a number of 32 bits and 0 to 10,000 drawn words
 pub record BenchCommand : Type 0 where

@@ -30,6 +30,8 @@ pub enum Command {
     RunInterrupted,
     /// `audit EXT SHEET IMAGE WAITS TRACE`.
     Audit,
+    /// `barrel EXT SHEET IMAGEA IMAGEB CYCLES`, with 0 to 200,000 cycles.
+    Barrel,
 }
 
 /// What is written of a run with an extension.
@@ -74,7 +76,7 @@ pub enum Slot {
 }
 
 /// The commands, in the order in which words are tried.
-const COMMANDS: [Command; 13] = [
+const COMMANDS: [Command; 14] = [
     Command::RunImage,
     Command::Check,
     Command::Certify,
@@ -88,6 +90,7 @@ const COMMANDS: [Command; 13] = [
     Command::Wave,
     Command::RunInterrupted,
     Command::Audit,
+    Command::Barrel,
 ];
 
 /// What stands behind `run` for an image alone.
@@ -143,6 +146,15 @@ const AUDIT: [Slot; 5] = [
     Slot::File(FileKind::Trace),
 ];
 
+/// What stands behind `barrel`.
+const BARREL: [Slot; 5] = [
+    Slot::File(FileKind::Extension),
+    Slot::File(FileKind::Sheet),
+    Slot::File(FileKind::Image),
+    Slot::File(FileKind::Image),
+    Slot::Number(200_000),
+];
+
 /// What stands behind `bench`.
 const BENCH: [Slot; 4] = [
     Slot::File(FileKind::Extension),
@@ -170,6 +182,7 @@ impl Command {
             Command::Wave => "wave",
             Command::RunInterrupted => "run",
             Command::Audit => "audit",
+            Command::Barrel => "barrel",
         }
     }
 
@@ -191,6 +204,7 @@ impl Command {
             Command::Wave => &RUN_EXTENSION,
             Command::RunInterrupted => &RUN_INTERRUPTED,
             Command::Audit => &AUDIT,
+            Command::Barrel => &BARREL,
         }
     }
 }

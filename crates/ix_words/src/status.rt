@@ -34,6 +34,8 @@ pub enum Status {
     Lines,
     /// A trace is refused.
     Trace,
+    /// A behaviour may wait, where two harts take turns.
+    Barrel,
 }
 
 impl Status {
@@ -57,6 +59,7 @@ impl Status {
             Status::Waits => 14,
             Status::Lines => 15,
             Status::Trace => 16,
+            Status::Barrel => 17,
         }
     }
 }

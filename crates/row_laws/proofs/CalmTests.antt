@@ -185,7 +185,7 @@ not_gone : (k : Setting) → IsCalm k → (earlier : List Row) (row : Row) (stag
 not_gone k calm earlier row stage c j e w =
     true_not_false (sym (either (is_flushed (row ∷ earlier) j) (is_retired (row ∷ earlier) j) e w.older.unflushed) ∙ left_unretired k calm.spawns (row ∷ earlier) j w.left)
 
-drain_not : (k : Setting) → IsCalm k → (earlier : List Row) (row : Row) (stage : ℕ) (c : Cell) → drain_clear (stage == k.shape.ex) k earlier row c ≡ true → (j : ℕ) → WaitsToDrain k earlier row stage c j → ⊥
+pub drain_not : (k : Setting) → IsCalm k → (earlier : List Row) (row : Row) (stage : ℕ) (c : Cell) → drain_clear (stage == k.shape.ex) k earlier row c ≡ true → (j : ℕ) → WaitsToDrain k earlier row stage c j → ⊥
 drain_not k calm earlier row stage c e j w =
     let here : (not (is_some (due_stop k (row ∷ earlier) c)) || all_below (is_gone (row ∷ earlier)) c.serial) ≡ true = subst (λ b. drain_clear b k earlier row c ≡ true) (equal stage k.shape.ex w.executing) e in
     let gone = either_not (is_some (due_stop k (row ∷ earlier) c)) (all_below (is_gone (row ∷ earlier)) c.serial) here (is_due_then k (row ∷ earlier) c w.due.0 w.due.1) in
@@ -236,13 +236,15 @@ wait_not k earlier row stage c (w ∷ ws) some e left waits = no_rows left (stoo
 is_above : (m n : ℕ) → m < n → nat_lt m n ≡ true
 is_above m n lt = grind (arith, nat_tests)
 
--- the cell does not load, or no store stands in a later stage
-abbrev pub store_clear : Setting → Row → ℕ → Cell → Bool
-store_clear k row stage c = not (k.asks c.word).loads || not (any_cell (λ n d. nat_lt stage n && (k.asks d.word).stores) (stages_of k row))
+-- the cell does not load, or no store stands in a later stage, where this is MEM
+abbrev pub store_clear : Bool → Setting → Row → ℕ → Cell → Bool
+store_clear false k row stage c = true
+store_clear true k row stage c = not (k.asks c.word).loads || not (any_cell (λ n d. nat_lt stage n && (k.asks d.word).stores) (stages_of k row))
 
-store_not : (k : Setting) (earlier : List Row) (row : Row) (stage : ℕ) (c : Cell) → store_clear k row stage c ≡ true → (j : ℕ) → WaitsForStore k earlier row stage c j → ⊥
+pub store_not : (k : Setting) (earlier : List Row) (row : Row) (stage : ℕ) (c : Cell) → store_clear (stage == k.shape.mem) k row stage c ≡ true → (j : ℕ) → WaitsForStore k earlier row stage c j → ⊥
 store_not k earlier row stage c e j w =
-    let none = negated (any_cell (λ n d. nat_lt stage n && (k.asks d.word).stores) (stages_of k row)) (either_not (k.asks c.word).loads (not (any_cell (λ n d. nat_lt stage n && (k.asks d.word).stores) (stages_of k row))) e w.loads) in
+    let here : store_clear true k row stage c ≡ true = subst (λ b. store_clear b k row stage c ≡ true) (equal stage k.shape.mem w.loading) e in
+    let none = negated (any_cell (λ n d. nat_lt stage n && (k.asks d.word).stores) (stages_of k row)) (either_not (k.asks c.word).loads (not (any_cell (λ n d. nat_lt stage n && (k.asks d.word).stores) (stages_of k row))) here w.loads) in
     let at = w.stands in
     true_not_false (sym (any_there (λ n d. nat_lt stage n && (k.asks d.word).stores) (stages_of k row) at.0 at.1 at.3 (and_both (nat_lt stage at.0) (k.asks at.1.word).stores (is_above stage at.0 at.2) at.5)) ∙ none)
 
@@ -255,7 +257,7 @@ tail_not k calm earlier row stage c left w = no_rows left (tailed k earlier c.se
 abbrev pub own_clear : Setting → List ℕ → List Row → Row → ℕ → Cell → Bool
 own_clear k words earlier row stage c =
     early_clear k words earlier row stage c
-    && (trap_clear (stage == k.shape.ex) k earlier && (drain_clear (stage == k.shape.ex) k earlier row c && (wait_clear (stage == k.shape.mem) k.waits k earlier row c && store_clear k row stage c)))
+    && (trap_clear (stage == k.shape.ex) k earlier && (drain_clear (stage == k.shape.ex) k earlier row c && (wait_clear (stage == k.shape.mem) k.waits k earlier row c && store_clear (stage == k.shape.mem) k row stage c)))
 
 -- the parts of that test
 record OwnParts (k : Setting) (words : List ℕ) (earlier : List Row) (row : Row) (stage : ℕ) (c : Cell) : Type 0 where
@@ -263,17 +265,17 @@ record OwnParts (k : Setting) (words : List ℕ) (earlier : List Row) (row : Row
   trap : trap_clear (stage == k.shape.ex) k earlier ≡ true
   drain : drain_clear (stage == k.shape.ex) k earlier row c ≡ true
   wait : wait_clear (stage == k.shape.mem) k.waits k earlier row c ≡ true
-  store : store_clear k row stage c ≡ true
+  store : store_clear (stage == k.shape.mem) k row stage c ≡ true
 
 own_parts : (k : Setting) (words : List ℕ) (earlier : List Row) (row : Row) (stage : ℕ) (c : Cell) → own_clear k words earlier row stage c ≡ true → OwnParts k words earlier row stage c
 own_parts k words earlier row stage c e = parts (early_clear k words earlier row stage c) (trap_clear (stage == k.shape.ex) k earlier) (drain_clear (stage == k.shape.ex) k earlier row c) (wait_clear (stage == k.shape.mem) k.waits k earlier row c) refl refl refl refl e where
   parts : (a b d f : Bool) → early_clear k words earlier row stage c ≡ a → trap_clear (stage == k.shape.ex) k earlier ≡ b → drain_clear (stage == k.shape.ex) k earlier row c ≡ d → wait_clear (stage == k.shape.mem) k.waits k earlier row c ≡ f
-      → (a && (b && (d && (f && store_clear k row stage c)))) ≡ true → OwnParts k words earlier row stage c
+      → (a && (b && (d && (f && store_clear (stage == k.shape.mem) k row stage c)))) ≡ true → OwnParts k words earlier row stage c
   parts a b d f p q r s g =
-      let x = both_true a (b && (d && (f && store_clear k row stage c))) g in
-      let y = both_true b (d && (f && store_clear k row stage c)) x.1 in
-      let z = both_true d (f && store_clear k row stage c) y.1 in
-      let w = both_true f (store_clear k row stage c) z.1 in
+      let x = both_true a (b && (d && (f && store_clear (stage == k.shape.mem) k row stage c))) g in
+      let y = both_true b (d && (f && store_clear (stage == k.shape.mem) k row stage c)) x.1 in
+      let z = both_true d (f && store_clear (stage == k.shape.mem) k row stage c) y.1 in
+      let w = both_true f (store_clear (stage == k.shape.mem) k row stage c) z.1 in
       record { early = p ∙ x.0; trap = q ∙ y.0; drain = r ∙ z.0; wait = s ∙ w.0; store = w.1 }
 
 pub own_not : (k : Setting) (words : List ℕ) → IsCalm k → (earlier : List Row) (row : Row) (stage : ℕ) (c : Cell) → AllNamedBy k words (row ∷ earlier) → own_clear k words earlier row stage c ≡ true → (g : Hold) → OwnHold k earlier row stage c g → ⊥
@@ -438,7 +440,7 @@ shows_operand k words earlier row stage c r j all alive shown e = shows_own k ea
 abbrev pub drain_true : Setting → List Row → Row → ℕ → Cell → ℕ → Bool
 drain_true k earlier row stage c j = (stage == k.shape.ex) && (is_some (due_stop k (row ∷ earlier) c) && (nat_lt j c.serial && not (is_gone (row ∷ earlier) j)))
 
-drains_then : (k : Setting) (earlier : List Row) (row : Row) (stage : ℕ) (c : Cell) (j : ℕ) → drain_true k earlier row stage c j ≡ true → WaitsToDrain k earlier row stage c j
+pub drains_then : (k : Setting) (earlier : List Row) (row : Row) (stage : ℕ) (c : Cell) (j : ℕ) → drain_true k earlier row stage c j ≡ true → WaitsToDrain k earlier row stage c j
 drains_then k earlier row stage c j e =
     let a = both_true (stage == k.shape.ex) (is_some (due_stop k (row ∷ earlier) c) && (nat_lt j c.serial && not (is_gone (row ∷ earlier) j))) e in
     let b = both_true (is_some (due_stop k (row ∷ earlier) c)) (nat_lt j c.serial && not (is_gone (row ∷ earlier) j)) a.1 in
@@ -518,7 +520,7 @@ abbrev pub wait_true : Setting → List Row → Row → ℕ → Cell → ℕ →
 wait_true k earlier row stage c left =
     (stage == k.shape.mem) && (k.course.accesses (place (row ∷ earlier) c.serial) && ((left + stood k earlier c.serial == wait_of k (row ∷ earlier) c) && nat_lt 0 left))
 
-waits_for : (k : Setting) (earlier : List Row) (row : Row) (stage : ℕ) (c : Cell) (left : ℕ) → wait_true k earlier row stage c left ≡ true → WaitsForMemory k earlier row stage c left
+pub waits_for : (k : Setting) (earlier : List Row) (row : Row) (stage : ℕ) (c : Cell) (left : ℕ) → wait_true k earlier row stage c left ≡ true → WaitsForMemory k earlier row stage c left
 waits_for k earlier row stage c left e =
     let a = both_true (stage == k.shape.mem) (k.course.accesses (place (row ∷ earlier) c.serial) && ((left + stood k earlier c.serial == wait_of k (row ∷ earlier) c) && nat_lt 0 left)) e in
     let b = both_true (k.course.accesses (place (row ∷ earlier) c.serial)) ((left + stood k earlier c.serial == wait_of k (row ∷ earlier) c) && nat_lt 0 left) a.1 in
@@ -558,6 +560,85 @@ shows_wait k words calm earlier row stage c left all alive shown e = shows_own k
   first (Port i) o = inl (omega arith)
   first Behind o = absurd o
 
+-- A cell that shows StoreAhead
+
+-- the cell of this stage is that store, and stands in a later stage
+abbrev pub is_store : Setting → ℕ → ℕ → ℕ → Cell → Bool
+is_store k stage j at d = nat_lt stage at && ((d.serial == j) && (k.asks d.word).stores)
+
+-- the cell loads, and the older store stands in a later stage
+abbrev pub store_true : Setting → List Row → Row → ℕ → Cell → ℕ → Bool
+store_true k earlier row stage c j =
+    (stage == k.shape.mem) && ((k.asks c.word).loads && (nat_lt j c.serial && (not (is_flushed (row ∷ earlier) j) && any_cell (is_store k stage j) (stages_of k row))))
+
+pub stands_ahead : (k : Setting) (earlier : List Row) (row : Row) (stage : ℕ) (c : Cell) (j : ℕ) → store_true k earlier row stage c j ≡ true → WaitsForStore k earlier row stage c j
+stands_ahead k earlier row stage c j e =
+    let a = both_true (stage == k.shape.mem) ((k.asks c.word).loads && (nat_lt j c.serial && (not (is_flushed (row ∷ earlier) j) && any_cell (is_store k stage j) (stages_of k row)))) e in
+    let b = both_true (k.asks c.word).loads (nat_lt j c.serial && (not (is_flushed (row ∷ earlier) j) && any_cell (is_store k stage j) (stages_of k row))) a.1 in
+    let d = both_true (nat_lt j c.serial) (not (is_flushed (row ∷ earlier) j) && any_cell (is_store k stage j) (stages_of k row)) b.1 in
+    let f = both_true (not (is_flushed (row ∷ earlier) j)) (any_cell (is_store k stage j) (stages_of k row)) d.1 in
+    let x = some_cell (is_store k stage j) (stages_of k row) f.1 in
+    let p = both_true (nat_lt stage x.0) ((x.1.serial == j) && (k.asks x.1.word).stores) x.3 in
+    let q = both_true (x.1.serial == j) (k.asks x.1.word).stores p.1 in
+    record {
+      loading = same_number stage k.shape.mem a.0;
+      loads = b.0;
+      older = record { lower = less j c.serial d.0; unflushed = negated (is_flushed (row ∷ earlier) j) f.0 };
+      stands = (x.0, x.1, less stage x.0 p.0, x.2, same_number x.1.serial j q.0, q.1);
+    }
+
+-- the cell of this stage stores, is older than that store, and stands in a later stage
+abbrev pub is_older_store : Setting → ℕ → ℕ → ℕ → Cell → Bool
+is_older_store k stage j at d = nat_lt stage at && (nat_lt d.serial j && (k.asks d.word).stores)
+
+-- no hold that comes before that StoreAhead is true of the cell
+abbrev pub store_first : Setting → List ℕ → List Row → Row → ℕ → Cell → ℕ → Bool
+store_first k words earlier row stage c j =
+    wait_first k words earlier row stage c && (wait_clear (stage == k.shape.mem) k.waits k earlier row c && not (any_cell (is_older_store k stage j) (stages_of k row)))
+
+abbrev pub store_shown : Setting → List ℕ → List Row → Row → ℕ → Cell → ℕ → Bool
+store_shown k words earlier row stage c j = store_true k earlier row stage c j && store_first k words earlier row stage c j
+
+shows_store : (k : Setting) (words : List ℕ) → IsCalm k → (earlier : List Row) (row : Row) (stage : ℕ) (c : Cell) (j : ℕ) → AllNamedBy k words (row ∷ earlier) → has_serial row.flushed c.serial ≡ false → c.hold ≡ Some (StoreAhead j) → store_shown k words earlier row stage c j ≡ true
+    → ShowsHold k earlier row stage c
+shows_store k words calm earlier row stage c j all alive shown e = shows_own k earlier row stage c (StoreAhead j) shown alive (stands_ahead k earlier row stage c j parts.0) first (inl (omega arith)) where
+  parts : (store_true k earlier row stage c j ≡ true) × (store_first k words earlier row stage c j ≡ true)
+  parts = both_true (store_true k earlier row stage c j) (store_first k words earlier row stage c j) e
+
+  before : (wait_first k words earlier row stage c ≡ true) × ((wait_clear (stage == k.shape.mem) k.waits k earlier row c && not (any_cell (is_older_store k stage j) (stages_of k row))) ≡ true)
+  before = both_true (wait_first k words earlier row stage c) (wait_clear (stage == k.shape.mem) k.waits k earlier row c && not (any_cell (is_older_store k stage j) (stages_of k row))) parts.1
+
+  waited : (wait_clear (stage == k.shape.mem) k.waits k earlier row c ≡ true) × (not (any_cell (is_older_store k stage j) (stages_of k row)) ≡ true)
+  waited = both_true (wait_clear (stage == k.shape.mem) k.waits k earlier row c) (not (any_cell (is_older_store k stage j) (stages_of k row))) before.1
+
+  clears : (early_clear k words earlier row stage c ≡ true) × ((trap_clear (stage == k.shape.ex) k earlier && drain_clear (stage == k.shape.ex) k earlier row c) ≡ true)
+  clears = both_true (early_clear k words earlier row stage c) (trap_clear (stage == k.shape.ex) k earlier && drain_clear (stage == k.shape.ex) k earlier row c) before.0
+
+  rest : (trap_clear (stage == k.shape.ex) k earlier ≡ true) × (drain_clear (stage == k.shape.ex) k earlier row c ≡ true)
+  rest = both_true (trap_clear (stage == k.shape.ex) k earlier) (drain_clear (stage == k.shape.ex) k earlier row c) clears.1
+
+  none_older : (i : ℕ) → nat_lt i j ≡ true → WaitsForStore k earlier row stage c i → ⊥
+  none_older i lt o =
+      let at = o.stands in
+      let older : nat_lt at.1.serial j ≡ true = ap (λ n. nat_lt n j) at.4 ∙ lt in
+      true_not_false (
+      sym (any_there (is_older_store k stage j) (stages_of k row) at.0 at.1 at.3 (and_both (nat_lt stage at.0) (nat_lt at.1.serial j && (k.asks at.1.word).stores) (is_above stage at.0 at.2) (and_both (nat_lt at.1.serial j) (k.asks at.1.word).stores older at.5)))
+      ∙ negated (any_cell (is_older_store k stage j) (stages_of k row)) waited.1)
+
+  first : (f : Hold) → OwnHold k earlier row stage c f → ComesFirst (StoreAhead j) f
+  first (Operand s i) o = absurd (early_operand k words earlier row stage c all clears.0 s i o)
+  first (Board t i) o = absurd (never_boards k calm.spawns earlier row stage c t i o)
+  first (Custom s i) o = absurd (true_not_false (sym o.writes.2 ∙ calm.unlate o.writes.0 s))
+  first (Late i) o = absurd (early_jump k words earlier row stage c all clears.0 i o)
+  first Trap o = absurd (trap_not k earlier stage rest.0 o)
+  first (Drain i) o = absurd (drain_not k calm earlier row stage c rest.1 i o)
+  first (Wait n) o = absurd (wait_not k earlier row stage c k.waits refl waited.0 n o)
+  first (StoreAhead i) o = elim (known (nat_lt i j)) [ inl x ↦ absurd (none_older i x o) | inr x ↦ inr (refl, inr (refl, not_less i j x)) ]
+  first (Tail n) o = inl (omega arith)
+  first (UnitFull u) o = inl (omega arith)
+  first (Port i) o = inl (omega arith)
+  first Behind o = absurd o
+
 -- Cells with any hold
 
 -- the cell of this stage shows this hold rightly
@@ -568,6 +649,7 @@ shows_right k words earlier row stage c (Some (Operand r j)) = not (has_serial r
 shows_right k words earlier row stage c (Some (Drain j)) = not (has_serial row.flushed c.serial) && drain_shown k words earlier row stage c j
 shows_right k words earlier row stage c (Some Trap) = not (has_serial row.flushed c.serial) && trap_shown k words earlier row stage c
 shows_right k words earlier row stage c (Some (Wait left)) = not (has_serial row.flushed c.serial) && wait_shown k words earlier row stage c left
+shows_right k words earlier row stage c (Some (StoreAhead j)) = not (has_serial row.flushed c.serial) && store_shown k words earlier row stage c j
 shows_right k words earlier row stage c (Some Behind) =
     not (has_serial row.flushed c.serial)
     && (own_clear k words earlier row stage c && (not_due (stage == k.shape.ex) k (row ∷ earlier) c && blocks k words earlier row stage (slice_get (stages_of k row) (suc stage))))
@@ -621,7 +703,9 @@ shows_then k words calm earlier row stage c all (Some Trap) e t =
 shows_then k words calm earlier row stage c all (Some (Wait n)) e t =
     let p = both_true (not (has_serial row.flushed c.serial)) (wait_shown k words earlier row stage c n) t in
     shows_wait k words calm earlier row stage c n all (negated (has_serial row.flushed c.serial) p.0) e p.1
-shows_then k words calm earlier row stage c all (Some (StoreAhead j)) e t = absurd (true_not_false (sym t))
+shows_then k words calm earlier row stage c all (Some (StoreAhead j)) e t =
+    let p = both_true (not (has_serial row.flushed c.serial)) (store_shown k words earlier row stage c j) t in
+    shows_store k words calm earlier row stage c j all (negated (has_serial row.flushed c.serial) p.0) e p.1
 shows_then k words calm earlier row stage c all (Some (Tail n)) e t = absurd (true_not_false (sym t))
 shows_then k words calm earlier row stage c all (Some (UnitFull u)) e t = absurd (true_not_false (sym t))
 shows_then k words calm earlier row stage c all (Some (Port j)) e t = absurd (true_not_false (sym t))

@@ -106,7 +106,7 @@ pub interrupted_agrees : Agreeing bare interrupting interrupted_rows
 unfolding places retirements
 interrupted_agrees = (agrees_11, (agrees_10, (agrees_9, (agrees_8, (agrees_7, (agrees_6, (agrees_5, (agrees_4, (agrees_3, (agrees_2, (agrees_1, (agrees_0, tt))))))))))))
 
-done_same : (a : StepAnswer) (c d : Commit) → a ≡ Done c → a ≡ Done d → c ≡ d
+pub done_same : (a : StepAnswer) (c d : Commit) → a ≡ Done c → a ≡ Done d → c ≡ d
 done_same a c d e f = the (sym e ∙ f) where
   the : ◌≡◌ {A = StepAnswer} (Done c) (Done d) → c ≡ d
   the q = cc

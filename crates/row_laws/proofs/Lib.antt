@@ -20,3 +20,6 @@ mod InterruptingTwice
 mod InterruptingOthers
 mod InterruptingStates
 mod LateEntryRows
+mod WaitingRows
+mod WaitingOthers
+mod WaitingStates

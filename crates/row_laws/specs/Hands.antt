@@ -40,12 +40,16 @@ three_predicting = record { stages = 3; rd = 1; ex = 1; mem = 2; forward = false
 abbrev pub five_forwarding : Shape
 five_forwarding = record { stages = 5; rd = 1; ex = 2; mem = 3; forward = true; predict = false; trap = 16; lawful = five_lawful }
 
--- what the rows of a core with these numbers are judged against, over a memory that never waits, without an interrupt line
-abbrev pub on_core : Shape → Hand → Setting
-on_core shape h =
+-- those of one of five stages, in which RD and EX differ, and MEM and WB
+abbrev pub five : Shape
+five = record { stages = 5; rd = 1; ex = 2; mem = 3; forward = false; predict = false; trap = 16; lawful = five_lawful }
+
+-- what the rows of a core with these numbers are judged against, over a memory with these waits, without an interrupt line
+abbrev pub over_memory : List ℕ → Shape → Hand → Setting
+over_memory waits shape h =
     record {
       image = h.image;
-      waits = [];
+      waits = waits;
       lines = None;
       entries = None;
       shape = shape;
@@ -55,6 +59,10 @@ on_core shape h =
       initial = h.initial;
       jump = h.jump;
     }
+
+-- those over a memory that never waits
+abbrev pub on_core : Shape → Hand → Setting
+on_core shape h = over_memory [] shape h
 
 -- those of the core of three stages
 abbrev pub by_hand : Hand → Setting

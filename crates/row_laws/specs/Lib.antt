@@ -9,3 +9,4 @@ pub mod Forwarding
 pub mod Guessing
 pub mod Interrupting
 pub mod LateEntry
+pub mod Waiting

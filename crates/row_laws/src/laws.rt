@@ -13,6 +13,7 @@ ghost use Rattle.row_laws.specs.LateEntry as late;
 ghost use Rattle.row_laws.specs.Sharing as share;
 ghost use Rattle.row_laws.specs.Spawning as spawn;
 ghost use Rattle.row_laws.specs.Turning as turn;
+ghost use Rattle.row_laws.specs.Waiting as wait;
 
 /// The laws of rows, tried on a hand-made run whose first instruction is Tight and writes a custom register late: they hold of its rows, in which
 /// it is held by Tail and the next instruction by Custom, and of none in which one thing is changed.
@@ -195,4 +196,32 @@ pub fn late_entry_run()
     ensures taken_at_flushed { late.IsUnlawful late.taken_at_flushed }
     ensures jump_followed { late.IsUnlawful late.jump_followed }
     ensures jump_alone { late.IsUnlawful late.jump_alone }
+{}
+
+/// The laws of rows and what they promise of the run, tried on a store and a load of the same word behind it, on a core of five stages. Over a memory in which
+/// the store waits for two rows it shows Wait, counted down; then the load shows StoreAhead in the row in which the store retires, and what is to stop the run
+/// shows Drain until the load retires. Over one in which the load waits, Wait comes before StoreAhead. The rows of both are lawful and the run's; rows in which
+/// one thing is changed are not lawful, and rows in which the load reads what was there before the store are not the run's.
+pub fn waiting_run()
+    ensures slow_store { Lawful (λ places. wait.slow_store) wait.slow_store_rows }
+    ensures slow_store_agrees { Agreeing bare (λ places. wait.slow_store) wait.slow_store_rows }
+    ensures old_value { wait.IsOther wait.old_value }
+    ensures wait_one_less { wait.IsUnlawfulStore wait.wait_one_less }
+    ensures wait_one_more { wait.IsUnlawfulStore wait.wait_one_more }
+    ensures wait_stands_still { wait.IsUnlawfulStore wait.wait_stands_still }
+    ensures wait_left_out { wait.IsUnlawfulStore wait.wait_left_out }
+    ensures waits_longer { wait.IsUnlawfulStore wait.waits_longer }
+    ensures load_passes { wait.IsUnlawfulStore wait.load_passes }
+    ensures ahead_of_another { wait.IsUnlawfulStore wait.ahead_of_another }
+    ensures ahead_longer { wait.IsUnlawfulStore wait.ahead_longer }
+    ensures drain_left_out { wait.IsUnlawfulStore wait.drain_left_out }
+    ensures behind_alone { wait.IsUnlawfulStore wait.behind_alone }
+    ensures drains_retired { wait.IsUnlawfulStore wait.drains_retired }
+    ensures stops_early { wait.IsUnlawfulStore wait.stops_early }
+    ensures slow_load { Lawful (λ places. wait.slow_load) wait.slow_load_rows }
+    ensures slow_load_agrees { Agreeing bare (λ places. wait.slow_load) wait.slow_load_rows }
+    ensures store_waits { wait.IsUnlawfulLoad wait.store_waits }
+    ensures ahead_before_wait { wait.IsUnlawfulLoad wait.ahead_before_wait }
+    ensures waits_once { wait.IsUnlawfulLoad wait.waits_once }
+    ensures stops_beside { wait.IsUnlawfulLoad wait.stops_beside }
 {}

@@ -7,5 +7,5 @@ mod laws;
 
 pub use laws::{
     adding_run, detour_run, forwarding_run, frozen_run, guessing_run, holding_run, interrupted_run,
-    late_entry_run, passing_run, port_run, sharing_run, turning_run,
+    late_entry_run, passing_run, port_run, sharing_run, turning_run, waiting_run,
 };

@@ -2,11 +2,12 @@ mod Writes
 mod Wrong
 mod Forms
 mod Told
+mod Stoppers
 mod Numbers
 mod Causes
 mod Ending
 mod Ended
 mod Rows
-mod OnePlan
+pub mod OnePlan
 mod OneSetting
 mod OneAnswer

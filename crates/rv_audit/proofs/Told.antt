@@ -25,6 +25,9 @@ no_stop row was e f = ap (λ (r : Row). r.stop) e ∙ none_of was.stop f
 pub some_stop : (row was : Row) → row ≡ was → is_some was.stop ≡ true → row.stop ≡ None → ⊥
 some_stop row was e f g = never (sym (ap (λ (r : Row). is_some r.stop) (sym e) ∙ ap (λ o. is_some o) g) ∙ f)
 
+pub is_stop : (row was : Row) → row ≡ was → is_some was.stop ≡ true → is_some row.stop ≡ true
+is_stop row was e f = ap (λ (r : Row). is_some r.stop) e ∙ f
+
 -- ---- facts
 module _ (a : Against) where
   pub fit_of : FitLaw → IsFitting a → IsFit (setting_of a)

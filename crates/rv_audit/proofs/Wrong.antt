@@ -117,11 +117,11 @@ module _ (k : Setting) (earlier : List Row) (s : Shown) where
   -- ---- behind a stop
   pub first_behind : MovesRightly k earlier row → ((newest earlier).stop ≡ None → ⊥) → (f : Fault) → TellsBehind k earlier row f → IsFirstWrong k earlier s (kind_of f)
   first_behind moves stopped fault.Moves t = absurd t
-  first_behind moves stopped fault.Hold t = absurd t
-  first_behind moves stopped fault.Fetch t = fetch_wrong moves (λ e. absurd (stopped e)) t
-  first_behind moves stopped fault.Successor t = absurd t
-  first_behind moves stopped fault.Unit t = unit_wrong moves (λ e. absurd (stopped e)) t.0 (λ e. absurd (stopped e)) t.1
-  first_behind moves stopped fault.Stop t = stop_wrong moves (λ e. absurd (stopped e)) t.0 (λ e. absurd (stopped e)) t.1 (λ stops. stopped stops.going)
+  first_behind moves stopped fault.Hold t = hold_wrong moves t
+  first_behind moves stopped fault.Fetch t = fetch_wrong moves t.0 t.1
+  first_behind moves stopped fault.Successor t = successor_wrong moves t.0 t.1 t.2
+  first_behind moves stopped fault.Unit t = unit_wrong moves t.0 t.1 t.2 t.3
+  first_behind moves stopped fault.Stop t = stop_wrong moves t.0 t.1 t.2 t.3 (λ stops. stopped stops.going)
   first_behind moves stopped fault.Commit t = absurd t
   first_behind moves stopped fault.Write t = absurd t
 
@@ -129,11 +129,11 @@ module _ (k : Setting) (earlier : List Row) (s : Shown) where
   module _ (moves : MovesRightly k earlier row) (going : (newest earlier).stop ≡ None) where
     pub first_row : (f : Fault) → TellsRow k earlier row (Some f) → IsFirstWrong k earlier s (kind_of f)
     first_row fault.Moves t = absurd t
-    first_row fault.Hold t = hold_wrong moves (λ holds. t (holds going))
-    first_row fault.Fetch t = fetch_wrong moves (λ e. t.0) t.1
-    first_row fault.Successor t = successor_wrong moves (λ e. t.0) t.1 (λ succeeds. t.2 (succeeds going))
-    first_row fault.Unit t = unit_wrong moves (λ e. t.0) t.1 (λ e. t.2) t.3
-    first_row fault.Stop t = stop_wrong moves (λ e. t.0) t.1 (λ e. t.2) t.3 t.4
+    first_row fault.Hold t = hold_wrong moves t
+    first_row fault.Fetch t = fetch_wrong moves t.0 t.1
+    first_row fault.Successor t = successor_wrong moves t.0 t.1 t.2
+    first_row fault.Unit t = unit_wrong moves t.0 t.1 t.2 t.3
+    first_row fault.Stop t = stop_wrong moves t.0 t.1 t.2 t.3 t.4
     first_row fault.Commit t = absurd t
     first_row fault.Write t = absurd t
 
@@ -144,14 +144,14 @@ module _ (k : Setting) (earlier : List Row) (s : Shown) where
     first_line r fault.Successor t = absurd t
     first_line r fault.Unit t = absurd t
     first_line r fault.Stop t = absurd t
-    first_line r fault.Commit t = commit_wrong moves (λ e. r.0) r.1 (λ e. r.2) r.3 r.4 t
-    first_line r fault.Write t = write_wrong moves (λ e. r.0) r.1 (λ e. r.2) r.3 r.4 t.0 t.1
+    first_line r fault.Commit t = commit_wrong moves r.0 r.1 r.2 r.3 r.4 t
+    first_line r fault.Write t = write_wrong moves r.0 r.1 r.2 r.3 r.4 t.0 t.1
 
     pub all_right : TellsRow k earlier row None → TellsLines k earlier s None → IsAllRight k earlier s
-    all_right r t = each_right moves (λ e. r.0) r.1 (λ e. r.2) r.3 r.4 t.0 t.1
+    all_right r t = each_right moves r.0 r.1 r.2 r.3 r.4 t.0 t.1
 
     pub row_kinds : TellsRow k earlier row None → RowKinds k earlier row
-    row_kinds r = record { moves = moves; holds = λ e. r.0; fetches = r.1; succeeds = λ e. r.2; units = r.3; stops = r.4 }
+    row_kinds r = record { moves = moves; holds = r.0; fetches = r.1; succeeds = r.2; units = r.3; stops = r.4 }
 
     pub recorded : TellsLines k earlier s None → IsRecorded k earlier row
     recorded t = record { retired = t.0.record_is; written = t.1.write_is }

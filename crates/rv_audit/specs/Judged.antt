@@ -67,14 +67,14 @@ TellsRow k earlier row (Some fault.Stop) = HoldsRightly k earlier row × Fetches
 TellsRow k earlier row (Some fault.Commit) = ⊥
 TellsRow k earlier row (Some fault.Write) = ⊥
 
--- of a row behind a stop, which is not right: the first respect in which it is not
+-- of a row that moves rightly behind a stop, which is not right: the first respect in which it is not
 abbrev pub TellsBehind : Setting → List Row → Row → Fault → Type 0
 TellsBehind k earlier row fault.Moves = ⊥
-TellsBehind k earlier row fault.Hold = ⊥
-TellsBehind k earlier row fault.Fetch = FetchesRightly k earlier row → ⊥
-TellsBehind k earlier row fault.Successor = ⊥
-TellsBehind k earlier row fault.Unit = FetchesRightly k earlier row × (WritesUnit k earlier row → ⊥)
-TellsBehind k earlier row fault.Stop = FetchesRightly k earlier row × WritesUnit k earlier row
+TellsBehind k earlier row fault.Hold = HoldsRightly k earlier row → ⊥
+TellsBehind k earlier row fault.Fetch = HoldsRightly k earlier row × (FetchesRightly k earlier row → ⊥)
+TellsBehind k earlier row fault.Successor = HoldsRightly k earlier row × FetchesRightly k earlier row × (SucceedsRightly k earlier row → ⊥)
+TellsBehind k earlier row fault.Unit = HoldsRightly k earlier row × FetchesRightly k earlier row × SucceedsRightly k earlier row × (WritesUnit k earlier row → ⊥)
+TellsBehind k earlier row fault.Stop = HoldsRightly k earlier row × FetchesRightly k earlier row × SucceedsRightly k earlier row × WritesUnit k earlier row
 TellsBehind k earlier row fault.Commit = ⊥
 TellsBehind k earlier row fault.Write = ⊥
 

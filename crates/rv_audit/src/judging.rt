@@ -1,4 +1,4 @@
-ghost use Rattle.std.specs.Prelude.{◌≡◌, ◌<◌, ◌^◌, ℕ, List, None, length, IfOk};
+ghost use Rattle.std.specs.Prelude.{◌≡◌, ◌<◌, ◌^◌, ℕ, List, None, true, is_some, get_or, length, IfOk};
 ghost use Rattle.ix_eval.specs.Scratches.{IsScratchOf};
 ghost use Rattle.rv_trace.specs.declared.row.Row.{Row as RowValue};
 ghost use Rattle.rv_trace.specs.Trace.{newest, retirements};
@@ -8,6 +8,7 @@ ghost use Rattle.rv_reader.specs.Forms.{IsRow};
 ghost use Rattle.rv_kinds.specs.Kinds.{MovesRightly};
 ghost use Rattle.rv_kinds.specs.Made.{row_of};
 ghost use Rattle.rv_known.specs.Known.{IsKnown};
+ghost use Rattle.rv_holdings.specs.Expected.{IsStopper, AsksAtRead};
 ghost use Rattle.rv_made.specs.Due.{IsDue};
 ghost use Rattle.rv_made.specs.Making.{IsWriting};
 ghost use Rattle.rv_watch.specs.Watched.{setting_of, tree_of, IsFitting, IsWatched};
@@ -15,17 +16,21 @@ ghost use Rattle.rv_audit.specs.Judged.{is_done as specified_is_done, retires_st
 
 use ix_bits::Memory;
 use ix_eval::Scratch;
+use rv_asks::Asks;
 use rv_fit::settings_fit;
-use rv_holdings::{holds_rightly, is_held};
+use rv_holdings::{holds_behind, holds_rightly, is_held};
 use rv_kinds::kinds_are_lawful;
-use rv_known::Known;
+use rv_known::{Known, Owed};
 use rv_made::{Due, Page, made};
-use rv_marks::{fetches_rightly, moves_rightly, stops_rightly, succeeds_rightly, unit_rightly};
+use rv_marks::{
+    fetches_rightly, is_cell_stop, moves_rightly, stops_rightly, succeeds_behind, succeeds_rightly,
+    unit_rightly,
+};
 use rv_owing::owing_facts;
 use rv_seen::places;
 use rv_seq::StepAnswer;
 use rv_shown::ShownRow;
-use rv_trace::Row;
+use rv_trace::{Cell, Row};
 use rv_watch::{Against, Watch, known, ready};
 
 /// In what respect a row is not right.
@@ -41,14 +46,64 @@ pub enum Fault {
     Write,
 }
 
-// Behind a stop a row is never right.
-fn behind_stop(against: &Against, watch: &Watch, row: &Row) -> Fault
-    ensures { (rows : List RowValue) → IsWatched against.now rows watch.now → TellsBehind (setting_of against.now) rows row.now result }
+// What stands in a stage.
+fn cell_at(row: &Row, stage: usize) -> Option<Cell>
+    ensures { result ≡ get_or row.now.cells stage None }
 {
+    match row.cells.get(stage) {
+        None => None,
+        Some(cell) => *cell,
+    }
+}
+
+// The instruction that stopped the run in this row, where no fetch did.
+fn stopper(against: &Against, before: &Row) -> Option<Owed>
+    requires fits { IsFitting against.now }
+    ensures { (rows : List RowValue) → newest rows ≡ before.now → IsStopper (setting_of against.now) rows result }
+{
+    if !is_cell_stop(before.stop) {
+        return None;
+    }
+    match cell_at(before, usize::from(against.design.sheet.shape.ex)) {
+        None => None,
+        Some(cell) => Some(Owed {
+            serial: cell.serial,
+            asks: against.asks(cell.word),
+        }),
+    }
+}
+
+// What the instruction at RD asks for; that of word 0 where none stands there.
+fn asked_at_read(against: &Against, row: &Row) -> Asks
+    requires fits { IsFitting against.now }
+    ensures { AsksAtRead (setting_of against.now) row.now result }
+{
+    match cell_at(row, usize::from(against.design.sheet.shape.rd)) {
+        None => against.asks(0),
+        Some(cell) => against.asks(cell.word),
+    }
+}
+
+// The first respect in which a row is not right that moves rightly behind a stop: there it is wrong
+// in its stop at the latest.
+fn behind_stop(against: &Against, watch: &Watch, row: &Row) -> Fault
+    requires fits { IsFitting against.now }
+    ensures { (rows : List RowValue) → IsWatched against.now rows watch.now → is_some (newest rows).stop ≡ true → MovesRightly (setting_of against.now) rows row.now → TellsBehind (setting_of against.now) rows row.now result }
+{
+    settings_fit();
+    owing_facts();
     let shape = against.design.sheet.shape;
     let known = ready(watch);
+    let asks = asked_at_read(against, row);
+    let stopped = stopper(against, &watch.before);
+    if !holds_behind(shape, &asks, stopped, row) {
+        return Fault::Hold;
+    }
     if !fetches_rightly(shape, &known, against.image, &watch.before, row) {
         return Fault::Fetch;
+    }
+    if !succeeds_behind(row) {
+        return Fault::Successor;
     }
     if !unit_rightly(&known, row) {
         return Fault::Unit;

@@ -55,6 +55,7 @@ module _ (d : Design) (image waits : List ℕ) where
         no_line = refl;
         rd_pos = law.reads_late;
         rd_ex = law.reads_first;
+        ex_near = law.reads_near;
         ex_mem = law.memory_late;
         mem_last = omega (arith, b);
         most = law.most;

@@ -1,13 +1,16 @@
 mod Tests
 mod FirstFrom
 mod Ordering
-mod Above
+pub mod Above
 mod Past
 mod Beside
 mod Each
 mod Least
 mod Judged
+mod Numbered
 mod Reading
 mod Executing
 mod Ending
+mod Showing
 mod Whole
+mod Stopped

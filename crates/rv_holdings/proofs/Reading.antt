@@ -1,11 +1,10 @@
 -- The holds of a cell at RD: an operand that is not there yet, and an outstanding register.
-use Rattle.std.proofs.Common.{◌≡◌, ◌≢◌, ℕ, ◌+◌, ◌-◌, ◌<◌, ◌≤◌, List, ◌∷◌, Option, Some, None, Bool, true, false, refl, sym, ap, ◌∙◌, subst, arith, ◌⊎◌, inl, inr}
+use Rattle.std.proofs.Common.{◌≡◌, ◌≢◌, ℕ, ◌+◌, ◌<◌, ◌≤◌, List, ◌∷◌, Option, Some, None, Bool, true, false, refl, sym, ap, ◌∙◌, subst, arith, ◌⊎◌, inl, inr}
 use Rattle.std.specs.Prelude.{◌&&◌, ◌||◌, not, if◌then◌else◌, ◌==◌, nat_lt, slice_get, min, max}
 use Rattle.std.specs.Option.{option_or}
 use Rattle.std.proofs.lemmas.Bool.{cases_lt}
 use Rattle.std.proofs.lemmas.Bool.Decides.{nat_tests}
 use Rattle.ix_plan.specs.declared.design.Target.{Target}
-use Rattle.ix_plan.specs.declared.design.Target.TheVariants.{X}
 use Rattle.ix_plan.specs.declared.design.Target.TheVariants as target
 use Rattle.rv_asks.specs.declared.asks.Asks.{Asks}
 use Rattle.rv_trace.specs.declared.row.Cell.{Cell}
@@ -13,7 +12,7 @@ use Rattle.rv_trace.specs.declared.row.Hold.{Hold}
 use Rattle.rv_trace.specs.declared.row.Hold.TheVariants.{Operand, Board}
 use Rattle.rv_trace.specs.declared.row.Row.{Row}
 use Rattle.rv_trace.specs.Trace.{has_serial, is_retired}
-use Rattle.rv_trace.specs.RowParts.{ComesFirst, target_number}
+use Rattle.rv_trace.specs.RowParts.{ComesFirst}
 use Rattle.rv_lawful.specs.Settings.{Setting, Stands}
 use Rattle.rv_lawful.specs.Outstanding.{has_target, touches, is_written}
 use Rattle.rv_lawful.specs.LawfulTrace.{IsWordOf, reads_of, WaitsForOperand, WaitsForWrite}
@@ -28,7 +27,8 @@ use Rattle.rv_holdings.proofs.Above.{Meets, OldestIs, oldest_is, both, and_both,
 use Rattle.rv_holdings.proofs.Past.{unflushed_both}
 use Rattle.rv_holdings.proofs.Beside.{Owes, FirstOwes, first_owes}
 use Rattle.rv_holdings.proofs.FirstFrom.{registers}
-use Rattle.rv_holdings.proofs.Least.{OneIs, FirstIs, first_is}
+use Rattle.rv_holdings.proofs.Least.{OneIs, first_is}
+use Rattle.rv_holdings.proofs.Numbered.{Numbered, made, board_of}
 use Rattle.rv_holdings.proofs.Ordering.{operand_kind, board_kind, FirstIn, one_kind}
 use Rattle.rv_holdings.proofs.Judged.{IsJudged, one_place, word_before, ascending, of_owed, to_owed, of_listed, falls, above_zero, older_of, unretired_of, word_of, from_word, owed_older, owed_first}
 use Rattle.rv_holdings.proofs.Tests.{same_number, number_same, differs, differ, not_true, not_false, true_not}
@@ -68,29 +68,6 @@ most_reads reg a b ne e = grind (arith, nat_tests)
 least_below : (reg a b : ℕ) → (reg ≡ min a b) ⊎ (reg ≡ max a b) → min a b ≤ reg
 least_below reg a b (inl e) = omega (arith, e)
 least_below reg a b (inr e) = omega (arith, e)
-
--- Registers and their numbers
-
-number_at : (n : ℕ) → target_number (register_at n) ≡ n
-number_at n = by_case (nat_lt n 32) refl where
-  by_case : (b : Bool) → nat_lt n 32 ≡ b → target_number (if b then X n else target.Custom (n - 32)) ≡ n
-  by_case true e = refl
-  by_case false e = above n e where
-    above : (n : ℕ) → nat_lt n 32 ≡ false → 32 + (n - 32) ≡ n
-    above n e = grind (arith, nat_tests)
-
-pub x_at : (r : ℕ) → r < 32 → X r ≡ register_at r
-x_at r lt = ap (λ (b : Bool). if b then X r else target.Custom (r - 32)) (low r lt) where
-  low : (r : ℕ) → r < 32 → true ≡ nat_lt r 32
-  low r lt = grind (arith, nat_tests)
-
-pub custom_at : (c : ℕ) → target.Custom c ≡ register_at (32 + c)
-custom_at c = ap (λ n. target.Custom n) same ∙ ap (λ (b : Bool). if b then X (32 + c) else target.Custom (32 + c - 32)) (high c) where
-  same : c ≡ 32 + c - 32
-  same = omega arith
-
-  high : (c : ℕ) → false ≡ nat_lt (32 + c) 32
-  high c = grind (arith, nat_tests)
 
 module _ (k : Setting) (earlier : List Row) (row : Row) (known : Known) (owed : List Owed) (is : IsJudged k earlier row known owed) (stage : ℕ) (c : Cell) (stands : Stands k row stage c) where
   abbrev older : Older
@@ -301,53 +278,12 @@ module _ (k : Setting) (earlier : List Row) (row : Row) (known : Known) (owed : 
         by_case None (Some i) f g = (inr g.0, λ j s. elim s [ inl x ↦ absurd (f j x) | inr x ↦ g.1 j x ])
         by_case (Some i) p f g = (inl f.0, λ j s. elim s [ inl x ↦ f.1 j x | inr x ↦ owed_before up n n i j f.0 x ])
 
-  abbrev Numbered : ℕ → ℕ → Type 0
-  Numbered n j = Writes (register_at n) j
-
-  abbrev made : ℕ → ℕ → Hold
-  made n j = Board (register_at n) j
-
-  one_board : (up : 0 < stage) → stage ≡ k.shape.rd → (n : ℕ) → OneIs Numbered made n (board_at k.shape row owed a older n)
+  one_board : (up : 0 < stage) → stage ≡ k.shape.rd → (n : ℕ) → OneIs (Numbered k earlier row is.names stage c) (made k earlier row is.names stage c) n (board_at k.shape row owed a older n)
   one_board up at n = by_case (touches a (register_at n)) refl (spawner k.shape row owed older n) (spawner_is up n) where
-    by_case : (b : Bool) → touches a (register_at n) ≡ b → (o : Option ℕ) → SpawnerIs n o → OneIs Numbered made n (if b then board n o else None)
+    by_case : (b : Bool) → touches a (register_at n) ≡ b → (o : Option ℕ) → SpawnerIs n o → OneIs (Numbered k earlier row is.names stage c) (made k earlier row is.names stage c) n (if b then board n o else None)
     by_case true e None f = λ j w. f j (from_write up n j w)
     by_case true e (Some i) f = (i, refl, to_write up n i at e f.0, λ j w. f.1 j (from_write up n j w))
     by_case false e o f = λ j w. differ (touches a (register_at n)) w.touches e
-
-  -- each register has a number below 48
-  numbered : (t : Target) (j : ℕ) → Writes t j → (n : ℕ) × (n < 48) × (t ≡ register_at n)
-  numbered (X r) j w = let lt = is.names.spawned w.spawns.0 r w.spawns.2 in (r, omega (arith, lt), x_at r lt)
-  numbered (target.Custom q) j w = let lt = is.names.customs c.word q w.touches in (32 + q, omega (arith, lt), custom_at q)
-
-  board_of : (o : Option Hold) → FirstIs Numbered made 0 48 o → FirstIn Own 1 2 o
-  board_of None u = λ h l m own.
-      let x = board_kind h (one_kind 1 _ l m) in
-      let w = subst (λ y. Own y) x.2 own in
-      let n = numbered x.0 x.1 w in
-      u n.0 x.1 (omega arith) (let lt = n.1 in omega (arith, lt)) (subst (λ t. Writes t x.1) n.2 w)
-  board_of (Some h) u =
-      subst (λ y. FirstIn Own 1 2 (Some y)) (sym u.2) (
-        omega arith,
-        omega arith,
-        u.3,
-        λ g l m own.
-            let x = board_kind g (one_kind 1 _ l m) in
-            let w = subst (λ y. Own y) x.2 own in
-            let n = numbered x.0 x.1 w in
-            subst (λ y. ComesFirst (Board (register_at u.0) u.1) y) (sym x.2)
-            (inr (refl, named x.0 n.0 x.1 n.2 (u.5 n.0 x.1 (omega arith) (let lt = n.1 in omega (arith, lt)) (subst (λ t. Writes t x.1) n.2 w)))),
-      ) where
-        named : (t : Target) (n j : ℕ) → t ≡ register_at n → (u.0 < n) ⊎ ((u.0 ≡ n) × (u.1 ≤ j))
-            → (target_number (register_at u.0) < target_number t) ⊎ ((target_number (register_at u.0) ≡ target_number t) × (u.1 ≤ j))
-        named t n j same (inl lt) =
-            let p = number_at u.0 in
-            let q = ap target_number same ∙ number_at n in
-            inl (omega (arith, p, q, lt))
-        named t n j same (inr e) =
-            let p = number_at u.0 in
-            let q = ap target_number same ∙ number_at n in
-            let r = e.0 in
-            inr (omega (arith, p, q, r), e.1)
 
   pub board_where : FirstIn Own 1 2 (board_hold k.shape row owed stage a older)
   board_where = by_case (stage == k.shape.rd) refl where
@@ -355,5 +291,5 @@ module _ (k : Setting) (earlier : List Row) (row : Row) (known : Known) (owed : 
     by_case true e =
         let at = same_number stage k.shape.rd e in
         subst (λ n. FirstIn Own 1 2 (first_from (board_at k.shape row owed a older) 0 n)) (sym registers)
-        (board_of (first_from (board_at k.shape row owed a older) 0 48) (first_is Numbered made (board_at k.shape row owed a older) (one_board (above_rd at) at) 0 48))
+        (board_of k earlier row is.names stage c (first_from (board_at k.shape row owed a older) 0 48) (first_is (Numbered k earlier row is.names stage c) (made k earlier row is.names stage c) (board_at k.shape row owed a older) (one_board (above_rd at) at) 0 48))
     by_case false e = λ h l m own. let x = board_kind h (one_kind 1 _ l m) in let w = subst (λ y. Own y) x.2 own in differs stage k.shape.rd e w.reading

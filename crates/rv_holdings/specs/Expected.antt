@@ -10,8 +10,9 @@ use Rattle.rv_trace.specs.declared.row.Cell.{Cell}
 use Rattle.rv_trace.specs.declared.row.Row.{Row}
 use Rattle.rv_trace.specs.declared.row.Hold.{Hold}
 use Rattle.rv_trace.specs.declared.row.Hold.TheVariants.{Operand, Board, Custom, Late, Drain, Wait, StoreAhead, Tail, UnitFull, Port, Behind}
-use Rattle.rv_trace.specs.Trace.{has_serial, retires}
-use Rattle.rv_lawful.specs.Settings.{Setting}
+use Rattle.rv_trace.specs.Trace.{has_serial, retires, newest}
+use Rattle.rv_lawful.specs.Settings.{Setting, Stands}
+use Rattle.rv_lawful.specs.LawfulTrace.{reads_of}
 use Rattle.rv_lawful.specs.Outstanding.{is_register, has_target, touches, is_serial, serial_written}
 use Rattle.rv_kinds.specs.Kinds.{is_of_cell}
 use Rattle.rv_known.specs.declared.known.Known.{Known}
@@ -245,3 +246,44 @@ IsRightAt k row known owed stage =
 
 abbrev pub AreRight : Shape → Row → Known → List Owed → Type 0
 AreRight k row known owed = (stage : ℕ) → stage < 5 → IsRightAt k row known owed stage
+
+-- Behind a stop
+
+-- this is the instruction that stopped the run; there is none where a fetch did
+abbrev pub IsStopper : Setting → List Row → Option Owed → Type 0
+IsStopper k rows stopped =
+    ((c : Cell) → is_of_cell (newest rows).stop ≡ true → Stands k (newest rows) k.shape.ex c → stopped ≡ Some (record { serial = c.serial; asks = k.asks c.word }))
+    × (is_of_cell (newest rows).stop ≡ false → stopped ≡ None)
+
+-- this is what the instruction at RD asks for
+abbrev pub AsksAtRead : Setting → Row → Asks → Type 0
+AsksAtRead k row a = (c : Cell) → Stands k row k.shape.rd c → a ≡ k.asks c.word
+
+-- the x register of the one that stopped is not there yet for a younger one: on a core that forwards it has to stand in EX, before the time of the write
+abbrev pub is_withheld : Shape → Row → Owed → Bool
+is_withheld k row o = not k.forward || (is_some (get_or row.cells k.ex None) && not (nat_lt o.asks.x_time k.ex))
+
+-- the instruction waits for that register
+abbrev pub operand_behind : Shape → Row → Asks → Owed → Option Hold
+operand_behind k row a o = if reads_of a o.asks.destination && is_withheld k row o then Some (Operand o.asks.destination o.serial) else None
+
+-- or for one that it has as `spawn` target
+abbrev pub board_behind : Shape → Row → Asks → Owed → Option Hold
+board_behind k row a o = first_from (board_at k row [] a (Some o ∷ [])) 0 register_count
+
+-- the first true hold but Behind of what stands in a stage: nothing but the one that stopped is waited for, and only at RD below EX
+abbrev pub own_behind : Shape → Row → ℕ → Asks → Option Owed → Option Hold
+own_behind k row stage a None = None
+own_behind k row stage a (Some o) =
+    if (stage == k.rd) && (nat_lt stage k.ex && not (has_serial row.flushed o.serial)) then option_or (operand_behind k row a o) (board_behind k row a o) else None
+
+abbrev pub expected_behind : Shape → Row → ℕ → Asks → Option Owed → Option Hold
+expected_behind k row stage a stopped = option_or (own_behind k row stage a stopped) (behind_hold k row stage)
+
+-- the cell of a stage shows it, where it is not flushed and does not stop the run
+abbrev pub IsRightBehind : Shape → Row → Asks → Option Owed → ℕ → Type 0
+IsRightBehind k row a stopped stage =
+    stage < k.stages → (c : Cell) → get_or row.cells stage None ≡ Some c → has_serial row.flushed c.serial ≡ false → does_stop k row stage ≡ false → c.hold ≡ expected_behind k row stage a stopped
+
+abbrev pub AreRightBehind : Shape → Row → Asks → Option Owed → Type 0
+AreRightBehind k row a stopped = (stage : ℕ) → stage < 5 → IsRightBehind k row a stopped stage

@@ -79,7 +79,8 @@ fn board_of(
     }
 }
 
-fn least_board(
+/// The hold of an instruction that waits for an outstanding register, the least one first.
+pub fn least_board(
     shape: Shape,
     row: &Row,
     owed: &[Owed],

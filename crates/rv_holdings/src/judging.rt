@@ -25,7 +25,7 @@ fn is_of_cell(stop: Option<Stop>) -> bool
 }
 
 /// Whether the row says that what stands in this stage stops the run.
-fn stops(shape: Shape, row: &Row, stage: usize) -> bool
+pub fn stops(shape: Shape, row: &Row, stage: usize) -> bool
     ensures { result ≡ does_stop shape row.now stage }
 {
     stage == usize::from(shape.ex) && is_of_cell(row.stop)
@@ -48,7 +48,8 @@ fn is_blocked(shape: Shape, row: &Row, stage: usize) -> bool
     stage + 1 < usize::from(shape.stages) && blocks(shape, row, stage + 1, row.cells[stage + 1])
 }
 
-fn behind(shape: Shape, row: &Row, stage: usize) -> Option<Hold>
+/// Behind, where the next stage has a cell that is held or stops the run.
+pub fn behind(shape: Shape, row: &Row, stage: usize) -> Option<Hold>
     ensures { result ≡ behind_hold shape row.now stage }
 {
     if stage < 4 && is_blocked(shape, row, stage) {
@@ -88,7 +89,8 @@ fn expected(
     own.or(behind(shape, row, stage))
 }
 
-fn is_same(one: Option<Hold>, other: Option<Hold>) -> bool
+/// Whether they are the same.
+pub fn is_same(one: Option<Hold>, other: Option<Hold>) -> bool
     ensures only { result ≡ true → one ≡ other }
     ensures all { one ≡ other → result ≡ true }
 {

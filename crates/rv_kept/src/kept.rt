@@ -108,8 +108,8 @@ fn tailed_then(number: u32, before: Option<Cell>, now: Option<Cell>) -> u32
     }
 }
 
-/// What is kept with one row more, behind which this address is fetched where the row names none. Each
-/// number kept is below 2^31, and so is each serial.
+/// What is kept with one row more, behind which this address is fetched where the row names none.
+/// Each number kept is below 2^31, and so is each serial.
 pub fn keep(shape: Shape, kept: Kept, before: &Row, row: &Row, plain: u32) -> Kept
     requires stages { 0 < shape.stages }
     requires most { shape.stages ≤ 5 }

@@ -8,3 +8,4 @@ pub mod Moving
 pub mod Together
 pub mod Making
 pub mod Lawful
+pub mod Behind

@@ -15,7 +15,7 @@ use Rattle.rv_rows.specs.Facts.{IsPlain, AreGoingOn, AboveFacts, FirstFacts, Row
 use Rattle.rv_kinds.specs.Kinds.{is_of_cell, IsStopped, GoesOnAs, DoesOne, MovesRightly, SettlesMarked, IsMarkedMismatch, SucceedsRightly, RowKinds}
 use Rattle.rv_kinds.specs.Laws.{AreEmptyUnits}
 use Rattle.rv_kinds.proofs.Stopping as S
-use Rattle.rv_kinds.proofs.Fetching.{Flusher, flushed_both, left_unflushed}
+use Rattle.rv_kinds.proofs.Fetching.{Flusher, left_unflushed}
 use Rattle.rv_kinds.proofs.Fetching as F
 use Rattle.rv_kinds.proofs.Holding as H
 use Rattle.rv_kinds.proofs.Moving.{above_of, kept_of, fetched_of, moves_of}
@@ -178,9 +178,9 @@ module _ (k : Setting) (earlier : List Row) (row : Row) (plain : IsPlain k) (emp
     pub kinds : RowKinds k earlier row
     kinds = record {
       moves = moves;
-      holds = λ g. H.holds_up k earlier row plain empty first lawful.units marked stopped lawful.holds;
+      holds = H.holds_up k earlier row plain empty first lawful.units marked stopped lawful.holds;
       fetches = λ e. fetched_of (newest earlier) (new_cell k earlier) (stages_of k (newest earlier)) (stages_of k row) lawful.moves long_before e;
-      succeeds = λ g. succeeds;
+      succeeds = succeeds;
       units = lawful.units;
       stops = record { stops = lawful.stops; going = going.going };
     }
@@ -206,7 +206,7 @@ module _ (k : Setting) (earlier : List Row) (row : Row) (plain : IsPlain k) (emp
 
     flushers' : (s : ℕ) → has_serial row.flushed s ≡ true → Flusher k earlier row
     flushers' s h =
-        let x = (kinds.succeeds going.going).flushed_only s h in
+        let x = kinds.succeeds.flushed_only s h in
         record { stage = x.0; cell = x.1; stands = x.4.stands; settling = x.4.settles.settling; leaving = x.4.settles.leaves; runs = λ e stop r. x.4.settles.runs e stop r.due }
 
     not_fetch' : (stage : ℕ) (c : Cell) (stop : Stop) → Stands k row stage c → StopsRun k earlier row stage c stop → stop ≡ Fetch → ⊥
@@ -219,7 +219,7 @@ module _ (k : Setting) (earlier : List Row) (row : Row) (plain : IsPlain k) (emp
     stopped' = S.stopped k earlier row kinds.stops.stops not_fetch'
 
     holds' : (stage : ℕ) (c : Cell) → Stands k row stage c → ShowsHold k earlier row stage c
-    holds' = H.holds_down k earlier row plain empty first' kinds.units marked' stopped' kinds.moves.one (kinds.holds going.going)
+    holds' = H.holds_down k earlier row plain empty first' kinds.units marked' stopped' kinds.moves.one kinds.holds
 
     settles_down' : (stage : ℕ) (c : Cell) → Stands k row stage c → SettlesMarked k earlier row stage c → Settles k earlier row stage c
     settles_down' stage c s settles = record { settling = settles.settling; leaves = settles.leaves; runs = λ stop r. settles.unstopped (marked' stage c stop s r) }
@@ -253,12 +253,12 @@ module _ (k : Setting) (earlier : List Row) (row : Row) (plain : IsPlain k) (emp
       retires = kinds.moves.retires;
       holds = holds';
       successors = record {
-        flushes = λ stage c m. (kinds.succeeds going.going).flushes stage c (mismatch_up' stage c m);
-        named = λ e stage c m. (kinds.succeeds going.going).named stage c (mismatch_up' stage c m);
-        alone = λ e stage c s t. (kinds.succeeds going.going).alone stage c s (settles_up' stage c s t);
-        flushed_only = λ s h. let x = (kinds.succeeds going.going).flushed_only s h in inl (x.0, x.1, x.2, x.3, mismatch_down' x.0 x.1 x.4, x.5, x.6, x.7);
+        flushes = λ stage c m. kinds.succeeds.flushes stage c (mismatch_up' stage c m);
+        named = λ e stage c m. kinds.succeeds.named stage c (mismatch_up' stage c m);
+        alone = λ e stage c s t. kinds.succeeds.alone stage c s (settles_up' stage c s t);
+        flushed_only = λ s h. let x = kinds.succeeds.flushed_only s h in inl (x.0, x.1, x.2, x.3, mismatch_down' x.0 x.1 x.4, x.5, x.6, x.7);
         named_only = λ a e q.
-            let x = (kinds.succeeds going.going).named_only a q in
+            let x = kinds.succeeds.named_only a q in
             (x.0, x.1, x.2, settles_down' x.0 x.1 x.2 x.3, x.4, elim x.5 [ inl m ↦ inl (mismatch_down' x.0 x.1 m) | inr n ↦ inr n ]);
       };
       units = kinds.units;

@@ -208,12 +208,12 @@ pub data Kind : Type 0 where
   of_commit : Kind
   of_write : Kind
 
--- what a text shows of a row is right in this respect, behind these rows; behind a stop neither holds nor successors are looked at
+-- what a text shows of a row is right in this respect, behind these rows, whether one of them stops or not
 abbrev pub IsRight : Setting → List Row → Shown → Kind → Type 0
 IsRight k earlier s of_moves = MovesRightly k earlier (row_of k earlier s)
-IsRight k earlier s of_hold = (newest earlier).stop ≡ None → HoldsRightly k earlier (row_of k earlier s)
+IsRight k earlier s of_hold = HoldsRightly k earlier (row_of k earlier s)
 IsRight k earlier s of_fetch = FetchesRightly k earlier (row_of k earlier s)
-IsRight k earlier s of_successor = (newest earlier).stop ≡ None → SucceedsRightly k earlier (row_of k earlier s)
+IsRight k earlier s of_successor = SucceedsRightly k earlier (row_of k earlier s)
 IsRight k earlier s of_unit = WritesUnit k earlier (row_of k earlier s)
 IsRight k earlier s of_stop = StopsInPlace k earlier (row_of k earlier s)
 IsRight k earlier s of_commit = RetiresRightly k earlier s
@@ -222,9 +222,9 @@ IsRight k earlier s of_write = WritesRightly k earlier s
 -- a row is right in each respect in which it can be judged without the lines of its writes
 pub record RowKinds (k : Setting) (earlier : List Row) (row : Row) : Type 0 where
   pub moves : MovesRightly k earlier row
-  pub holds : (newest earlier).stop ≡ None → HoldsRightly k earlier row
+  pub holds : HoldsRightly k earlier row
   pub fetches : FetchesRightly k earlier row
-  pub succeeds : (newest earlier).stop ≡ None → SucceedsRightly k earlier row
+  pub succeeds : SucceedsRightly k earlier row
   pub units : WritesUnit k earlier row
   pub stops : StopsInPlace k earlier row
 

@@ -147,8 +147,9 @@ fn written_made(
     }
 }
 
-/// The row of which a text shows this, on a core of this shape: words are the image's, what is retired is the record of the next step
-/// of the run, and what is written is what the run writes for the serial that is due. It takes no memory.
+/// The row of which a text shows this, on a core of this shape: words are the image's, what is retired
+/// is the record of the next step of the run, and what is written is what the run writes for the
+/// serial that is due. It takes no memory.
 pub fn made(
     shape: Shape,
     image: &[u32],

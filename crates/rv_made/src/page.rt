@@ -1,4 +1,4 @@
-ghost use Rattle.std.specs.Prelude.{◌≡◌, ◌+◌, ◌-◌, ◌≤◌, ◌++◌, take, drop, length, true, IfOk, OnOk, Some};
+ghost use Rattle.std.specs.Prelude.{◌≡◌, ◌+◌, ◌-◌, ◌≤◌, ◌++◌, take, drop, length, true, [], IfOk, OnOk, Some};
 ghost use Rattle.rv_trace.specs.TraceText.{retired_text, written_text};
 ghost use Rattle.rv_shown.specs.Shown.{part_of};
 ghost use Rattle.rv_made.specs.Making.{retiring_with};
@@ -13,8 +13,8 @@ use std::alloc::Global;
 /// The most bytes that a line takes, with what is printed beside it.
 const LINE: u32 = 1024;
 
-/// A page on which lines are printed to be compared with those of a text. It takes 65,536 bytes of memory, and where a line may not fit
-/// any more another page takes its place.
+/// A page on which lines are printed to be compared with those of a text. It takes 65,536 bytes of
+/// memory, and where a line may not fit any more another page takes its place.
 #[derive(Drop)]
 pub struct Page {
     alloc: Global,
@@ -79,7 +79,8 @@ fn is_on_page(line: &[u8], page: &[u8], start: usize, end: usize, from: usize) -
     is_both(line, &page[start..end], &page[from..])
 }
 
-// Is it the line of these writes? It is that of what retires with them, but for what stands before its writes.
+// Is it the line of these writes? It is that of what retires with them, but for what stands before
+// its writes.
 fn is_line_of(out: &mut Out, line: &[u8], writes: &(u32, u8, Slot<u32>, [Slot<Bits>; 16])) -> bool
     requires { length out.old + 1024 ≤ 65536 }
     ensures to { result ≡ true → line.now ≡ written_text (Some writes.now) }
@@ -98,7 +99,9 @@ fn is_line_of(out: &mut Out, line: &[u8], writes: &(u32, u8, Slot<u32>, [Slot<Bi
 
 impl Page {
     /// An empty page.
-    pub fn new(alloc: Global) -> Result<Page, Memory> {
+    pub fn new(alloc: Global) -> Result<Page, Memory>
+        ensures { IfOk result (λ page. page.out ≡ []) }
+    {
         let out = Out::new(alloc)?;
         Ok(Page { alloc, out })
     }

@@ -4,3 +4,4 @@ mod Fetched
 mod Younger
 mod Succeeded
 mod Stopped
+mod Stilled

@@ -122,3 +122,15 @@ same_serial None None = true
 same_serial None (Some t) = false
 same_serial (Some s) None = false
 same_serial (Some s) (Some t) = s == t
+
+-- Behind a stop
+
+-- none of these is there
+abbrev pub no_marks : List (Option ℕ) → Bool
+no_marks [] = true
+no_marks (None ∷ rest) = no_marks rest
+no_marks (Some s ∷ rest) = false
+
+-- the row flushes nothing and names no address
+abbrev pub is_still : Row → Bool
+is_still row = no_marks row.flushed && is_none row.redirect

@@ -4,10 +4,12 @@
 mod fetching;
 mod moving;
 mod names;
+mod still;
 mod stopping;
 mod succeeding;
 
 pub use fetching::{fetches_rightly, unit_rightly};
-pub use moving::moves_rightly;
+pub use moving::{is_cell_stop, moves_rightly};
+pub use still::succeeds_behind;
 pub use stopping::stops_rightly;
 pub use succeeding::succeeds_rightly;

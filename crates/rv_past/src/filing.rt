@@ -58,7 +58,8 @@ fn put_block(register: &mut Bits, block: &Option<Bits>)
     }
 }
 
-// Writes what a cell writes to a custom register as it leaves EX: the blocks alone, where its own write is still to come.
+// Writes what a cell writes to a custom register as it leaves EX: the blocks alone, where its own
+// write is still to come.
 fn put_early_in(register: &mut Bits, is_pending: bool, block: &Option<Bits>, slot: &Slot<Bits>)
     ensures { register.new ≡ with_slot register.old (if is_pending then slot_of block.now else slot.now) }
 {
@@ -138,7 +139,8 @@ fn put_unit(written: &Option<(u32, u8, Slot<u32>, [Slot<Bits>; 16])>, file: &mut
     }
 }
 
-/// Makes what a row writes in the future file: what a unit writes, what retires writes late, and what the cell that leaves EX writes.
+/// Makes what a row writes in the future file: what a unit writes, what retires writes late, and what
+/// the cell that leaves EX writes.
 pub fn file_row(row: &Row, cell: Option<Cell>, retired: &Due, executed: &Due, file: &mut [Bits; 16])
     ensures { file.new ≡ early_by executed.now cell (late_by retired.now row.now.retired (after_unit row.now.written file.old)) }
 {

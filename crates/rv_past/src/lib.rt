@@ -1,4 +1,5 @@
-//! The architectural state behind the rows so far, their future file, and the address that is fetched where a row names none.
+//! The architectural state behind the rows so far, their future file, and the address that is
+//! fetched where a row names none.
 #![tactic(auto)]
 
 mod filing;
@@ -9,3 +10,4 @@ mod paying;
 
 pub use laws::sound_steps;
 pub use past::Past;
+pub use paying::{pay_written, retire};

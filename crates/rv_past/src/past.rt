@@ -42,8 +42,9 @@ impl Past {
         Ok(Past { arch, file })
     }
 
-    /// The address that is fetched behind a row where the row names none; `fetch` is the address that is fetched in it. The scratch
-    /// is of this extension, and so are the widths of the registers. It takes no memory.
+    /// The address that is fetched behind a row where the row names none; `fetch` is the address that
+    /// is fetched in it. The scratch is of this extension, and so are the widths of the registers. It
+    /// takes no memory.
     pub fn plain(
         &self,
         ext: &Extension,
@@ -64,7 +65,8 @@ impl Past {
         }
     }
 
-    /// One row more, where these are the steps of what it retires and of the cell that leaves EX in it. It takes no memory.
+    /// One row more, where these are the steps of what it retires and of the cell that leaves EX in
+    /// it. It takes no memory.
     pub fn next(&mut self, ext: &Extension, shape: Shape, row: &Row, retired: &Due, executed: &Due)
         requires well_formed { IsWellFormed ext.now }
         requires stored { IsStored row.now.retired }

@@ -27,7 +27,10 @@ fn retire_one(ext: &Extension, due: &Due, commit: &Commit, arch: &mut Arch)
     }
 }
 
-/// Makes what is written at retirement, where this is the step of what retires.
+/// Makes what is written at retirement, where this is the step of what retires: its writes but those
+/// that a unit makes later, its store and its pc, and where it is the return of a handler, what that
+/// restores. Nothing happens where nothing retires. The extension is that of the run, and `retired`
+/// is the serial and the record. It takes no memory and has no errors.
 pub fn retire(ext: &Extension, due: &Due, retired: &Option<(u32, Commit)>, arch: &mut Arch)
     requires well_formed { IsWellFormed ext.now }
     requires stored { IsStored retired.now }
@@ -68,7 +71,9 @@ pub fn put_customs(slots: &[Slot<Bits>; 16], file: &mut [Bits; 16])
     }
 }
 
-/// Makes what a unit writes in a row, if one does.
+/// Makes what a unit writes in a row, if one does: of the serial, the number of an x register, its
+/// value, and the values of the custom registers by number. A slot that has no value now writes
+/// nothing, nor does an x register past the last. It takes no memory and has no errors.
 #[tactic(auto, unfolding(rv_tried::specs::Parts::paid))]
 pub fn pay_written(written: &Option<(u32, u8, Slot<u32>, [Slot<Bits>; 16])>, arch: &mut Arch)
     ensures { arch.new ≡ after_written written.now arch.old }

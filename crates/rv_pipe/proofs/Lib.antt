@@ -1,6 +1,6 @@
 mod Fitting
 mod FewUnits
-mod Nths
+pub mod Nths
 mod Sound
 mod Texts
 pub mod Reaching

@@ -1,11 +1,11 @@
-mod Tests
-mod Places
-mod Coming
-mod Ordered
-mod Placed
-mod Flushed
-mod Known
-mod Knowing
+pub mod Tests
+pub mod Places
+pub mod Coming
+pub mod Ordered
+pub mod Placed
+pub mod Flushed
+pub mod Known
+pub mod Knowing
 mod Standing
 mod Tails
 mod Addresses

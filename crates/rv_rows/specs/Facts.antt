@@ -16,6 +16,7 @@ pub record IsPlain (k : Setting) : Type 0 where
   pub no_line : k.lines ≡ None
   pub rd_pos : 0 < k.shape.rd
   pub rd_ex : k.shape.rd ≤ k.shape.ex
+  pub ex_near : k.shape.ex ≤ k.shape.rd + 1
   pub ex_mem : k.shape.ex < k.shape.mem
   pub mem_last : k.shape.mem < k.shape.stages
   pub most : k.shape.stages ≤ 5

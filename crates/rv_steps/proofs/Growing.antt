@@ -63,7 +63,7 @@ no_trap x image (suc n) =
     ∙ behind_trap (step x image (run x image n)) (run x image n)
     ∙ no_trap x image n
 
-run_more : (x : ExtensionTree) (image : List ℕ) (n : ℕ) → run x image (suc n) ≡ behind (step x image (run x image n)) (run x image n)
+pub run_more : (x : ExtensionTree) (image : List ℕ) (n : ℕ) → run x image (suc n) ≡ behind (step x image (run x image n)) (run x image n)
 unfolding run_with
 run_more x image n = after_is x (step x image (run x image n)) (run x image n) (no_trap x image n)
 

@@ -4,5 +4,5 @@
 mod step;
 mod steps;
 
-pub use step::Step;
+pub use step::{Step, step_of};
 pub use steps::{Steps, one_more};

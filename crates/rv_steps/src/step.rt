@@ -65,7 +65,10 @@ fn nowhere(arch: &Arch, before: u32) -> Step
     }
 }
 
-/// The step of a state of this extension, before which so many accesses were made.
+/// The step of a state of this extension, as `before` steps accessed the memory so far. The image is
+/// in words of 32 bits, the first at address 0, and a pc counts bytes; a pc between words or outside
+/// the image is the step that stops with `Fetch`. The scratch is of this extension. It takes no memory
+/// and has no errors.
 pub fn step_of(
     ext: &Extension,
     image: &[u32],

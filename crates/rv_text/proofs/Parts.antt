@@ -80,6 +80,10 @@ put_word memory out out' count k lt e =
     ∙ sym (append_assoc out (memory_word memory k) (memory_lines memory (count - (k + 1)) (k + 1)))
     ∙ ap (λ l. l ++ memory_lines memory (count - (k + 1)) (k + 1)) (sym e)
 
+-- the same before any rest
+pub before_rest : (out a out' b rest : List ℕ) → out ++ a ≡ out' ++ b → out ++ (a ++ rest) ≡ out' ++ (b ++ rest)
+before_rest out a out' b rest e = sym (append_assoc out a rest) ∙ ap (λ l. l ++ rest) e ∙ append_assoc out' b rest
+
 -- ---- steps
 -- a step goes on
 pub goes : (x : ExtensionTree) (image : List ℕ) (n number : ℕ) (s t : Arch) (c : Commit) (out out' : List ℕ) → step x image s ≡ Done c → out' ≡ out ++ step_line number c → t ≡ after x s (Done c)
@@ -107,9 +111,11 @@ unfolding lines_from
 no_lines x image n number s e = ap (λ m. lines_from x image m number s) e
 
 pub state_is : (x : ExtensionTree) (outstanding : List (ℕ × Target)) (s : Arch) (registers : ℕ) → length x.registers ≡ registers
-    → state_text x outstanding s ≡ head_text registers outstanding s ++ memory_lines s.mem 262144 0
+    → state_text x outstanding s ≡ head_text registers outstanding s ++ (memory_lines s.mem 262144 0 ++ [])
 unfolding state_text
-state_is x outstanding s registers e = ap (λ n. head_text n outstanding s ++ memory_lines s.mem 262144 0) e
+state_is x outstanding s registers e =
+    ap (λ n. head_text n outstanding s ++ memory_lines s.mem 262144 0) e
+    ∙ ap (λ l. head_text registers outstanding s ++ l) (sym (append-nil (memory_lines s.mem 262144 0)))
 
 pub run_is : (x : ExtensionTree) (image : List ℕ) (steps : ℕ) (s : Arch) → s ≡ first x → lines_from x image steps 0 s ≡ run_text x image steps
 unfolding run_text

@@ -48,15 +48,19 @@ abbrev pub outstanding_line : ℕ × Target → List ℕ
 outstanding_line p = codes "o " ++ decimal p.0 ++ codes " " ++ target_text p.1 ++ codes "\n"
 
 -- the pc, the trap state, each x register that is not 0, so many custom registers, and the registers with outstanding writes
-abbrev pub head_text : ℕ → List (ℕ × Target) → Arch → List ℕ
-head_text registers outstanding s =
-    codes "state\npc "
+abbrev pub head_lines : ℕ → List (ℕ × Target) → Arch → List ℕ
+head_lines registers outstanding s =
+    codes "pc "
     ++ hex_word_text s.pc
     ++ codes "\n"
     ++ trap_text s.trap
     ++ registers_text 0 s.x
     ++ custom_lines 0 (take registers s.custom)
     ++ flat_map outstanding_line outstanding
+
+-- the same behind the first line of a state
+abbrev pub head_text : ℕ → List (ℕ × Target) → Arch → List ℕ
+head_text registers outstanding s = codes "state\n" ++ head_lines registers outstanding s
 
 -- an aligned word of the memory that is not 0
 abbrev pub word_line : ℕ → ℕ → List ℕ

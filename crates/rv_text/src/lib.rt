@@ -10,6 +10,6 @@ mod trace_writing;
 
 pub use record_text::{put_step, put_stop_line};
 pub use run_writing::{RunErr, write_run};
-pub use state_text::{put_head, put_memory_word};
-pub use state_writing::{make_room, write_state};
+pub use state_text::{put_head, put_head_lines, put_memory_word};
+pub use state_writing::{make_room, write_memory, write_state};
 pub use trace_writing::write_trace;

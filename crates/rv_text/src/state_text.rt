@@ -1,6 +1,6 @@
 ghost use Rattle.std.specs.Prelude.{◌≡◌, ◌+◌, ◌*◌, ◌<◌, ◌≤◌, ◌^◌, ◌++◌, length, take, decimal, codes};
 ghost use Rattle.std.specs.List.{flat_map};
-ghost use Rattle.rv_text.specs.RunText.{custom_line, custom_lines, flag_text, head_text, memory_word, outstanding_line, trap_text, word_line};
+ghost use Rattle.rv_text.specs.RunText.{custom_line, custom_lines, flag_text, head_lines, head_text, memory_word, outstanding_line, trap_text, word_line};
 
 use ix_bits::Bits;
 use ix_io::Out;
@@ -87,8 +87,25 @@ fn put_outstanding(out: &mut Out, outstanding: &[(u32, Target)])
     }
 }
 
-/// Appends the first lines of a state: the pc, the trap state, if there is one, each x register that is not 0, the extension's custom registers, at most 16, and the
-/// outstanding writes, at most 48. Needs room for 1,964 bytes, and takes no memory.
+/// Appends the lines of a state behind its first one and before those of its memory: the pc, the trap state, if there is one, each x register that is not 0, the extension's custom
+/// registers, at most 16, and the outstanding writes, at most 48. Needs room for 1,958 bytes, and takes no memory.
+pub fn put_head_lines(out: &mut Out, arch: &Arch, registers: usize, outstanding: &[(u32, Target)])
+    requires few { registers ≤ 16 }
+    requires outstanding { length outstanding.now ≤ 48 }
+    requires room { length out.old + 1958 ≤ 65536 }
+    ensures text { out.new ≡ out.old ++ head_lines registers outstanding.now arch.now }
+    ensures few { length out.new ≤ length out.old + 1958 }
+{
+    out.text("pc ");
+    put_word(out, arch.pc);
+    out.text("\n");
+    put_trap(out, arch.trap);
+    put_registers(out, &arch.x);
+    put_customs(out, &arch.custom[..registers]);
+    put_outstanding(out, outstanding);
+}
+
+/// Appends the first lines of a state, up to those of its memory. Needs room for 1,964 bytes, and takes no memory.
 pub fn put_head(out: &mut Out, arch: &Arch, registers: usize, outstanding: &[(u32, Target)])
     requires few { registers ≤ 16 }
     requires outstanding { length outstanding.now ≤ 48 }
@@ -96,13 +113,8 @@ pub fn put_head(out: &mut Out, arch: &Arch, registers: usize, outstanding: &[(u3
     ensures text { out.new ≡ out.old ++ head_text registers outstanding.now arch.now }
     ensures few { length out.new ≤ length out.old + 1964 }
 {
-    out.text("state\npc ");
-    put_word(out, arch.pc);
-    out.text("\n");
-    put_trap(out, arch.trap);
-    put_registers(out, &arch.x);
-    put_customs(out, &arch.custom[..registers]);
-    put_outstanding(out, outstanding);
+    out.text("state\n");
+    put_head_lines(out, arch, registers, outstanding);
 }
 
 /// Appends the line of an aligned word of the memory, from 0 to 262,143, where it is not 0. Needs room for 20 bytes, and takes no memory.

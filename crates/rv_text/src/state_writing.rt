@@ -31,8 +31,8 @@ pub fn write_memory<S: Sink>(
     out: &mut Out,
     sink: &mut S,
 ) -> Result<(), WriteErr>
-    ensures carries { OnOk result (Carries (S.written sink.old) out.old (memory_lines memory.now 262144 0) (S.written sink.new) out.new []) }
-    ensures breaks { OnErr result (Breaks (S.written sink.old) out.old (memory_lines memory.now 262144 0) (S.written sink.new)) }
+    ensures carries { OnOk result ((rest : List ℕ) → Carries (S.written sink.old) out.old (memory_lines memory.now 262144 0 ++ rest) (S.written sink.new) out.new rest) }
+    ensures breaks { OnErr result ((rest : List ℕ) → Breaks (S.written sink.old) out.old (memory_lines memory.now 262144 0 ++ rest) (S.written sink.new)) }
     ensures fault { OnErr result (Rose (S.faults sink.old) (S.faults sink.new)) }
     ensures never_fell { S.faults sink.old ≤ S.faults sink.new }
 {

@@ -116,7 +116,8 @@ fn put_board(out: &mut Out, target: Target, serial: u32)
     out.text(")");
 }
 
-fn put_hold(out: &mut Out, hold: Hold)
+/// Appends the name of a hold, with what it names in brackets.
+pub fn put_hold(out: &mut Out, hold: Hold)
     requires { length out.old + 25 ≤ 65536 }
     ensures text { out.new ≡ out.old ++ hold_text hold }
     ensures few { length out.new ≤ length out.old + 25 }
@@ -263,7 +264,8 @@ fn put_row_stop(out: &mut Out, stop: Option<Stop>)
     }
 }
 
-fn put_x_write(out: &mut Out, rd: u8, write: Slot<u32>)
+/// Appends a write of an x register; one that comes later to x0 is not shown.
+pub fn put_x_write(out: &mut Out, rd: u8, write: Slot<u32>)
     requires { length out.old + 14 ≤ 65536 }
     ensures text { out.new ≡ out.old ++ x_write_text rd write }
     ensures few { length out.new ≤ length out.old + 14 }
@@ -307,7 +309,8 @@ fn put_custom_write(out: &mut Out, k: u8, write: Slot<Bits>)
     }
 }
 
-fn put_custom_writes(out: &mut Out, writes: &[Slot<Bits>; 16])
+/// Appends the writes of custom registers.
+pub fn put_custom_writes(out: &mut Out, writes: &[Slot<Bits>; 16])
     requires { length out.old + 608 ≤ 65536 }
     ensures text { out.new ≡ out.old ++ custom_writes_text 0 writes.now }
     ensures few { length out.new ≤ length out.old + 608 }
@@ -357,7 +360,8 @@ fn put_next(out: &mut Out, at: u32, next: u32)
     }
 }
 
-fn put_writes(out: &mut Out, commit: &Commit)
+/// Appends the writes of an instruction.
+pub fn put_writes(out: &mut Out, commit: &Commit)
     requires { length out.old + 653 ≤ 65536 }
     ensures text { out.new ≡ out.old ++ writes_text commit.now }
     ensures few { length out.new ≤ length out.old + 653 }

@@ -51,3 +51,18 @@ pub returns-in-Build-default : goal.returns-in-Build-default
 returns-in-Build-default g c =
     subst (λ k. Answered k (map reading_of c.args.values.now) (g.S.Sink.written c.args.sink.now) (g.S.Sink.written c.answer_build.new.sink) (g.S.Sink.faults c.args.sink.now) (g.S.Sink.faults c.answer_build.new.sink) c.answer_build.result)
     (sym c.in-Build-default.is-0) c.answer_build.ensures
+
+pub returns-in-Schedule-default : goal.returns-in-Schedule-default
+returns-in-Schedule-default g c =
+    subst (λ k. Answered k (map reading_of c.args.values.now) (g.S.Sink.written c.args.sink.now) (g.S.Sink.written c.answer_schedule.new.sink) (g.S.Sink.faults c.args.sink.now) (g.S.Sink.faults c.answer_schedule.new.sink) c.answer_schedule.result)
+    (sym c.in-Schedule-default.is-0) c.answer_schedule.ensures
+
+pub returns-in-Seq-default : goal.returns-in-Seq-default
+returns-in-Seq-default g c =
+    subst (λ k. Answered k (map reading_of c.args.values.now) (g.S.Sink.written c.args.sink.now) (g.S.Sink.written c.answer_seq.new.sink) (g.S.Sink.faults c.args.sink.now) (g.S.Sink.faults c.answer_seq.new.sink) c.answer_seq.result)
+    (sym c.in-Seq-default.is-0) c.answer_seq.ensures
+
+pub returns-in-RunImage-default : goal.returns-in-RunImage-default
+returns-in-RunImage-default g c =
+    subst (λ k. Answered k (map reading_of c.args.values.now) (g.S.Sink.written c.args.sink.now) (g.S.Sink.written c.answer_image.new.sink) (g.S.Sink.faults c.args.sink.now) (g.S.Sink.faults c.answer_image.new.sink) c.answer_image.result)
+    (sym c.in-RunImage-default.is-0) c.answer_image.ensures

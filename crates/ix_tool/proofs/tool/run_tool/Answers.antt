@@ -1,5 +1,5 @@
 use Rattle.ix_words.specs.CommandLine.{bytes_of}
-use Rattle.ix_tool.proofs.Clauses.{usage, read_fault, too_long_answer, image, extension, sheet, no_schedule, certificate, source, trace, output, write_fault, memory_alone, waits, lines, no_command, due_status, complete}
+use Rattle.ix_tool.proofs.Clauses.{usage, read_fault, too_long_answer, image, extension, sheet, no_schedule, certificate, source, trace, tight, output, write_fault, memory_alone, waits, lines, no_command, due_status, complete}
 use Rattle.ix_tool.proofs.Headlines.{headline, listed, certified, stepped, assembled, scheduled}
 use Rattle.ix_tool.proofs.ModulesShown.{modules}
 use Rattle.ix_tool.proofs.SweepsShown.{swept}
@@ -7,6 +7,7 @@ use Rattle.ix_tool.proofs.PipelinesShown.{pipelined, waved}
 use Rattle.ix_tool.proofs.InterruptedShown.{interrupted}
 use Rattle.ix_tool.proofs.BenchesShown.{benched}
 use Rattle.ix_tool.proofs.AuditsShown.{audited}
+use Rattle.ix_tool.proofs.BarrelsShown.{barreled}
 use Rattle.ix_tool.proofs.tool.run_tool.Goals as goal
 
 pub returns-clause-headline : goal.returns-clause-headline
@@ -14,6 +15,9 @@ returns-clause-headline g c = λ e. headline c.rows_laws.ensures.text (g.F.Shelf
 
 pub returns-clause-audited : goal.returns-clause-audited
 returns-clause-audited g c = λ e. audited (g.F.Shelf.files c.args.shelf.now) (bytes_of c.args.words.now) (g.S.Sink.written c.args.sink.now) (g.S.Sink.written c.run_words.new.sink) (output (g.F.Shelf.files c.args.shelf.now) (g.F.Shelf.faults c.args.shelf.now) (g.F.Shelf.faults c.run_words.new.shelf) (bytes_of c.args.words.now) (g.S.Sink.written c.args.sink.now) (g.S.Sink.written c.run_words.new.sink) (g.S.Sink.faults c.args.sink.now) (g.S.Sink.faults c.run_words.new.sink) c.run_words.result c.run_words.ensures e)
+
+pub returns-clause-barrel : goal.returns-clause-barrel
+returns-clause-barrel g c = λ e. barreled c.barrel_laws.ensures c.harts_are_apart.ensures.rows c.harts_are_apart.ensures.isolated (g.F.Shelf.files c.args.shelf.now) (bytes_of c.args.words.now) (g.S.Sink.written c.args.sink.now) (g.S.Sink.written c.run_words.new.sink) (output (g.F.Shelf.files c.args.shelf.now) (g.F.Shelf.faults c.args.shelf.now) (g.F.Shelf.faults c.run_words.new.shelf) (bytes_of c.args.words.now) (g.S.Sink.written c.args.sink.now) (g.S.Sink.written c.run_words.new.sink) (g.S.Sink.faults c.args.sink.now) (g.S.Sink.faults c.run_words.new.sink) c.run_words.result c.run_words.ensures e)
 
 pub returns-clause-listed : goal.returns-clause-listed
 returns-clause-listed g c = λ e. listed (g.F.Shelf.files c.args.shelf.now) (bytes_of c.args.words.now) (g.S.Sink.written c.args.sink.now) (g.S.Sink.written c.run_words.new.sink) (output (g.F.Shelf.files c.args.shelf.now) (g.F.Shelf.faults c.args.shelf.now) (g.F.Shelf.faults c.run_words.new.shelf) (bytes_of c.args.words.now) (g.S.Sink.written c.args.sink.now) (g.S.Sink.written c.run_words.new.sink) (g.S.Sink.faults c.args.sink.now) (g.S.Sink.faults c.run_words.new.sink) c.run_words.result c.run_words.ensures e)
@@ -81,6 +85,9 @@ returns-clause-sheet g c = sheet (g.F.Shelf.files c.args.shelf.now) (g.F.Shelf.f
 pub returns-clause-trace : goal.returns-clause-trace
 returns-clause-trace g c = trace (g.F.Shelf.files c.args.shelf.now) (g.F.Shelf.faults c.args.shelf.now) (g.F.Shelf.faults c.run_words.new.shelf) (bytes_of c.args.words.now) (g.S.Sink.written c.args.sink.now) (g.S.Sink.written c.run_words.new.sink) (g.S.Sink.faults c.args.sink.now) (g.S.Sink.faults c.run_words.new.sink) c.run_words.result c.run_words.ensures
 
+pub returns-clause-tight : goal.returns-clause-tight
+returns-clause-tight g c = tight (g.F.Shelf.files c.args.shelf.now) (g.F.Shelf.faults c.args.shelf.now) (g.F.Shelf.faults c.run_words.new.shelf) (bytes_of c.args.words.now) (g.S.Sink.written c.args.sink.now) (g.S.Sink.written c.run_words.new.sink) (g.S.Sink.faults c.args.sink.now) (g.S.Sink.faults c.run_words.new.sink) c.run_words.result c.run_words.ensures
+
 pub returns-clause-waits : goal.returns-clause-waits
 returns-clause-waits g c = waits (g.F.Shelf.files c.args.shelf.now) (g.F.Shelf.faults c.args.shelf.now) (g.F.Shelf.faults c.run_words.new.shelf) (bytes_of c.args.words.now) (g.S.Sink.written c.args.sink.now) (g.S.Sink.written c.run_words.new.sink) (g.S.Sink.faults c.args.sink.now) (g.S.Sink.faults c.run_words.new.sink) c.run_words.result c.run_words.ensures
 
@@ -94,7 +101,7 @@ pub returns-clause-memory : goal.returns-clause-memory
 returns-clause-memory g c = memory_alone (g.F.Shelf.files c.args.shelf.now) (g.F.Shelf.faults c.args.shelf.now) (g.F.Shelf.faults c.run_words.new.shelf) (bytes_of c.args.words.now) (g.S.Sink.written c.args.sink.now) (g.S.Sink.written c.run_words.new.sink) (g.S.Sink.faults c.args.sink.now) (g.S.Sink.faults c.run_words.new.sink) c.run_words.result c.run_words.ensures
 
 pub returns-clause-due : goal.returns-clause-due
-returns-clause-due g c = due_status (g.F.Shelf.files c.args.shelf.now) (g.F.Shelf.faults c.args.shelf.now) (g.F.Shelf.faults c.run_words.new.shelf) (bytes_of c.args.words.now) (g.S.Sink.written c.args.sink.now) (g.S.Sink.written c.run_words.new.sink) (g.S.Sink.faults c.args.sink.now) (g.S.Sink.faults c.run_words.new.sink) c.run_words.result c.run_words.ensures c.answer_laws.ensures.one
+returns-clause-due g c = due_status (g.F.Shelf.files c.args.shelf.now) (g.F.Shelf.faults c.args.shelf.now) (g.F.Shelf.faults c.run_words.new.shelf) (bytes_of c.args.words.now) (g.S.Sink.written c.args.sink.now) (g.S.Sink.written c.run_words.new.sink) (g.S.Sink.faults c.args.sink.now) (g.S.Sink.faults c.run_words.new.sink) c.run_words.result c.run_words.ensures c.answer_laws.ensures.one c.chosen_law.ensures.one
 
 pub returns-clause-no_command : goal.returns-clause-no_command
 returns-clause-no_command g c = no_command (g.F.Shelf.files c.args.shelf.now) (g.F.Shelf.faults c.args.shelf.now) (g.F.Shelf.faults c.run_words.new.shelf) (bytes_of c.args.words.now) (g.S.Sink.written c.args.sink.now) (g.S.Sink.written c.run_words.new.sink) (g.S.Sink.faults c.args.sink.now) (g.S.Sink.faults c.run_words.new.sink) c.run_words.result c.run_words.ensures

@@ -6,7 +6,7 @@ use Rattle.rv_kinds.specs.Kinds.{MovesRightly}
 use Rattle.rv_shown.specs.Shown.{shown_in}
 use Rattle.rv_seen.specs.Seen.{AreSeen}
 use Rattle.rv_watch.specs.Watched.{setting_of}
-use Rattle.rv_audit.proofs.Told.{never, no_stop, some_stop, fit_of, on_of}
+use Rattle.rv_audit.proofs.Told.{never, no_stop, some_stop, is_stop, fit_of, on_of}
 use Rattle.rv_audit.proofs.Forms.{form_of, moves_above}
 use Rattle.rv_audit.proofs.Wrong.{moves_wrong, judged_behind, judged_row, units_right, judged_line, lawful_row, recorded_row, judged_right}
 use Rattle.rv_audit.proofs.judging.judge.Goals as goal
@@ -28,7 +28,8 @@ returns-then-is_some-clause-judged c = λ rows watched few.
     let s = shown_in a.design.now.sheet.shape.stages c.args.text.now c.args.shown.now in
     let is = c.made-row.ensures.row k rows c.args.text.now refl refl (c.next_due-next.ensures.due rows watched) (c.writing-writing.ensures a rows c.requires.fits watched) in
     let moves = (c.if-not-moves_rightly.ensures k rows refl fit.plain (sym watched.before)).0 refl in
-    judged_behind a rows s c.made-row.result is moves c.args.watch.now (some_stop (newest rows) c.args.watch.now.before (sym watched.before) (sym c.if-is_some.ensures)) c.behind_stop.result (c.behind_stop.ensures rows watched)
+    judged_behind a rows s c.made-row.result is moves c.args.watch.now (some_stop (newest rows) c.args.watch.now.before (sym watched.before) (sym c.if-is_some.ensures)) c.behind_stop.result
+    (c.behind_stop.ensures rows watched (is_stop (newest rows) c.args.watch.now.before (sym watched.before) (sym c.if-is_some.ensures)) moves)
 
 pub returns-then-is_some-2-clause-judged : goal.returns-then-is_some-2-clause-judged
 returns-then-is_some-2-clause-judged c = λ rows watched few.

@@ -1,0 +1,31 @@
+use Rattle.std.proofs.Common.{ap, arith}
+use Rattle.ix_extension.specs.Extensions.{view_extension}
+use Rattle.rv_harts.specs.BarrelRows.{hart_setting}
+use Rattle.rv_barrel.specs.Barrels.{Turning}
+use Rattle.rv_barrel.proofs.Rows.{row_there, kept_more}
+use Rattle.rv_barrel.proofs.barrel.Barrel.cycle.Goals as goal
+
+pub invariant_of-self : goal.invariant_of-self
+invariant_of-self c =
+    let i = c.self.invariant in
+    let d = c.self.inside.design.now in
+    let n = c.self.inside.made in
+    let made = ap (λ (t : Turning). t.made) c.self.view_is in
+    let cycles = ap (λ (t : Turning). t.cycles) c.self.view_is in
+    record {
+      stands = i.stands;
+      few = omega (arith, made, cycles, c.requires.spare);
+      fits = i.fits;
+      asked = i.asked;
+      ready = c.row_of-2.ensures.scratch;
+      one = kept_more (view_extension d.extension) (hart_setting d c.self.inside.first.now) 0 n c.row_of.new.side c.row_of.ensures.side;
+      other = kept_more (view_extension d.extension) (hart_setting d c.self.inside.second.now) 1 n c.row_of-2.new.side c.row_of-2.ensures.side;
+    }
+
+pub returns-clause-row : goal.returns-clause-row
+returns-clause-row c =
+    rw (← c.self.view_is) (row_there c.self.inside.design.now c.self.inside.first.now c.self.inside.second.now c.self.inside.made c.joined.ensures c.row_of.ensures.cells c.row_of.ensures.part c.row_of-2.ensures.cells c.row_of-2.ensures.part)
+
+pub returns-clause-prefix : goal.returns-clause-prefix
+returns-clause-prefix c =
+    rw (← c.self.view_is) (c.hart_runs.ensures.prefix c.self.inside.design.now c.self.inside.first.now c.self.invariant.stands, c.hart_runs.ensures.prefix c.self.inside.design.now c.self.inside.second.now c.self.invariant.stands)

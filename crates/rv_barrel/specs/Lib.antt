@@ -1,0 +1,10 @@
+pub mod Cells
+pub mod Older
+pub mod Turning
+pub mod Moving
+pub mod Showing
+pub mod Owing
+pub mod Paying
+pub mod Sides
+pub mod Nth
+pub mod Barrels

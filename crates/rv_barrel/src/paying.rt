@@ -1,0 +1,112 @@
+ghost use Rattle.std.specs.Prelude.{◌≡◌, ◌+◌, ◌-◌, ◌<◌, ◌≤◌, ◌++◌, ℕ, List, None, length, vec_capacity, if◌then◌else◌};
+ghost use Rattle.ix_extension.specs.Extensions.{view_extension};
+ghost use Rattle.ix_extension.specs.WellFormed.{IsWellFormed};
+ghost use Rattle.ix_plan.specs.Units.{unit_written, next_units};
+ghost use Rattle.rv_harts.specs.HartRows.{written_by};
+ghost use Rattle.rv_harts.specs.Harts.{Fetched};
+ghost use Rattle.rv_lawful.specs.LawfulTrace.{serial_in};
+ghost use Rattle.rv_lawful.specs.Outstanding.{after_written};
+ghost use Rattle.rv_lawful.specs.Settings.{Setting};
+ghost use Rattle.rv_unit.specs.Slots.{units_of};
+ghost use Rattle.rv_unit.specs.Timed.{AreUnits, IsTimed, CanEnter};
+ghost use Rattle.rv_barrel.specs.Cells.{AreOwed};
+ghost use Rattle.rv_barrel.specs.Owing.{entering_by, owed_by, without_serial, unit_entered};
+ghost use Rattle.rv_barrel.specs.Paying.{IsStoredSlot, arch_by};
+ghost use Rattle.rv_barrel.specs.Showing.{retired_by};
+
+use crate::cell::{InFlight, Owed};
+use crate::owing::{entering_in, put_last, serial_out, take_out, written_of};
+use crate::showing::retired_in;
+use ix_bits::Bits;
+use ix_plan::Design;
+use rv_made::Due;
+use rv_past::{pay_written, retire};
+use rv_seq::{Arch, Commit, Slot};
+use rv_unit::Units;
+
+/// What a row writes of a hart: what retires, with its serial, and what a unit writes.
+#[derive(Clone, Copy)]
+pub struct Paid {
+    pub retired: Option<(u32, Commit)>,
+    pub written: Option<(u32, u8, Slot<u32>, [Slot<Bits>; 16])>,
+}
+
+// Makes the writes of what retires out of a slot.
+fn retire_slot(
+    design: &Design,
+    slot: &Option<InFlight>,
+    retired: &Option<(u32, Commit)>,
+    arch: &mut Arch,
+)
+    requires well_formed { IsWellFormed design.now.extension }
+    requires stored { IsStoredSlot slot.now }
+    requires retired { retired.now ≡ retired_by slot.now }
+    ensures { arch.new ≡ arch_by (view_extension design.now.extension) slot.now arch.old }
+{
+    if let Some(one) = slot {
+        if let Some(step) = one.step {
+            let due = Due {
+                step,
+                asks: one.asks,
+            };
+            retire(&design.extension, &due, retired, arch);
+        }
+    }
+}
+
+// The unit and the serial of what enters, if anything.
+fn entered(enter: &Option<(u8, Owed)>) -> Option<(u8, u32)>
+    ensures { result ≡ unit_entered enter.now }
+{
+    match enter {
+        None => None,
+        Some((unit, owed)) => Some((*unit, owed.serial)),
+    }
+}
+
+/// The serial that is written in a row, where the units step in it.
+pub fn serial_in_row(steps: bool, units: &Units) -> Option<u32>
+    ensures serial { result ≡ (if steps then serial_in (unit_written (units_of units.now.stages units.now.lasts units.now.entries)) else None) }
+    ensures units { AreUnits units.now.stages units.now.lasts }
+    ensures timed { IsTimed units.now.stages units.now.lasts units.now.entries }
+{
+    let serial = serial_out(units);
+    if steps { serial } else { None }
+}
+
+/// Makes the writes of a row: of what goes out of the last stage, of which this is the slot, and of the serial that goes out of the units, if any. What retires with a unit is owed
+/// from then on, and enters its unit; where the units step in the row they stay as they are until the next one.
+pub fn pay(
+    design: &Design,
+    slot: &Option<InFlight>,
+    steps: bool,
+    out: Option<u32>,
+    arch: &mut Arch,
+    units: &mut Units,
+    owed: &mut Vec<Owed>,
+) -> Paid
+    requires well_formed { IsWellFormed design.now.extension }
+    requires stored { IsStoredSlot slot.now }
+    requires enters { CanEnter units.old.lasts units.old.entries (unit_entered (entering_by slot.now)) }
+    requires room { length (without_serial out owed.old.items ++ owed_by (entering_by slot.now)) ≤ vec_capacity owed.old }
+    ensures retired { result.retired ≡ retired_by slot.now }
+    ensures written { (k : Setting) (all : List Fetched) → AreOwed k owed.old.items all → result.written ≡ written_by k all out }
+    ensures arch { arch.new ≡ after_written result.written (arch_by (view_extension design.now.extension) slot.now arch.old) }
+    ensures units { units_of units.new.stages units.new.lasts units.new.entries ≡ (if steps then units_of units.old.stages units.old.lasts units.old.entries else next_units (unit_entered (entering_by slot.now)) (units_of units.old.stages units.old.lasts units.old.entries)) }
+    ensures stages { units.new.stages ≡ units.old.stages }
+    ensures lasts { units.new.lasts ≡ units.old.lasts }
+    ensures owed { owed.new.items ≡ without_serial out owed.old.items ++ owed_by (entering_by slot.now) }
+    ensures capacity { vec_capacity owed.old ≤ vec_capacity owed.new }
+{
+    let retired = retired_in(slot);
+    let enter = entering_in(slot);
+    let written = written_of(owed.as_slice(), out);
+    retire_slot(design, slot, &retired, arch);
+    pay_written(&written, arch);
+    take_out(owed, out);
+    put_last(owed, &enter);
+    if !steps {
+        units.cycle(entered(&enter));
+    }
+    Paid { retired, written }
+}

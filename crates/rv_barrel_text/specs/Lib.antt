@@ -1,0 +1,2 @@
+pub mod BarrelRowText
+pub mod BarrelText
