@@ -757,5 +757,82 @@ for n in range(4):
     due("barrel LIMIT CORE3LONG ADD ADD 20", 17 if n > 2 else 5, "refused Barrel t\n"[: 6 * n], ("-", 4096, n, 6))
 
 STORED = [Path(__file__).resolve().parent / "commands" / name for name in ["tutorial", "schedules", "runs", "forwards", "base", "diagnoses"]]
+
+# each read and each write of a command of each kind failing in turn, and then one byte in each call; what is due without a fault stands above
+texts, whole = {}, {}
+stored = [it.with_suffix(suffix).read_text(encoding="utf-8", errors="surrogateescape").split(END) for suffix in [".cases", ".answers"] for it in STORED]
+told = [it for answer in stored[len(STORED):] for it in answer[:-1]] + answers
+for part in [it for case in stored[: len(STORED)] for it in case[:-1]] + parts:
+    head, _, text = part.partition("\n")
+    if head.startswith("file "):
+        texts.setdefault(head[5:], text)
+    elif head and not head.startswith(("many ", "byte ")):
+        whole.setdefault(part, told.pop(0))
+assert not told
+
+
+def turns(words, read, write, answer=None, writes=None):
+    """A command whose reads and writes fail in turn, so many bytes going in one of them at most. The words alone name its files, each of which is read to its end, and one read sees that."""
+    text, status = (answer or whole[words]).rsplit("status ", 1)
+    reads = [name for name in words.split(" ")[1:] if name in texts for _ in range(-(-len(texts[name]) // read) + 1)]
+    for n, name in enumerate(reads):
+        due(words, 4, f"refused ReadFault {name}\n", (n, read, "-", 4096))
+    for n in writes or range(-(-len(text) // write)):
+        due(words, 5, text[: n * write], ("-", 4096, n, write))
+    due(words, status, text, ("-", 1, "-", 1))
+
+
+file("AUTOINC", "InstructionSet AutoInc extends RV32I { architectural_state { register unsigned<32> ADDR; } instructions { setaddr { encoding: 12'd0 :: rs1[4:0] :: 3'd0 :: 5'd0 :: 7'b0001011; behavior: ADDR = X[rs1]; } lwinc { encoding: 17'd0 :: 3'd1 :: rd[4:0] :: 7'b0001011; behavior: { X[rd] = MEM[ADDR+3:ADDR]; ADDR += 4; } } } }\n")
+file("LOADS", "800000b7\n0000800b\n0000110b\n0000118b\n0000120b\n00100073\n")
+file("WAITS255", "0 255 3\n")
+for name in ["AUTOINC", "LOADS", "WAITS255"]:
+    texts[name] = next(it for it in parts if it.startswith(f"file {name}\n")).partition("\n")[2]
+AUTOINC_RUN = (
+    """0 0@00000000 - -
+1 1@00000004 0@00000000 -
+2 2@00000008/Behind 1@00000004/Operand(x1,0) 0@00000000 r0
+= 0 00000000 800000b7 x1=80000000
+3 2@00000008 1@00000004 -
+4 3@0000000c 2@00000008 1@00000004 r1
+= 1 00000004 0000800b c0=80000000
+5 4@00000010 3@0000000c 2@00000008 r2
+= 2 00000008 0000110b x2=00000000 c0=80000004
+"""
+    + "".join(f"{n} 5@00000014/Behind 4@00000010/Behind 3@0000000c/Wait({261 - n})\n" for n in range(6, 261))
+    + """261 5@00000014 4@00000010 3@0000000c r3
+= 3 0000000c 0000118b x3=00000000 c0=80000008
+262 - 5@00000014/Drain(4) 4@00000010/Wait(3)
+263 - 5@00000014/Drain(4) 4@00000010/Wait(2)
+264 - 5@00000014/Drain(4) 4@00000010/Wait(1)
+265 - 5@00000014 4@00000010 r4 stop Ebreak
+= 4 00000010 0000120b x4=00000000 c0=8000000c
+state
+pc 00000014
+x1 80000000
+c0 8000000c
+"""
+)
+# (its 1,602 writes of ten bytes: the first twenty, and four more)
+turns("run AUTOINC CORE3LONG LOADS WAITS255 1000", 7, 10, AUTOINC_RUN + "status 0", [*range(20), 400, 800, 1_200, 1_601])
+for words in [
+    "run ADD 20",
+    "run NONE CORE3 HANDLED NOWAITS ROW3 20",
+    "check average.core_desc",
+    "seq average.core_desc average.hex 10",
+    "asm average.core_desc average.s",
+    "schedule addx.core_desc forwarding.toml",
+    "sweep BLOCKS D7",
+    "certify R1",
+    "build average.core_desc core.toml",
+    "wave SUMX KEPT EMPTY NOWAITS 5",
+    "bench NONE CORE3 0 1",
+    "audit NONE CORE3 ADD NOWAITS TYES0",
+    "barrel NONE CORE3 ADD BREAK 20",
+    "run",
+]:
+    turns(words, 32, 32)
+turns("check EMPTY", 16, 16, "refused Extension At 0 0\nstatus 7")
+turns("audit NONE CORE3 ADD NOWAITS EMPTY", 16, 16, "refused Trace 1 Line\nstatus 16")
+
 FOLDER.joinpath("stdin").write_bytes(b"".join(it.with_suffix(".cases").read_bytes() for it in STORED) + "".join(part + END for part in parts).encode())
 FOLDER.joinpath("stdout").write_bytes(b"".join(it.with_suffix(".answers").read_bytes() for it in STORED) + "".join(answer + END for answer in answers).encode())

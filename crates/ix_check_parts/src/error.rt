@@ -1,6 +1,3 @@
-ghost use Rattle.std.specs.Prelude.{◌≡◌};
-ghost use Rattle.ix_check_parts.specs.declared.error.CheckErr.TheVariants.{Memory};
-
 use ix_tree::Span;
 
 /// Why a tree is refused: the first rule that is broken, in the order of the source, and where.
@@ -31,12 +28,4 @@ pub enum CheckErr {
     /// A table's index that may be past its end, or another count of entries than its length.
     Rom { span: Span },
     Memory,
-}
-
-impl From<ix_bits::Memory> for CheckErr {
-    ghost from_gives = { λ _ e. e ≡ Memory };
-
-    fn from(_error: ix_bits::Memory) -> CheckErr {
-        CheckErr::Memory
-    }
 }

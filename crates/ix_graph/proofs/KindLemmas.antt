@@ -1,7 +1,7 @@
 -- The table of the kinds.
-use Rattle.std.proofs.lemmas.Bool.{agree_below, agree_below_at, eqb-true}
+use Rattle.std.proofs.lemmas.Bool.{agree_below, agree_below_at, eqb-true, leb-true}
 use Rattle.std.proofs.Common.{None, Option, Bool, true, false, ◌<◌, ◌==◌, ◌≡◌, ℕ, List, Some, [], length, get_or, refl, ◌∙◌, ap}
-use Rattle.std.specs.Prelude.{slice_get}
+use Rattle.std.specs.Prelude.{slice_get, nat_le, ◌≤◌}
 use Rattle.std.specs.Str.{bytes_eq}
 use Rattle.std.proofs.lemmas.List.Quantifiers.{position-Some}
 use Rattle.std.proofs.lemmas.Option.{slice_get-get_or}
@@ -13,6 +13,17 @@ use Rattle.ix_graph.specs.Kinds.{kind_words, place_of, word_of, number_of}
 pub length-kind_words : length kind_words ≡ 34
 unfolding kind_words
 length-kind_words = refl
+
+-- no name has more than nine bytes
+abbrev is_short : ℕ → Bool
+is_short k = nat_le (length (get_or kind_words k [])) 9
+
+short_words : agree_below is_short (λ _. true) 34 ≡ true
+unfolding kind_words
+short_words = refl
+
+pub word_short : (number : ℕ) → number < 34 → length (get_or kind_words number []) ≤ 9
+word_short number h = leb-true _ 9 (agree_below_at is_short (λ _. true) 34 number short_words h)
 
 -- the name of a kind has that kind's place as number
 pub number_of-word_of : (kind : Kind) → number_of (word_of kind) ≡ Some (place_of kind)

@@ -56,49 +56,51 @@ pub enum Kind {
     Rom(u16),
 }
 
+// the names of the kinds in their order, without a register's number
+const KIND_WORDS: [&str; 34] = [
+    "RdInstr",
+    "RdRS1",
+    "RdRS2",
+    "RdPC",
+    "RdCustReg",
+    "RdMem",
+    "WrRD",
+    "WrPC",
+    "WrCustReg",
+    "WrMem",
+    "add",
+    "sub",
+    "mul",
+    "and",
+    "or",
+    "xor",
+    "not",
+    "neg",
+    "shl",
+    "shr",
+    "eq",
+    "ne",
+    "lt",
+    "le",
+    "gt",
+    "ge",
+    "land",
+    "lor",
+    "lnot",
+    "concat",
+    "range",
+    "cast",
+    "mux",
+    "rom",
+];
+
 /// The name of the kind at a place of the order, below 34, without a register's number.
-#[tactic(auto, unfolding(crate::specs::Kinds::kind_words))]
 pub fn kind_word(number: u8) -> &'static str
     requires { number < 34 }
     ensures value { result.now ≡ slice_index_or kind_words number [] }
     ensures short { length result.now ≤ 9 }
 {
-    match number {
-        0 => "RdInstr",
-        1 => "RdRS1",
-        2 => "RdRS2",
-        3 => "RdPC",
-        4 => "RdCustReg",
-        5 => "RdMem",
-        6 => "WrRD",
-        7 => "WrPC",
-        8 => "WrCustReg",
-        9 => "WrMem",
-        10 => "add",
-        11 => "sub",
-        12 => "mul",
-        13 => "and",
-        14 => "or",
-        15 => "xor",
-        16 => "not",
-        17 => "neg",
-        18 => "shl",
-        19 => "shr",
-        20 => "eq",
-        21 => "ne",
-        22 => "lt",
-        23 => "le",
-        24 => "gt",
-        25 => "ge",
-        26 => "land",
-        27 => "lor",
-        28 => "lnot",
-        29 => "concat",
-        30 => "range",
-        31 => "cast",
-        32 => "mux",
-        _ => "rom",
-    }
+    KIND_WORDS[usize::from(number)]
 }
 
 /// The place of a kind, from 0, in the order of the names: a sheet's delays and windows have this order.

@@ -33,7 +33,7 @@ use Rattle.ix_schedules.proofs.OneAnswer.{scheduled_not_refused, one_refusal}
 use Rattle.ix_sweeps.specs.declared.sweeping.SweepErr.TheVariants as W
 use Rattle.ix_sweeps.proofs.OneAnswer.{swept_not_refused}
 use Rattle.ix_modules.proofs.OneText.{built_not_refused as modules_not_refused, design_not_refused}
-use Rattle.rv_faults.specs.Audited.{IsAudited}
+use Rattle.rv_watch.specs.Audited.{IsAudited}
 use Rattle.rv_audit.specs.Alike.{AreAlike, OneAnswerLaw}
 use Rattle.ix_sheet.specs.Laws.{OneLaw}
 use Rattle.ix_tool.specs.BarrelOutput.{tight_behaviour, IsBarrelOutput, IsBarrelRefusal}

@@ -6,7 +6,7 @@ use Rattle.rv_waits.specs.Waits.{wait_at}
 use Rattle.rv_asm.specs.ImageText.{IsImageText}
 use Rattle.rv_asm.specs.NumbersText.{words_of, decimal_number}
 use Rattle.rv_asm.specs.WaitsText.{at_most_255, wait_in, AreWaits, IsWaitsText}
-use Rattle.rv_printed.specs.Printed.{AreGiven}
+use Rattle.rv_watch.specs.Printed.{AreGiven}
 use Rattle.ix_tool.proofs.ImageWords.{words_of_text}
 
 same : (m n : ℕ) → ◌≡◌ {A = Option ℕ} (Some m) (Some n) → m ≡ n

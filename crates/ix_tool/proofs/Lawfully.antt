@@ -5,9 +5,9 @@ use Rattle.ix_plan.specs.declared.design.Design.{Design}
 use Rattle.rv_trace.specs.declared.row.Row.{Row}
 use Rattle.rv_lawful.specs.Settings.{setting}
 use Rattle.rv_lawful.specs.Headline.{Agreeing}
-use Rattle.rv_gone.specs.Recorded.{AreRecorded}
+use Rattle.rv_rows.specs.Recorded.{AreRecorded}
 use Rattle.rv_machine.specs.LawfulText.{IsLawfulText}
-use Rattle.rv_faults.specs.Audited.{IsAudited}
+use Rattle.rv_watch.specs.Audited.{IsAudited}
 
 module _ (d : Design) (image waits : List ℕ) where
   recorded : (rows : List Row) → Agreeing (view_extension d.extension) (setting d image waits None) rows → AreRecorded (setting d image waits None []) rows

@@ -21,8 +21,8 @@ use Rattle.rv_wave.specs.Waves.{IsDesignWave, IsLawfulWave}
 use Rattle.rv_bench.specs.DrawnImage.{drawn_image}
 use Rattle.rv_bench.specs.Summary.{summary_text}
 use Rattle.rv_text.specs.RunText.{run_text}
-use Rattle.rv_printed.specs.Printed.{AreGiven}
-use Rattle.rv_faults.specs.Audited.{IsAudited}
+use Rattle.rv_watch.specs.Printed.{AreGiven}
+use Rattle.rv_watch.specs.Audited.{IsAudited}
 use Rattle.rv_audit.specs.Refused.{IsFault}
 use Rattle.rv_audit.specs.declared.auditing.AuditErr.{AuditErr}
 use Rattle.rv_audit.specs.declared.auditing.AuditErr.TheVariants as U

@@ -5,8 +5,8 @@ ghost use Rattle.ix_extension.specs.WellFormed.{IsWellFormed};
 ghost use Rattle.ix_sheet.specs.Sheets.{IsValidSheet};
 ghost use Rattle.ix_standing.specs.Standing.{Stands};
 ghost use Rattle.ix_schedules.specs.Scheduling.{AreNamed};
-ghost use Rattle.rv_printed.specs.Printed.{AreGiven};
-ghost use Rattle.rv_faults.specs.Audited.{IsAudited};
+ghost use Rattle.rv_watch.specs.Printed.{AreGiven};
+ghost use Rattle.rv_watch.specs.Audited.{IsAudited};
 ghost use Rattle.rv_audit.specs.declared.auditing.AuditErr.{AuditErr as AuditErrValue};
 ghost use Rattle.rv_audit.specs.Refused.{IsFault};
 ghost use Rattle.ix_words.specs.declared.command.Command.{Command as TheCommand};
@@ -14,12 +14,12 @@ ghost use Rattle.ix_words.specs.Readings.{extension_read, sheet_read, image_read
 ghost use Rattle.rv_audit.specs.declared.auditing.AuditErr.TheVariants.{Memory as Wanting};
 ghost use Rattle.ix_tool.specs.CommandOutput.{fault_text, fault_kind, fault_at, fault_line, Answered, TakesAudit, Writes};
 
-use crate::tool::finish;
+use crate::tool::{finish, refuse};
 use ix_bits::List;
 use ix_design::build;
 use ix_io::Sink;
 use ix_plan::Design;
-use ix_schedules::{TextErr, refusal_text};
+use ix_schedules::refusal_text;
 use ix_sheet::Sheet;
 use ix_tree::Extension;
 use ix_words::status::Status;
@@ -141,11 +141,7 @@ fn audit_extension<S: Sink>(
             };
             audit_design(alloc, &design, image, waits, trace, sink)
         }
-        Err(error) => match refusal_text(alloc, &extension, &sheet, error) {
-            TextErr::TooManyOps(line) => finish(sink, Status::Extension, line.as_slice()),
-            TextErr::NoSchedule(text) => finish(sink, Status::NoSchedule, text.as_slice()),
-            TextErr::Memory => Status::Memory,
-        },
+        Err(error) => refuse(refusal_text(alloc, &extension, &sheet, error), sink),
     }
 }
 

@@ -10,11 +10,11 @@ ghost use Rattle.ix_words.specs.Readings.{extension_read, sheet_read, number_rea
 ghost use Rattle.ix_words.specs.CommandLine.{most_drawn};
 ghost use Rattle.ix_tool.specs.CommandOutput.{most_rows, IsDesignSummary, Answered, TakesBench, Writes};
 
-use crate::tool::finish;
+use crate::tool::refuse;
 use ix_design::build;
 use ix_io::{Out, Sink};
 use ix_plan::Design;
-use ix_schedules::{TextErr, refusal_text};
+use ix_schedules::refusal_text;
 use ix_sheet::Sheet;
 use ix_tree::Extension;
 use ix_words::status::Status;
@@ -98,11 +98,7 @@ fn bench_extension<S: Sink>(
             };
             bench_design(alloc, &design, number, count, sink)
         }
-        Err(error) => match refusal_text(alloc, &extension, &sheet, error) {
-            TextErr::TooManyOps(line) => finish(sink, Status::Extension, line.as_slice()),
-            TextErr::NoSchedule(text) => finish(sink, Status::NoSchedule, text.as_slice()),
-            TextErr::Memory => Status::Memory,
-        },
+        Err(error) => refuse(refusal_text(alloc, &extension, &sheet, error), sink),
     }
 }
 

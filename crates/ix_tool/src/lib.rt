@@ -7,7 +7,6 @@ mod benching;
 pub mod building;
 mod running;
 mod scheduling;
-pub mod sure;
 mod sweeping;
 pub mod tool;
 mod turning;

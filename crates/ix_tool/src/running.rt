@@ -10,11 +10,11 @@ ghost use Rattle.ix_schedules.specs.Scheduling.{AreNamed};
 ghost use Rattle.ix_words.specs.Readings.{extension_read, sheet_read, reading_of};
 ghost use Rattle.ix_tool.specs.CommandOutput.{command_in, run_values, Answered, HasLines, IsDesignOutput, TakesRun, Writes};
 
-use crate::tool::finish;
+use crate::tool::refuse;
 use ix_design::build;
 use ix_io::Sink;
 use ix_plan::Design;
-use ix_schedules::{TextErr, refusal_text};
+use ix_schedules::refusal_text;
 use ix_sheet::Sheet;
 use ix_tree::Extension;
 use ix_words::command::RunForm;
@@ -101,11 +101,7 @@ fn run_extension<S: Sink>(
             };
             run_design(alloc, form, &design, image, waits, lines, cycles, sink)
         }
-        Err(error) => match refusal_text(alloc, &extension, &sheet, error) {
-            TextErr::TooManyOps(line) => finish(sink, Status::Extension, line.as_slice()),
-            TextErr::NoSchedule(text) => finish(sink, Status::NoSchedule, text.as_slice()),
-            TextErr::Memory => Status::Memory,
-        },
+        Err(error) => refuse(refusal_text(alloc, &extension, &sheet, error), sink),
     }
 }
 

@@ -7,9 +7,9 @@ ghost use Rattle.ix_words.specs.declared.command.Command.{Command as TheCommand}
 ghost use Rattle.ix_words.specs.Readings.{extension_read, sheet_read};
 ghost use Rattle.ix_tool.specs.CommandOutput.{Answered};
 
-use crate::tool::finish;
+use crate::tool::{finish, refuse};
 use ix_io::Sink;
-use ix_schedules::{TextErr, schedule_text};
+use ix_schedules::schedule_text;
 use ix_sheet::Sheet;
 use ix_tree::Extension;
 use ix_words::status::Status;
@@ -29,8 +29,6 @@ pub(crate) fn schedule_extension<S: Sink>(
 {
     match schedule_text(alloc, extension, sheet) {
         Ok(text) => finish(sink, Status::Ok, text.as_slice()),
-        Err(TextErr::TooManyOps(line)) => finish(sink, Status::Extension, line.as_slice()),
-        Err(TextErr::NoSchedule(text)) => finish(sink, Status::NoSchedule, text.as_slice()),
-        Err(TextErr::Memory) => Status::Memory,
+        Err(error) => refuse(error, sink),
     }
 }

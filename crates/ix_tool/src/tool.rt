@@ -9,7 +9,7 @@ ghost use Rattle.rv_text.specs.RunText.{run_text};
 ghost use Rattle.ix_words.specs.Readings.{Reading, reading_of};
 ghost use Rattle.ix_words.specs.WordsRead.{RoseIn};
 ghost use Rattle.ix_tool.specs.BarrelOutput.{BarrelAnswer, TightAnswer};
-ghost use Rattle.ix_tool.specs.CommandOutput.{IsRunOutput, Writes, Takes, Answered, Outcome, NoneRises, IsDue, UsageAnswer, ReadFaultAnswer, WriteFaultAnswer, TooLongAnswer, TextAnswer, OutputAnswer, RunAnswer, ListedAnswer, CertifiedAnswer, SteppedAnswer, AssembledAnswer, SourceAnswer, ScheduledAnswer, ModulesAnswer, SweptAnswer, NoScheduleAnswer, ExtensionAnswer, PipelineAnswer, InterruptedAnswer, BenchAnswer, WaveAnswer, AuditAnswer, TraceAnswer, IsStatusOr, Premises, Completes, told_of};
+ghost use Rattle.ix_tool.specs.CommandOutput.{IsRunOutput, IsToldAs, Writes, Takes, Answered, Outcome, NoneRises, IsDue, UsageAnswer, ReadFaultAnswer, WriteFaultAnswer, TooLongAnswer, TextAnswer, OutputAnswer, RunAnswer, ListedAnswer, CertifiedAnswer, SteppedAnswer, AssembledAnswer, SourceAnswer, ScheduledAnswer, ModulesAnswer, SweptAnswer, NoScheduleAnswer, ExtensionAnswer, PipelineAnswer, InterruptedAnswer, BenchAnswer, WaveAnswer, AuditAnswer, TraceAnswer, IsStatusOr, Premises, Completes, told_of};
 
 use crate::assembling::assemble_source;
 use crate::auditing::answer_audit;
@@ -21,6 +21,7 @@ use crate::sweeping::sweep_extension;
 use crate::turning::answer_barrel;
 use ix_io::{Shelf, Sink, write_all};
 use ix_listing::listing;
+use ix_schedules::TextErr;
 use ix_sheet::chosen_law;
 use ix_tree::Extension;
 use ix_words::command::{Command, RunForm, command_of};
@@ -45,6 +46,18 @@ pub(crate) fn finish<S: Sink>(sink: &mut S, status: Status, bytes: &[u8]) -> Sta
     match write_all(sink, bytes) {
         Ok(()) => status,
         Err(_) => Status::WriteFault,
+    }
+}
+
+/// Writes the refusal of a behaviour that is not scheduled, and answers its status.
+pub(crate) fn refuse<S: Sink>(error: TextErr, sink: &mut S) -> Status
+    ensures { ((result ≡ Status.Memory) × (S.written sink.new ≡ S.written sink.old))
+        ⊎ ((status : Status) × (text : List ℕ) × IsToldAs error status text × Writes status text (S.written sink.old) (S.written sink.new) (S.faults sink.old) (S.faults sink.new) result) }
+{
+    match error {
+        TextErr::TooManyOps(line) => finish(sink, Status::Extension, line.as_slice()),
+        TextErr::NoSchedule(text) => finish(sink, Status::NoSchedule, text.as_slice()),
+        TextErr::Memory => Status::Memory,
     }
 }
 

@@ -19,14 +19,14 @@ ghost use Rattle.ix_words.specs.Readings.{extension_read, sheet_read, image_read
 ghost use Rattle.ix_tool.specs.BarrelOutput.{is_tight as specified_is_tight, first_tight, tight_behaviour, tight_line};
 ghost use Rattle.ix_tool.specs.CommandOutput.{Answered, TakesBarrel, Writes};
 
-use crate::tool::finish;
+use crate::tool::{finish, refuse};
 use ix_behaviour::{Which, behaviour_laws};
 use ix_bits::Memory;
 use ix_design::build;
 use ix_graph::Mode;
 use ix_io::{Out, Sink, WriteErr};
 use ix_plan::{Design, Plan, Target};
-use ix_schedules::{TextErr, behaviours_in, name_of, refusal_text};
+use ix_schedules::{behaviours_in, name_of, refusal_text};
 use ix_sheet::Sheet;
 use ix_tree::Extension;
 use ix_words::status::Status;
@@ -291,11 +291,7 @@ fn barrel_extension<S: Sink>(
             };
             barrel_design(alloc, &design, first, second, cycles, sink)
         }
-        Err(error) => match refusal_text(alloc, &extension, &sheet, error) {
-            TextErr::TooManyOps(line) => finish(sink, Status::Extension, line.as_slice()),
-            TextErr::NoSchedule(text) => finish(sink, Status::NoSchedule, text.as_slice()),
-            TextErr::Memory => Status::Memory,
-        },
+        Err(error) => refuse(refusal_text(alloc, &extension, &sheet, error), sink),
     }
 }
 

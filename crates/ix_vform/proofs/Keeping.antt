@@ -1,5 +1,5 @@
 -- What is kept of names beside an open module, where one more is declared or driven.
-use Rattle.std.proofs.Common.{◌≡◌, ◌∙◌, sym, ap, subst, refl, Result, Ok, List, [], ◌∷◌, ◌++◌, Option, Some, Bool, true, false, inl, inr, cond, ◌||◌, String, BTreeMap, BTreeSet}
+use Rattle.std.proofs.Common.{◌≡◌, ◌∙◌, sym, ap, subst, refl, Result, Ok, Err, List, [], ◌∷◌, ◌++◌, Option, Some, Bool, true, false, inl, inr, cond, ◌||◌, String, BTreeMap, BTreeSet}
 use Rattle.std.specs.BTreeMap.{get_by_text}
 use Rattle.std.specs.BTreeSet.{contains_text}
 use Rattle.std.specs.Prelude.{MatchOption, OnOk, IsTrue, ◌↔◌}
@@ -24,6 +24,12 @@ use Rattle.ix_vform.proofs.Named.{any_named, names_cases}
 -- ---- what holds of a call that is done
 pub done : {E P : Type 0} (r : Result (Unit {0}) E) (u : Unit {0}) → r ≡ Ok u → OnOk r P → P
 done {E} {P} r u e = subst (λ z. OnOk z P) e
+
+-- what follows of two calls where both are done
+pub both : {E F P Q R : Type 0} (r : Result (Unit {0}) E) (s : Result (Unit {0}) F) → OnOk r P → OnOk s Q → (P → Q → R) → OnOk r (OnOk s R)
+both (Ok u) (Ok v) p q f = f p q
+both (Ok u) (Err e) p q f = tt
+both (Err e) s p q f = tt
 
 -- ---- a test on one more element
 any_push : {X : Type 0} (f : X → Bool) (xs : List X) (x : X) → list_any f (xs ++ x ∷ []) ≡ (f x || list_any f xs)

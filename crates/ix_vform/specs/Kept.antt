@@ -1,4 +1,4 @@
--- What is kept beside an open module: what each name is first, and which names are driven.
+-- What is kept beside an open module: what each name is, and which names are driven.
 use Rattle.std.specs.Prelude.{◌≡◌, List, Bool, Option, Some, None, cond, String}
 use Rattle.std.specs.BTreeMap.{BTreeMap, get_by_text}
 use Rattle.std.specs.BTreeSet.{BTreeSet, contains_text}
@@ -21,7 +21,7 @@ is_port ports n = list_any (λ (p : Port). bytes_eq p.name n) ports
 abbrev pub role_among : Bool → Bool → Bool → Option Role
 role_among input out register = cond input (Some Input) (cond out (Some Assigned) (cond register (Some Register) None))
 
--- what a name is first in a module
+-- what a name is in a module
 abbrev pub role_in : Source → Word → Option Role
 role_in s n = role_among (is_port s.inputs n) (is_port (assigned s) n) (is_port s.registers n)
 
@@ -42,7 +42,7 @@ is_assigned assigns n = list_any (λ (a : Assign). bytes_eq a.target n) assigns
 abbrev pub is_updated : List Update → Word → Bool
 is_updated updates n = list_any (λ (u : Update). bytes_eq u.target n) updates
 
--- the map has what each name is first, and the sets have what is driven
+-- the map has what each name is, and the sets have what is driven
 pub record IsKept {Y : Type 0} (s : Source) (roles : BTreeMap (String Y) Role) (assigns updates : BTreeSet (String Y)) : Type 0 where
   pub found : (n : Word) → get_by_text roles n ≡ role_in s n
   pub driven : (n : Word) → contains_text assigns n ≡ is_assigned s.assigns n

@@ -1,8 +1,9 @@
-ghost use Rattle.std.specs.Prelude.{◌≡◌, IfOk, MatchOption};
+ghost use Rattle.std.specs.Prelude.{◌≡◌, IfOk, OnOk, MatchOption};
+ghost use Rattle.ix_verilog.specs.declared.source.Source.{Source as source_type};
 ghost use Rattle.ix_verilog.specs.Subset.{Names, declared, fresh, with_line};
 ghost use Rattle.ix_verilog.specs.Lines.{port, input, output, wire, register, assign, update};
 ghost use Rattle.ix_vform.specs.Roles.{IsRole};
-ghost use Rattle.ix_vform.specs.Kept.{is_assigned as specified_is_assigned, is_updated as specified_is_updated};
+ghost use Rattle.ix_vform.specs.Kept.{IsKept, is_assigned as specified_is_assigned, is_updated as specified_is_updated};
 
 use crate::role::{Role, declare, mark};
 use ix_bits::{List, Memory, Name};
@@ -12,14 +13,20 @@ use std::alloc::Global;
 use std::collections::{BTreeMap, BTreeSet};
 use std::marker::Model;
 
-/// A module whose lines are read, with what its names are and which of them are driven. Contracts see the module.
+/// What the names of a module are, and which of them are driven.
 #[derive(Drop)]
-pub struct Opened {
+struct Marks {
     alloc: Global,
-    source: Source,
     roles: BTreeMap<String, Role>,
     assigned: BTreeSet<String>,
     updated: BTreeSet<String>,
+}
+
+/// A module whose lines are read, with what is kept of its names. Contracts see the module.
+#[derive(Drop)]
+pub struct Opened {
+    source: Source,
+    marks: Marks,
 }
 
 impl Model for Opened {
@@ -30,20 +37,30 @@ impl Model for Opened {
 
     ghost view = { λ o. o.source };
 
-    ghost invariant = { λ o. IsKept o.source o.roles o.assigned o.updated };
+    ghost invariant = { λ o. IsKept o.source o.marks.roles o.marks.assigned o.marks.updated };
 }
 
 /// Lets go of a module and of what is kept beside it.
-fn let_go(
-    source: Source,
-    roles: BTreeMap<String, Role>,
-    assigned: BTreeSet<String>,
-    updated: BTreeSet<String>,
-) {
+fn let_go(source: Source, marks: Marks) {
     drop(source);
-    drop(roles);
-    drop(assigned);
-    drop(updated);
+    drop(marks);
+}
+
+/// The module behind one more line, where what its name is and the line itself could be stored.
+fn rebuilt(
+    source: Source,
+    marks: Marks,
+    told: Result<(), Memory>,
+    put: Result<(), Memory>,
+) -> Result<Opened, Memory>
+    requires { OnOk told (OnOk put (IsKept source marks.roles marks.assigned marks.updated)) }
+    ensures { (whole : source_type) → OnOk told (OnOk put (source ≡ whole)) → IfOk result (λ o. o ≡ whole) }
+{
+    let (Ok(()), Ok(())) = (told, put) else {
+        let_go(source, marks);
+        return Err(Memory);
+    };
+    Ok(Opened { source, marks })
 }
 
 impl Opened {
@@ -52,7 +69,6 @@ impl Opened {
         ensures { result ≡ fresh name }
     {
         Opened {
-            alloc,
             source: Source {
                 name,
                 ports: List::new(alloc),
@@ -64,9 +80,12 @@ impl Opened {
                 updates: List::new(alloc),
                 stage: Stage::Ports,
             },
-            roles: BTreeMap::new(alloc),
-            assigned: BTreeSet::new(alloc),
-            updated: BTreeSet::new(alloc),
+            marks: Marks {
+                alloc,
+                roles: BTreeMap::new(alloc),
+                assigned: BTreeSet::new(alloc),
+                updated: BTreeSet::new(alloc),
+            },
         }
     }
 
@@ -86,21 +105,21 @@ impl Opened {
     pub fn role_of(&self, name: &str) -> Option<Role>
         ensures { MatchOption result (Names (declared self.now) name.now → ⊥) (IsRole self.now name.now) }
     {
-        self.roles.get(name).copied()
+        self.marks.roles.get(name).copied()
     }
 
     /// Whether an assignment drives the name.
     pub fn is_assigned(&self, name: &str) -> bool
         ensures { result ≡ specified_is_assigned self.now.assigns name.now }
     {
-        self.assigned.contains(name)
+        self.marks.assigned.contains(name)
     }
 
     /// Whether a line of `always` changes the name.
     pub fn is_updated(&self, name: &str) -> bool
         ensures { result ≡ specified_is_updated self.now.updates name.now }
     {
-        self.updated.contains(name)
+        self.marks.updated.contains(name)
     }
 
     /// With one more port of the header.
@@ -127,164 +146,86 @@ impl Opened {
     pub fn with_input(self, declared: Port) -> Result<Opened, Memory>
         ensures { IfOk result (λ o. o ≡ with_line self (input declared)) }
     {
-        let Opened {
-            alloc,
-            source,
-            roles,
-            assigned,
-            updated,
-        } = self;
+        let Opened { source, marks } = self;
         let mut source = source;
-        let mut roles = roles;
-        let told = declare(alloc, &mut roles, declared.name.as_str(), Role::Input);
+        let mut marks = marks;
+        let told = declare(
+            marks.alloc,
+            &mut marks.roles,
+            declared.name.as_str(),
+            Role::Input,
+        );
         let put = source.inputs.push(declared);
-        let (Ok(()), Ok(())) = (told, put) else {
-            let_go(source, roles, assigned, updated);
-            return Err(Memory);
-        };
-        Ok(Opened {
-            alloc,
-            source,
-            roles,
-            assigned,
-            updated,
-        })
+        rebuilt(source, marks, told, put)
     }
 
     pub fn with_output(self, declared: Port) -> Result<Opened, Memory>
         ensures { IfOk result (λ o. o ≡ with_line self (output declared)) }
     {
-        let Opened {
-            alloc,
-            source,
-            roles,
-            assigned,
-            updated,
-        } = self;
+        let Opened { source, marks } = self;
         let mut source = source;
-        let mut roles = roles;
-        let told = declare(alloc, &mut roles, declared.name.as_str(), Role::Assigned);
+        let mut marks = marks;
+        let told = declare(
+            marks.alloc,
+            &mut marks.roles,
+            declared.name.as_str(),
+            Role::Assigned,
+        );
         let put = source.outputs.push(declared);
-        let (Ok(()), Ok(())) = (told, put) else {
-            let_go(source, roles, assigned, updated);
-            return Err(Memory);
-        };
-        Ok(Opened {
-            alloc,
-            source,
-            roles,
-            assigned,
-            updated,
-        })
+        rebuilt(source, marks, told, put)
     }
 
     pub fn with_wire(self, declared: Port) -> Result<Opened, Memory>
         ensures { IfOk result (λ o. o ≡ with_line self (wire declared)) }
     {
-        let Opened {
-            alloc,
-            source,
-            roles,
-            assigned,
-            updated,
-        } = self;
+        let Opened { source, marks } = self;
         let mut source = source;
-        let mut roles = roles;
-        let told = declare(alloc, &mut roles, declared.name.as_str(), Role::Assigned);
+        let mut marks = marks;
+        let told = declare(
+            marks.alloc,
+            &mut marks.roles,
+            declared.name.as_str(),
+            Role::Assigned,
+        );
         let put = source.wires.push(declared);
-        let (Ok(()), Ok(())) = (told, put) else {
-            let_go(source, roles, assigned, updated);
-            return Err(Memory);
-        };
-        Ok(Opened {
-            alloc,
-            source,
-            roles,
-            assigned,
-            updated,
-        })
+        rebuilt(source, marks, told, put)
     }
 
     pub fn with_register(self, declared: Port) -> Result<Opened, Memory>
         ensures { IfOk result (λ o. o ≡ with_line self (register declared)) }
     {
-        let Opened {
-            alloc,
-            source,
-            roles,
-            assigned,
-            updated,
-        } = self;
+        let Opened { source, marks } = self;
         let mut source = source;
-        let mut roles = roles;
-        let told = declare(alloc, &mut roles, declared.name.as_str(), Role::Register);
+        let mut marks = marks;
+        let told = declare(
+            marks.alloc,
+            &mut marks.roles,
+            declared.name.as_str(),
+            Role::Register,
+        );
         let put = source.registers.push(declared);
-        let (Ok(()), Ok(())) = (told, put) else {
-            let_go(source, roles, assigned, updated);
-            return Err(Memory);
-        };
-        Ok(Opened {
-            alloc,
-            source,
-            roles,
-            assigned,
-            updated,
-        })
+        rebuilt(source, marks, told, put)
     }
 
     pub fn with_assign(self, assigned: Assign) -> Result<Opened, Memory>
         ensures { IfOk result (λ o. o ≡ with_line self (assign assigned)) }
     {
-        let added = assigned;
-        let Opened {
-            alloc,
-            source,
-            roles,
-            assigned,
-            updated,
-        } = self;
+        let Opened { source, marks } = self;
         let mut source = source;
-        let mut assigned = assigned;
-        let told = mark(alloc, &mut assigned, added.target.as_str());
-        let put = source.assigns.push(added);
-        let (Ok(()), Ok(())) = (told, put) else {
-            let_go(source, roles, assigned, updated);
-            return Err(Memory);
-        };
-        Ok(Opened {
-            alloc,
-            source,
-            roles,
-            assigned,
-            updated,
-        })
+        let mut marks = marks;
+        let told = mark(marks.alloc, &mut marks.assigned, assigned.target.as_str());
+        let put = source.assigns.push(assigned);
+        rebuilt(source, marks, told, put)
     }
 
     pub fn with_update(self, updated: Update) -> Result<Opened, Memory>
         ensures { IfOk result (λ o. o ≡ with_line self (update updated)) }
     {
-        let added = updated;
-        let Opened {
-            alloc,
-            source,
-            roles,
-            assigned,
-            updated,
-        } = self;
+        let Opened { source, marks } = self;
         let mut source = source;
-        let mut updated = updated;
-        let told = mark(alloc, &mut updated, added.target.as_str());
-        let put = source.updates.push(added);
-        let (Ok(()), Ok(())) = (told, put) else {
-            let_go(source, roles, assigned, updated);
-            return Err(Memory);
-        };
-        Ok(Opened {
-            alloc,
-            source,
-            roles,
-            assigned,
-            updated,
-        })
+        let mut marks = marks;
+        let told = mark(marks.alloc, &mut marks.updated, updated.target.as_str());
+        let put = source.updates.push(updated);
+        rebuilt(source, marks, told, put)
     }
 }

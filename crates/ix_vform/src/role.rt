@@ -9,16 +9,18 @@ use ix_bits::Memory;
 use std::alloc::Global;
 use std::collections::{BTreeMap, BTreeSet};
 
-/// What a name is first.
+/// What a name is in a module. A name that is declared more than once is an input if it is declared
+/// as one, else what an `assign` drives, else a register, in whatever order its declarations stand.
 #[derive(Clone, Copy)]
 pub enum Role {
     Input,
-    /// An output that is no input, or a wire.
+    /// An output or a wire that is no input.
     Assigned,
+    /// A register that is nothing else.
     Register,
 }
 
-/// What a name is that is declared once more.
+/// What a name is by two declarations: the role that comes first in the order of `Role`.
 fn first_of(old: Option<Role>, new: Role) -> Role
     ensures { result ≡ specified_first_of old new }
 {
@@ -36,7 +38,7 @@ fn first_of(old: Option<Role>, new: Role) -> Role
     }
 }
 
-/// Declares a name, which keeps its first role.
+/// Declares a name once more: its role becomes what it is by both declarations.
 pub fn declare(
     alloc: Global,
     roles: &mut BTreeMap<String, Role>,

@@ -1,2 +1,6 @@
-mod Searching
+mod Marking
+mod Leaving
+mod Putting
+mod Looking
+mod Knowing
 mod Naming

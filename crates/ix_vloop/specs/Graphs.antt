@@ -1,5 +1,5 @@
 -- Cells by number, and which cell reads which.
-use Rattle.std.specs.Prelude.{ℕ, ◌<◌, List, [], ◌∷◌, map, length, slice_index_or, Contains, Option, Some, None}
+use Rattle.std.specs.Prelude.{◌≡◌, ◌⊎◌, ℕ, ◌<◌, List, [], ◌∷◌, map, length, slice_index_or, Contains, Option, Some, None}
 use Rattle.std.specs.List.{flat_map}
 use Rattle.std.specs.BTreeMap.{BTreeMap, get_by}
 use Rattle.std.specs.Cmp.Lexicographic.{slice_cmp}
@@ -53,3 +53,22 @@ pub record IsFirstOnLoop (graph : List (List ℕ)) (k : ℕ) : Type 0 where
 -- no cell does
 abbrev pub HasNoLoop : List (List ℕ) → Type 0
 HasNoLoop graph = (k : ℕ) → k < length graph → IsOnLoop graph k → ⊥
+
+-- for each cell those that read it
+pub record AreReaders (graph readers : List (List ℕ)) : Type 0 where
+  pub size : length readers ≡ length graph
+  pub from : (a b : ℕ) → Contains (slice_index_or readers a []) b → Edge graph a b
+  pub to : (a b : ℕ) → Edge graph a b → Contains (slice_index_or readers a []) b
+
+-- the same as far as the first cells read, so many of them
+pub record AreReadersIn (graph : List (List ℕ)) (count : ℕ) (readers : List (List ℕ)) : Type 0 where
+  pub size : length readers ≡ length graph
+  pub from : (a b : ℕ) → Contains (slice_index_or readers a []) b → Edge graph a b
+  pub to : (a b : ℕ) → b < count → Edge graph a b → Contains (slice_index_or readers a []) b
+
+-- the reader is put behind those of each cell that it reads
+pub record Puts (read : List ℕ) (reader : ℕ) (old new : List (List ℕ)) : Type 0 where
+  pub size : length new ≡ length old
+  pub kept : (a b : ℕ) → Contains (slice_index_or old a []) b → Contains (slice_index_or new a []) b
+  pub put : (a : ℕ) → a < length old → Contains read a → Contains (slice_index_or new a []) reader
+  pub only : (a b : ℕ) → Contains (slice_index_or new a []) b → Contains (slice_index_or old a []) b ⊎ ((a < length old) × Contains read a × (b ≡ reader))

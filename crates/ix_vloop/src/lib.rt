@@ -3,6 +3,9 @@
 
 mod first;
 mod graph;
+mod mark;
+mod order;
+mod readers;
 mod search;
 
 pub use first::{first_loop, first_loop_in};

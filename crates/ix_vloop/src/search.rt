@@ -1,23 +1,24 @@
-ghost use Rattle.std.specs.Prelude.{◌≡◌, ◌<◌, ◌↔◌, [], ◌∷◌, ℕ, length, IsTrue, IfOk, OnOk, MatchOption};
-ghost use Rattle.ix_vloop.specs.Graphs.{IsOnLoop, IsFirstOnLoop, HasNoLoop};
-ghost use Rattle.ix_vloop.specs.Searches.{IsMarked, Visits};
+ghost use Rattle.std.specs.Prelude.{◌≡◌, ◌<◌, ◌+◌, [], ◌∷◌, ℕ, List as list_type, length, slice_index_or, IfOk, OnOk};
+ghost use Rattle.ix_vloop.specs.Orders.{IsOrder};
+ghost use Rattle.ix_vloop.specs.Searches.{AreKnown, AreLoops, Feeds, IsNew, Reaches, Visits};
 
+use crate::mark::{Mark, is_new};
 use ix_bits::{List, Memory};
 use std::alloc::Global;
 
-/// Marks a cell, and puts it on the list of those to be looked at, if it was not marked.
-fn visit(cell: usize, marks: &mut [bool], left: &mut Vec<usize>) -> Result<(), Memory>
+/// Marks a cell, and puts it on the list of those to be looked at, if it is new.
+fn visit(cell: usize, marks: &mut [Mark], left: &mut Vec<usize>) -> Result<(), Memory>
     ensures { OnOk result (Visits (cell ∷ []) marks.old left.old.items marks.new left.new.items) }
 {
-    if cell < marks.len() && !marks[cell] {
-        marks[cell] = true;
+    if cell < marks.len() && is_new(marks[cell]) {
+        marks[cell] = Mark::Looped;
         left.push(cell)?;
     }
     Ok(())
 }
 
 /// The same for each of the cells.
-fn visit_all(cells: &[usize], marks: &mut [bool], left: &mut Vec<usize>) -> Result<(), Memory>
+fn visit_all(cells: &[usize], marks: &mut [Mark], left: &mut Vec<usize>) -> Result<(), Memory>
     ensures { OnOk result (Visits cells.now marks.old left.old.items marks.new left.new.items) }
 {
     for cell in cells {
@@ -26,45 +27,77 @@ fn visit_all(cells: &[usize], marks: &mut [bool], left: &mut Vec<usize>) -> Resu
     Ok(())
 }
 
-/// Whether a cell depends on itself, by all that it depends on. Nothing is marked or left before.
+/// Marks the new cells that depend on a cell. Nothing is left to be looked at before.
 fn search(
-    graph: &[List<usize>],
+    readers: &[List<usize>],
     root: usize,
-    marks: &mut [bool],
+    marks: &mut [Mark],
     left: &mut Vec<usize>,
-) -> Result<bool, Memory>
-    requires root_cell { root < length graph.now }
-    requires size { length marks.old ≡ length graph.now }
-    requires clear { (k : ℕ) → IsMarked marks.old k → ⊥ }
+) -> Result<(), Memory>
+    requires cell { root < length readers.now }
+    requires size { length marks.old ≡ length readers.now }
     requires nothing_left { left.old.items ≡ [] }
-    ensures { IfOk result (λ r. IsTrue r ↔ IsOnLoop graph.now root) }
+    ensures { OnOk result (Reaches readers.now root marks.old marks.new) }
 {
     left.push(root)?;
     while let Some(cell) = left.pop() {
-        prove!(cell < graph.len());
-        visit_all(graph[cell].as_slice(), marks, left)?;
+        prove!(cell < readers.len());
+        visit_all(readers[cell].as_slice(), marks, left)?;
     }
-    Ok(marks[root])
+    Ok(())
 }
 
-/// Whether a cell depends on itself.
-fn is_on_loop(alloc: Global, graph: &[List<usize>], root: usize) -> Result<bool, Memory>
-    requires { root < length graph.now }
-    ensures { IfOk result (λ r. IsTrue r ↔ IsOnLoop graph.now root) }
+/// Marks what depends on a cell and the cell on it, where those behind it in an order are known.
+fn look_at(
+    alloc: Global,
+    readers: &[List<usize>],
+    root: usize,
+    marks: &mut [Mark],
+) -> Result<(), Memory>
+    requires cell { root < length readers.now }
+    requires size { length marks.old ≡ length readers.now }
+    ensures { OnOk result ((order : list_type ℕ) (place : ℕ) → IsOrder (Feeds readers.now) (length readers.now) order → place < length order → slice_index_or order place 0 ≡ root
+        → AreKnown readers.now order (place + 1) marks.old → AreKnown readers.now order place marks.new) }
 {
-    let mut marks = vec![in alloc; false; graph.len()]?;
+    if !is_new(marks[root]) {
+        return Ok(());
+    }
     let mut left = Vec::new(alloc);
-    search(graph, root, &mut marks, &mut left)
+    search(readers, root, marks, &mut left)?;
+    if is_new(marks[root]) {
+        marks[root] = Mark::Free;
+    }
+    Ok(())
 }
 
-/// The first cell that depends on itself.
-pub(crate) fn first_on_loop(alloc: Global, graph: &[List<usize>]) -> Result<Option<usize>, Memory>
-    ensures { IfOk result (λ o. MatchOption o (HasNoLoop graph.now) (IsFirstOnLoop graph.now)) }
+/// Looks at the cells of an order, the last one first.
+fn look_at_all(
+    alloc: Global,
+    readers: &[List<usize>],
+    order: &[usize],
+    marks: &mut [Mark],
+) -> Result<(), Memory>
+    requires order { IsOrder (Feeds readers.now) (length readers.now) order.now }
+    requires known { AreKnown readers.now order.now (length order.now) marks.old }
+    ensures { OnOk result (AreKnown readers.now order.now 0 marks.new) }
 {
-    for cell in 0..graph.len() {
-        if is_on_loop(alloc, graph, cell)? {
-            return Ok(Some(cell));
-        }
+    for place in (0..order.len()).rev() {
+        look_at(alloc, readers, order[place], marks)?;
     }
-    Ok(None)
+    Ok(())
+}
+
+/// Marks the cells that depend on themselves, by the lists of readers and an order in which a
+/// search leaves the cells behind.
+pub fn loops_in(
+    alloc: Global,
+    readers: &[List<usize>],
+    order: &[usize],
+) -> Result<Vec<Mark>, Memory>
+    requires { IsOrder (Feeds readers.now) (length readers.now) order.now }
+    ensures { IfOk result (λ marks. AreLoops readers.now marks.items) }
+{
+    let mut marks = vec![in alloc; Mark::New; readers.len()]?;
+    look_at_all(alloc, readers, order, &mut marks)?;
+    Ok(marks)
 }

@@ -1,5 +1,5 @@
 -- Places and lines.
-use Rattle.std.proofs.Common.{Some, ◌≡◌, ◌⊎◌, inl, inr, ℕ, zero, suc, ◌+◌, ◌<◌, ◌^◌, List, [], ◌∷◌, ◌++◌, Bool, true, false, cond, length, take, drop, get_or, map, filter, refl, ap, sym, ◌∙◌, subst, arith}
+use Rattle.std.proofs.Common.{Some, ◌≡◌, ◌⊎◌, inl, inr, ℕ, zero, suc, ◌+◌, ◌<◌, ◌≤◌, ◌^◌, List, [], ◌∷◌, ◌++◌, Bool, true, false, cond, length, take, drop, get_or, map, filter, refl, ap, sym, ◌∙◌, subst, arith}
 use Rattle.std.specs.Prelude.{slice_get}
 use Rattle.std.specs.List.{AllByRecursion}
 use Rattle.std.proofs.lemmas.List.{length-map, length-append, take_more, drop-drop, get_or-drop}
@@ -7,10 +7,9 @@ use Rattle.ix_verilog.specs.declared.source.Source.{Source}
 use Rattle.ix_verilog.specs.declared.token.Token.{Token}
 use Rattle.ix_verilog.specs.Words.{Spells, words_of}
 use Rattle.ix_verilog.specs.Subset.{IsWritten, place_of_token}
-use Rattle.ix_verilog.proofs.OneSpelling.{one_spelling}
 use Rattle.ix_vnets.specs.Drives.{is_drive, DriveFits, IsFirstNot, assigning, updating, drives, drives_in}
 use Rattle.ix_vread.specs.Told.{begins_drive}
-use Rattle.ix_vread.specs.Spots.{drive_place, IsDrivePlace}
+use Rattle.ix_vread.specs.Spots.{drive_place}
 use Rattle.ix_vread.proofs.Places.{spelled_within}
 
 -- ---- lists
@@ -67,23 +66,19 @@ small_at n [] (suc k) h = inl refl
 small_at n (t ∷ ts) zero h = inr h.0
 small_at n (t ∷ ts) (suc k) h = small_at n ts k h.1
 
-pub place_found : (text : List ℕ) (tokens : List Token) (places rest : List ℕ) (n drive place : ℕ) → length text < 2 ^ 32 → Spells 0 text tokens → places ≡ map (λ (t : Token). t.place) (filter begins_drive tokens) → rest ≡ drop n places → place ≡ get_or rest drive 0
-    → IsDrivePlace text (n + drive) place
-place_found text tokens places rest n drive place small s e r p =
-    let here : place ≡ drive_place tokens (n + drive) = p ∙ ap (λ z. get_or z drive 0) r ∙ get_or-drop n places drive 0 ∙ ap (λ z. get_or z (n + drive) 0) e ∙ get_place (filter begins_drive tokens) (n + drive) in
+pub place_found : (tokens : List Token) (places rest : List ℕ) (n drive place : ℕ) → places ≡ map (λ (t : Token). t.place) (filter begins_drive tokens) → rest ≡ drop n places → place ≡ get_or rest drive 0
+    → place ≡ drive_place tokens (n + drive)
+place_found tokens places rest n drive place e r p =
+    p ∙ ap (λ z. get_or z drive 0) r ∙ get_or-drop n places drive 0 ∙ ap (λ z. get_or z (n + drive) 0) e ∙ get_place (filter begins_drive tokens) (n + drive)
+
+pub place_small : (text : List ℕ) (tokens : List Token) (number place : ℕ) → length text < 2 ^ 32 → Spells 0 text tokens → place ≡ drive_place tokens number → (place ≤ length text) × (place + 1 < 2 ^ 32)
+place_small text tokens number place small s here =
     let zero_more : 0 + length text ≡ length text = omega arith in
-    let bound : (place ≡ 0) ⊎ (place < length text) = subst (λ z. (z ≡ 0) ⊎ (z < length text)) (sym here) (small_at (length text) (filter begins_drive tokens) (n + drive) (kept begins_drive (length text) tokens (subst (λ z. AllByRecursion (λ (t : Token). t.place < z) tokens) zero_more (spelled_within s)))) in
-    record {
-      is = λ others q. here ∙ ap (λ ts. drive_place ts (n + drive)) (one_spelling s text refl q);
-      within = elim bound [
-        | inl z ↦ omega (arith, z)
-        | inr z ↦ omega (arith, z)
-      ];
-      small = elim bound [
-        | inl z ↦ omega (arith, z)
-        | inr z ↦ omega (arith, z, small)
-      ];
-    }
+    let bound : (place ≡ 0) ⊎ (place < length text) = subst (λ z. (z ≡ 0) ⊎ (z < length text)) (sym here) (small_at (length text) (filter begins_drive tokens) number (kept begins_drive (length text) tokens (subst (λ z. AllByRecursion (λ (t : Token). t.place < z) tokens) zero_more (spelled_within s)))) in
+    elim bound [
+      | inl z ↦ (omega (arith, z), omega (arith, z))
+      | inr z ↦ (omega (arith, z), omega (arith, z, small))
+    ]
 
 -- the word with which a line begins
 same_count : (ts : List Token) → length (filter is_drive (words_of ts)) ≡ length (filter begins_drive ts)

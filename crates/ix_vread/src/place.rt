@@ -1,11 +1,10 @@
 ghost use Rattle.std.specs.Prelude.{◌≡◌, ◌+◌, ◌<◌, ◌≤◌, ◌^◌, length, map, filter, slice_index_or, drop, IfOk};
 ghost use Rattle.ix_vnets.specs.Drives.{drives};
 ghost use Rattle.ix_vread.specs.Told.{line_at as specified_line, begins_drive as specified_begins};
-ghost use Rattle.ix_vread.specs.Spots.{IsDrivePlace};
+ghost use Rattle.ix_vread.specs.Spots.{drive_place as specified_place};
 
 use ix_bits::Memory;
 use ix_verilog::{Source, Token};
-use ix_vlex::words_in;
 use std::alloc::Global;
 
 /// Whether a word is one with which a line of widths begins.
@@ -65,15 +64,13 @@ fn place_at(places: &[u32], number: usize) -> u32
 /// Where a line of widths begins, behind those of modules.
 pub(crate) fn drive_place(
     alloc: Global,
-    bytes: &[u8],
+    tokens: &[Token],
     modules: &[Source],
     drive: usize,
 ) -> Result<u32, Memory>
-    requires { length bytes.now < 2 ^ 32 }
-    ensures { IfOk result (IsDrivePlace bytes.now (length (drives modules.now) + drive)) }
+    ensures { IfOk result (λ place. place ≡ specified_place tokens.now (length (drives modules.now) + drive)) }
 {
-    let tokens = words_in(alloc, bytes)?;
-    let places = places_in(alloc, tokens.as_slice())?;
+    let places = places_in(alloc, tokens)?;
     Ok(place_at(behind_modules(&places, modules), drive))
 }
 

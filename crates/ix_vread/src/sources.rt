@@ -1,4 +1,5 @@
 ghost use Rattle.std.specs.Prelude.{◌≡◌, ◌<◌, ◌^◌, [], length, IfOk, IfErr};
+ghost use Rattle.ix_verilog.specs.Words.{Spells};
 ghost use Rattle.ix_verilog.specs.Subset.{IsWritten, place_of_token};
 ghost use Rattle.ix_vonce.specs.Names.{AllOnce, said};
 ghost use Rattle.ix_vread.specs.Told.{IsTold, IsDoubled};
@@ -21,16 +22,13 @@ fn place_of(tokens: &[Token], number: usize, end: u32) -> u32
     }
 }
 
-/// The modules that a text is, in their order. It has fewer than 2^32 bytes.
-fn written_in(alloc: Global, bytes: &[u8]) -> Result<List<Source>, VErr>
-    requires { length bytes.now < 2 ^ 32 }
+/// The modules that the words of a text are, in their order. It has fewer than 2^32 bytes.
+fn written_in(alloc: Global, bytes: &[u8], tokens: &[Token]) -> Result<List<Source>, VErr>
+    requires small { length bytes.now < 2 ^ 32 }
+    requires spelled { Spells 0 bytes.now tokens.now }
     ensures written { IfOk result (IsWritten bytes.now) }
     ensures refused { IfErr result (IsTold bytes.now) }
 {
-    let Ok(tokens) = words_in(alloc, bytes) else {
-        return Err(VErr::Memory);
-    };
-    let tokens = tokens.as_slice();
     match modules_in(alloc, tokens) {
         Ok(modules) => Ok(modules),
         Err(ParseErr::At { word }) => Err(VErr::At {
@@ -52,15 +50,33 @@ fn once(alloc: Global, modules: List<Source>) -> Result<List<Source>, VErr>
     }
 }
 
-/// The modules that a text is, in their order, where no name in them is declared or driven twice. The text has fewer than 2^32 bytes.
+/// The modules that the words of a text are, in their order, where no name in them is declared or driven twice. The text has fewer than 2^32 bytes.
+pub(crate) fn sources_of(
+    alloc: Global,
+    bytes: &[u8],
+    tokens: &[Token],
+) -> Result<List<Source>, VErr>
+    requires small { length bytes.now < 2 ^ 32 }
+    requires spelled { Spells 0 bytes.now tokens.now }
+    ensures written { IfOk result (IsWritten bytes.now) }
+    ensures once { IfOk result (λ modules. AllOnce (said [] modules)) }
+    ensures refused { IfErr result (IsTold bytes.now) }
+{
+    match written_in(alloc, bytes, tokens) {
+        Ok(modules) => once(alloc, modules),
+        Err(error) => Err(error),
+    }
+}
+
+/// The same of a text.
 pub fn sources_in(alloc: Global, bytes: &[u8]) -> Result<List<Source>, VErr>
     requires { length bytes.now < 2 ^ 32 }
     ensures written { IfOk result (IsWritten bytes.now) }
     ensures once { IfOk result (λ modules. AllOnce (said [] modules)) }
     ensures refused { IfErr result (IsTold bytes.now) }
 {
-    match written_in(alloc, bytes) {
-        Ok(modules) => once(alloc, modules),
-        Err(error) => Err(error),
+    match words_in(alloc, bytes) {
+        Ok(tokens) => sources_of(alloc, bytes, tokens.as_slice()),
+        Err(_) => Err(VErr::Memory),
     }
 }

@@ -35,6 +35,10 @@ use Rattle.ix_io.specs.Shelf.{NamedFiles, told_file}
 abbrev pub file_line : List ℕ → List ℕ → List ℕ
 file_line kind name = codes "refused " ++ kind ++ codes " " ++ name ++ codes "\n"
 
+-- the line of a refusal for what stands at a number of a file
+abbrev pub numbered_line : List ℕ → ℕ → List ℕ
+numbered_line kind number = codes "refused " ++ kind ++ codes " " ++ decimal number ++ codes "\n"
+
 -- a refusal that names a line of the image
 abbrev pub image_line : ℕ → List ℕ
 image_line number = codes "refused Image " ++ decimal number ++ codes "\n"

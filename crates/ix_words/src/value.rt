@@ -4,7 +4,7 @@ ghost use Rattle.ix_io.specs.Limits.{most_bytes};
 ghost use Rattle.ix_cert.specs.declared.report.CertErr.TheVariants.{Memory};
 ghost use Rattle.ix_listing.specs.RefusalLine.{refusal_line};
 ghost use Rattle.ix_words.specs.CommandLine.{fits_slot, fits_slots, bytes_of};
-ghost use Rattle.ix_words.specs.WordsRead.{image_line, file_line, certificate_line, sheet_text, sheet_line, waits_line, lines_line, Refuses, Judged, WordRead, WordsRefused, AreRead, RoseIn};
+ghost use Rattle.ix_words.specs.WordsRead.{numbered_line, file_line, certificate_line, sheet_text, sheet_line, Refuses, Judged, WordRead, WordsRefused, AreRead, RoseIn};
 ghost use Rattle.ix_words.specs.Readings.{reading_of};
 ghost use Rattle.ix_words.specs.declared.command.FileKind.{FileKind as Kind};
 ghost use Rattle.ix_words.specs.declared.command.FileKind.TheVariants.{Image as image_kind, Report as report_kind, Extension as extension_kind, Sheet as sheet_kind, Source as source_kind, Waits as waits_kind, Lines as lines_kind, Trace as trace_kind};
@@ -64,32 +64,12 @@ fn file_refusal(alloc: Global, status: Status, kind: &str, name: &str) -> Refusa
     }
 }
 
-/// The refusal of a line of an image.
-fn image_refusal(alloc: Global, number: u32) -> Refusal
-    ensures { Refuses Status.Image (image_line number) result }
+/// The refusal of a file for what stands at one of its numbers: that of a line of an image, of a wait, or of a row of an interrupt line.
+fn numbered_refusal(alloc: Global, status: Status, kind: &str, number: u32) -> Refusal
+    ensures { Refuses status (numbered_line kind.now number) result }
 {
-    match format!(in alloc; "refused Image {number}\n") {
-        Ok(line) => Refusal::Line(Status::Image, line),
-        Err(_) => Refusal::Memory,
-    }
-}
-
-/// The refusal of a number of a list of waits.
-fn waits_refusal(alloc: Global, number: u32) -> Refusal
-    ensures { Refuses Status.Waits (waits_line number) result }
-{
-    match format!(in alloc; "refused Waits {number}\n") {
-        Ok(line) => Refusal::Line(Status::Waits, line),
-        Err(_) => Refusal::Memory,
-    }
-}
-
-/// The refusal of a number of a list of the rows in which an interrupt line is raised.
-fn lines_refusal(alloc: Global, number: u32) -> Refusal
-    ensures { Refuses Status.Lines (lines_line number) result }
-{
-    match format!(in alloc; "refused Lines {number}\n") {
-        Ok(line) => Refusal::Line(Status::Lines, line),
+    match format!(in alloc; "refused {kind} {number}\n") {
+        Ok(line) => Refusal::Line(status, line),
         Err(_) => Refusal::Memory,
     }
 }
@@ -153,7 +133,7 @@ fn judge_image(alloc: Global, bytes: &[u8]) -> Result<Value, Refusal>
     ensures { Judged image_kind bytes.now result }
 {
     match read_image(alloc, bytes) {
-        Err(TextErr::At(number)) => Err(image_refusal(alloc, number)),
+        Err(TextErr::At(number)) => { Err(numbered_refusal(alloc, Status::Image, "Image", number)) }
         Err(TextErr::Memory) => Err(Refusal::Memory),
         Ok(image) => Ok(Value::Image(image)),
     }
@@ -184,7 +164,7 @@ fn judge_waits(alloc: Global, bytes: &[u8]) -> Result<Value, Refusal>
 {
     match read_waits(alloc, bytes) {
         Ok(waits) => Ok(Value::Waits(waits)),
-        Err(TextErr::At(number)) => Err(waits_refusal(alloc, number)),
+        Err(TextErr::At(number)) => { Err(numbered_refusal(alloc, Status::Waits, "Waits", number)) }
         Err(TextErr::Memory) => Err(Refusal::Memory),
     }
 }
@@ -194,7 +174,7 @@ fn judge_lines(alloc: Global, bytes: &[u8]) -> Result<Value, Refusal>
 {
     match read_lines(alloc, bytes) {
         Ok(lines) => Ok(Value::Lines(lines)),
-        Err(TextErr::At(number)) => Err(lines_refusal(alloc, number)),
+        Err(TextErr::At(number)) => { Err(numbered_refusal(alloc, Status::Lines, "Lines", number)) }
         Err(TextErr::Memory) => Err(Refusal::Memory),
     }
 }

@@ -7,10 +7,10 @@ use Rattle.rv_asks.specs.Asks.{asks_with, blank_outline}
 use Rattle.rv_isa.specs.Table.{row_of as base_row, format_of, base_formats}
 use Rattle.rv_isa.specs.Fields.{fields_of}
 use Rattle.rv_isa.specs.Decoded.{decoded}
-use Rattle.rv_effect.specs.declared.decoded.Decoded.{Decoded}
-use Rattle.rv_effect.specs.declared.decoded.Decoded.TheVariants as D
-use Rattle.rv_effect.specs.Decoding.{decoded_in}
-use Rattle.rv_effect.specs.WordEffects.{effect_of, over, blocks_effect}
+use Rattle.rv_seq.specs.declared.decoded.Decoded.{Decoded}
+use Rattle.rv_seq.specs.declared.decoded.Decoded.TheVariants as D
+use Rattle.rv_seq.specs.Decoding.{decoded_in}
+use Rattle.rv_seq.specs.WordEffects.{effect_of, over, blocks_effect}
 use Rattle.rv_lawful.specs.Headline.{AgreesWithRun, Agreeing}
 use Rattle.rv_lawful.specs.LawfulTrace.{fetch_address, next_serial, reads_of, IsDueToStop, WaitsForOperand, WaitsToDrain, OwnHold, StopsRun, ShowsHold, Settles, successor, LawfulRow, Lawful}
 use Rattle.rv_lawful.specs.Settings.{Stands}

@@ -8,10 +8,10 @@ use Rattle.rv_core.specs.declared.Shape.{Shape}
 use Rattle.rv_isa.specs.Table.{row_of as base_row, format_of, base_formats}
 use Rattle.rv_isa.specs.Fields.{fields_of}
 use Rattle.rv_isa.specs.Decoded.{decoded}
-use Rattle.rv_effect.specs.declared.decoded.Decoded.{Decoded}
-use Rattle.rv_effect.specs.declared.decoded.Decoded.TheVariants as D
-use Rattle.rv_effect.specs.Decoding.{decoded_in}
-use Rattle.rv_effect.specs.WordEffects.{effect_of, over, blocks_effect}
+use Rattle.rv_seq.specs.declared.decoded.Decoded.{Decoded}
+use Rattle.rv_seq.specs.declared.decoded.Decoded.TheVariants as D
+use Rattle.rv_seq.specs.Decoding.{decoded_in}
+use Rattle.rv_seq.specs.WordEffects.{effect_of, over, blocks_effect}
 use Rattle.rv_lawful.specs.LawfulTrace.{fetch_address, next_serial, WaitsForOperand, Lawful}
 use Rattle.rv_lawful.specs.Outstanding.{units_after}
 use Rattle.rv_lawful.specs.Sight.{SpawnsNothing}

@@ -5,8 +5,8 @@ use Rattle.ix_plan.specs.Units.{Slots}
 use Rattle.rv_isa.specs.Table.{row_of as base_row, format_of, base_formats}
 use Rattle.rv_isa.specs.Fields.{fields_of}
 use Rattle.rv_isa.specs.Decoded.{decoded}
-use Rattle.rv_effect.specs.Decoding.{decoded_in}
-use Rattle.rv_effect.specs.WordEffects.{effect_of, over, blocks_effect}
+use Rattle.rv_seq.specs.Decoding.{decoded_in}
+use Rattle.rv_seq.specs.WordEffects.{effect_of, over, blocks_effect}
 use Rattle.rv_lawful.specs.LawfulTrace.{fetch_address, next_serial, Lawful}
 use Rattle.rv_lawful.specs.Outstanding.{units_after, is_written, decoupled}
 use Rattle.rv_seq.specs.Commits.{commit_of, applied}

@@ -2,7 +2,7 @@
 use Rattle.std.specs.Prelude.{ℕ, ◌+◌, List, [], ◌∷◌, replicate, Option, Some, None}
 use Rattle.rv_asks.specs.declared.asks.Asks.{Asks}
 use Rattle.rv_asks.specs.Asks.{asks_with, blank_outline}
-use Rattle.rv_effect.specs.Decoding.{decoded_in}
+use Rattle.rv_seq.specs.Decoding.{decoded_in}
 use Rattle.rv_lawful.specs.Headline.{Agreeing}
 use Rattle.rv_lawful.specs.Settings.{Setting, course_of}
 use Rattle.rv_seq.specs.Bare.{bare}

@@ -6,8 +6,8 @@ use Rattle.rv_isa.specs.declared.rows.TheConstants.{FENCE}
 use Rattle.rv_isa.specs.Fields.{rd_of, rs1_of, rs2_of}
 use Rattle.rv_base.specs.Effects.{load_at, store_at}
 use Rattle.rv_core.specs.declared.Shape.{Shape}
-use Rattle.rv_effect.specs.declared.decoded.Decoded.{Decoded}
-use Rattle.rv_effect.specs.declared.decoded.Decoded.TheVariants as D
+use Rattle.rv_seq.specs.declared.decoded.Decoded.{Decoded}
+use Rattle.rv_seq.specs.declared.decoded.Decoded.TheVariants as D
 use Rattle.ix_graph.specs.declared.graph.Mode.{Mode}
 use Rattle.ix_graph.specs.declared.graph.Mode.TheVariants.{Tight}
 use Rattle.ix_plan.specs.declared.design.Plan.{Plan}

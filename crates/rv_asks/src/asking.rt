@@ -10,9 +10,9 @@ use ix_bits::{List, Memory};
 use ix_plan::{Design, Plan};
 use rv_base::{load_of, store_of};
 use rv_core::Shape;
-use rv_effect::{Decoded, rd_of, rs1_of, rs2_of};
 use rv_isa::Base;
 use rv_isa::rows::FENCE;
+use rv_seq::{Decoded, rd_of, rs1_of, rs2_of};
 use rv_unit::unit_of;
 use std::alloc::Global;
 

@@ -5,13 +5,13 @@ use Rattle.std.proofs.lemmas.Bool.Decides.{nat_tests}
 use Rattle.std.specs.Prelude.{slice_get, map, option_map}
 use Rattle.std.specs.List.{join_with_byte}
 use Rattle.std.proofs.Common.{get_or}
-use Rattle.std.proofs.lemmas.List.{append-nil, length-take}
+use Rattle.std.proofs.lemmas.List.{length-take}
 use Rattle.std.proofs.lemmas.List.Splits.{join_with_byte-slice_split}
 use Rattle.std.proofs.lemmas.Option.{slice_get-map, slice_get-get_or, slice_get_within}
 use Rattle.std.proofs.Common.{length-append, take, drop}
 use Rattle.rv_asm.specs.declared.image_text.Line.{Line}
 use Rattle.rv_asm.specs.declared.image_text.Line.TheVariants.{Skipped, Word, Bad}
-use Rattle.rv_asm.specs.ImageText.{hex_value, lines_of, line_of, with_word, words_in, AllGood, IsImageText, IsBadLine, IsLineOfWord}
+use Rattle.rv_asm.specs.ImageText.{hex_value, lines_of, line_of, with_word, words_in, AllGood, IsImageText, IsBadLine}
 
 between : (low high b : ℕ) → (nat_le low b && nat_le b high) ≡ true → (low ≤ b) × (b ≤ high)
 between low high b h = (left (nat_le low b) refl h, right (nat_le low b) h) where
@@ -133,32 +133,3 @@ bad_line bytes words i number line h e g w few why =
 -- a text has one image
 pub one_image : (bytes xs ys : List ℕ) → IsImageText bytes xs → IsImageText bytes ys → xs ≡ ys
 one_image bytes xs ys x y = x.words_are ∙ sym y.words_are
-
--- one more line has been passed
-pub passed_word : (all : List (List ℕ)) (i before word : ℕ) (line : List ℕ) → slice_get all i ≡ Some line → before ≡ length (words_in (take i all)) → line_of line ≡ Word word → before + 1 ≡ length (words_in (take (i + 1) all))
-passed_word all i before word line h e k =
-    let l = ap length (words_next all i line h ∙ ap (λ k. words_in (take i all) ++ with_word k []) k) ∙ length-append (words_in (take i all)) (word ∷ []) in
-    omega (arith, e, l)
-
-no_word : (words : List ℕ) (k : Line) → ((word : ℕ) → k ≡ Word word → ⊥) → words ++ with_word k [] ≡ words
-no_word words Skipped f = append-nil words
-no_word words (Word w) f = absurd (f w refl)
-no_word words Bad f = append-nil words
-
-pub passed_other : (all : List (List ℕ)) (i before : ℕ) (line : List ℕ) → slice_get all i ≡ Some line → before ≡ length (words_in (take i all)) → ((word : ℕ) → line_of line ≡ Word word → ⊥) → before ≡ length (words_in (take (i + 1) all))
-passed_other all i before line h e f = e ∙ ap length (sym (words_next all i line h ∙ no_word (words_in (take i all)) (line_of line) f))
-
-pub line_of_word : (bytes : List ℕ) (i number line_number word : ℕ) (line : List ℕ) → slice_get (lines_of bytes) i ≡ Some line → line_number ≡ i + 1 → line_of line ≡ Word word → number ≡ length (words_in (take i (lines_of bytes))) → IsLineOfWord bytes number line_number
-line_of_word bytes i number line_number word line h e is n =
-    let lt = slice_get_within (lines_of bytes) i line h in
-    let t : length (take i (lines_of bytes)) ≡ i = length-take i (lines_of bytes) ∙ omega (arith, lt) in
-    record {
-      before = take i (lines_of bytes);
-      line = line;
-      behind = drop (suc i) (lines_of bytes);
-      word = word;
-      parts = parts_at (lines_of bytes) i line h;
-      line_number_is = omega (arith, e, t);
-      is_word = is;
-      number_is = n;
-    }

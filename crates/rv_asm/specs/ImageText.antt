@@ -99,17 +99,6 @@ abbrev pub IsRefusal : List ℕ → TextErr → Type 0
 IsRefusal bytes (At number) = IsBadLine bytes number
 IsRefusal bytes Memory = Unit {0}
 
--- the line of this number, from 1, has the word of this number, from 0
-pub record IsLineOfWord (bytes : List ℕ) (number line_number : ℕ) : Type 0 where
-  pub before : List (List ℕ)
-  pub line : List ℕ
-  pub behind : List (List ℕ)
-  pub word : ℕ
-  pub parts : lines_of bytes ≡ before ++ line ∷ behind
-  pub line_number_is : line_number ≡ length before + 1
-  pub is_word : line_of line ≡ Word word
-  pub number_is : number ≡ length (words_in before)
-
 -- the printed line of a word: eight lower-case hexadecimal digits
 abbrev pub word_text : ℕ → List ℕ
 word_text word = hex_digits 8 word ++ 10 ∷ []

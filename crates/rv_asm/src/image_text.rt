@@ -1,7 +1,6 @@
 ghost use Rattle.std.specs.Prelude.{◌≡◌, ◌≢◌, ℕ, ◌+◌, ◌*◌, ◌^◌, ◌<◌, ◌≤◌, List, length, map, IfOk, IfErr, MatchResult};
-ghost use Rattle.rv_asm.specs.ImageText.{lines_of, is_blank as specified_is_blank, without_blanks, without_last_blanks, hex_value as specified_hex_value, hex_word as specified_hex_word, is_skipped as specified_is_skipped, line_of as specified_line_of, words_in, IsImageText, IsRefusal, IsLineOfWord};
+ghost use Rattle.rv_asm.specs.ImageText.{lines_of, is_blank as specified_is_blank, without_blanks, without_last_blanks, hex_value as specified_hex_value, hex_word as specified_hex_word, is_skipped as specified_is_skipped, line_of as specified_line_of, IsImageText, IsRefusal};
 
-use ix_bits::Memory;
 use rv_isa::Image;
 use std::alloc::{AllocError, Global};
 
@@ -140,23 +139,4 @@ pub fn read_image(alloc: Global, bytes: &[u8]) -> Result<Image, TextErr>
         }
     }
     Ok(image)
-}
-
-/// The line, from 1, of the word of this number, from 0. The text has that many words and one more.
-pub fn line_of_word(alloc: Global, bytes: &[u8], number: u32) -> Result<u32, Memory>
-    requires short { length bytes.now < 2 ^ 32 }
-    requires within { number < length (words_in (lines_of bytes.now)) }
-    ensures { IfOk result (λ line. IsLineOfWord bytes.now number line) }
-{
-    let lines = lines(alloc, bytes)?;
-    let mut before = 0u32;
-    for (i, line) in lines.iter().enumerate() {
-        if let Line::Word(_) = line_of(line) {
-            if before == number {
-                return Ok((i + 1) as u32);
-            }
-            before += 1;
-        }
-    }
-    unreachable!()
 }

@@ -11,7 +11,7 @@ mod source;
 mod waits_text;
 
 pub use image_print::print_image;
-pub use image_text::{TextErr, line_of_word, read_image};
+pub use image_text::{TextErr, read_image};
 pub use laws::{base_lines_decode, numbers_are_whole};
 pub use lines_text::read_lines;
 pub use rv_waits::{Lines, Waits};

@@ -1,10 +1,11 @@
 ghost use Rattle.std.specs.Prelude.{◌≡◌, ℕ, ◌<◌, ◌≤◌, ◌^◌, List, length, map, Ok, IfOk, IfErr, OnOk, IsOkUnless};
 ghost use Rattle.ix_extension.specs.Extensions.{view_instruction, view_extension};
+ghost use Rattle.rv_asm_field.specs.Customs.{AreForms};
 ghost use Rattle.rv_asm_line.specs.Labels.{place_of, found};
 ghost use Rattle.rv_asm.specs.Sources.{Assembly, prepended, after, assembled_from, Assembles, IsErrOf, IsRefusedAs};
 
 use ix_tree::{Extension, Instruction};
-use rv_asm_field::Verdict;
+use rv_asm_field::{CustomForm, Verdict, custom_forms};
 use rv_asm_line::{Place, labels, line_verdict_of};
 use rv_asm_text::lines;
 use rv_isa::Image;
@@ -54,9 +55,11 @@ fn take_line(image: &mut Image, number: u32, verdict: Verdict) -> Result<(), Asm
 fn assemble_lines(
     alloc: Global,
     instructions: &[Instruction],
+    forms: &BTreeMap<&[u8], CustomForm>,
     labels: &BTreeMap<&[u8], Place>,
     lines: &[&[u8]],
 ) -> Result<Image, AsmErr>
+    requires known { AreForms (map view_instruction instructions.now) forms.now }
     requires short { length lines.now ≤ 2 ^ 31 }
     ensures words { IfOk result (λ image. assembled_from (map view_instruction instructions.now) (found labels.now) 0 0 (map (λ line. line.now) lines.now) ≡ Ok image) }
     ensures refused { IfErr result (λ e. IsErrOf (assembled_from (map view_instruction instructions.now) (found labels.now) 0 0 (map (λ line. line.now) lines.now)) e) }
@@ -64,7 +67,8 @@ fn assemble_lines(
     let mut image = Image::new(alloc);
     for (i, line) in lines.iter().enumerate() {
         let number = i as u32;
-        let Ok(verdict) = line_verdict_of(alloc, instructions, labels, number, image.len(), line)
+        let at = image.len();
+        let Ok(verdict) = line_verdict_of(alloc, instructions, forms, labels, number, at, line)
         else {
             return Err(AsmErr::Memory);
         };
@@ -92,12 +96,11 @@ pub fn assemble(alloc: Global, extension: &Extension, bytes: &[u8]) -> Result<Im
     let Ok(labels) = labels(alloc, lines.as_slice()) else {
         return Err(AsmErr::Memory);
     };
-    match assemble_lines(
-        alloc,
-        extension.instructions.as_slice(),
-        &labels,
-        lines.as_slice(),
-    ) {
+    let instructions = extension.instructions.as_slice();
+    let Ok(forms) = custom_forms(alloc, instructions) else {
+        return Err(AsmErr::Memory);
+    };
+    match assemble_lines(alloc, instructions, &forms, &labels, lines.as_slice()) {
         Ok(image) => Ok(image),
         Err(error) => Err(error),
     }

@@ -84,3 +84,8 @@ own_verdict i texts = filled i.pieces (Word i.matches) (operands_of i.behaviour.
 abbrev pub named_instruction : List ℕ → List InstructionTree → Option InstructionTree
 named_instruction name [] = None
 named_instruction name (i ∷ is) = if same_bytes i.behaviour.name name then Some i else named_instruction name is
+
+-- what the instruction that was found says, and Line where there is none
+abbrev pub found_verdict : List (List ℕ) → Option InstructionTree → Verdict
+found_verdict texts None = Line
+found_verdict texts (Some i) = own_verdict i texts

@@ -1,3 +1,4 @@
+pub mod Customs
 pub mod Filling
 pub mod Indexing
 pub mod Operands

@@ -1,15 +1,11 @@
-ghost use Rattle.std.specs.Prelude.{◌≡◌, ◌+◌, ◌-◌, ◌*◌, ◌/◌, ◌%◌, ◌^◌, ◌≤◌, ◌<◌, map, min, max, bit_or, option_map, Some, None, IfOk, IfSome};
-ghost use Rattle.ix_tree.specs.Lexing.{same_bytes};
-ghost use Rattle.ix_extension.specs.Extensions.{view_instruction};
-ghost use Rattle.rv_asm_field.specs.Filling.{width_from, pattern_in as specified_pattern_in, part_of, shifted as specified_shifted, given_from, placed_from, is_given as specified_is_given, placed_in, field_bits as specified_field_bits, operand_bits as specified_operand_bits, with_bits as specified_with_bits, filled as specified_filled, own_verdict, named_instruction};
+ghost use Rattle.std.specs.Prelude.{◌≡◌, ◌+◌, ◌-◌, ◌*◌, ◌/◌, ◌%◌, ◌^◌, ◌≤◌, ◌<◌, map, min, max, bit_or, Some, None, IfSome};
+ghost use Rattle.rv_asm_field.specs.Filling.{width_from, pattern_in as specified_pattern_in, part_of, shifted as specified_shifted, given_from, placed_from, is_given as specified_is_given, placed_in, field_bits as specified_field_bits, operand_bits as specified_operand_bits, with_bits as specified_with_bits, filled as specified_filled};
 
 use crate::indexing::is_same;
-use crate::operand::{Operand, operands, value};
+use crate::operand::{Operand, value};
 use crate::verdict::Verdict;
-use ix_bits::{Memory, Name};
-use ix_tree::{Instruction, Piece};
+use ix_tree::Piece;
 use rv_asm_text::Number;
-use std::alloc::Global;
 
 // The width of a field: its highest bit plus 1, at most 32.
 fn width_of(pieces: &[Piece], field: &str) -> u8
@@ -148,8 +144,13 @@ fn with_bits(verdict: Verdict, bits: Option<u32>) -> Verdict
     }
 }
 
-// What the operands make of the fixed bits of an instruction.
-fn filled(pieces: &[Piece], matches: u32, operands: &[Operand], texts: &[&[u8]]) -> Verdict
+/// What the operands make of the fixed bits of an instruction.
+pub(crate) fn filled(
+    pieces: &[Piece],
+    matches: u32,
+    operands: &[Operand],
+    texts: &[&[u8]],
+) -> Verdict
     ensures { result ≡ specified_filled pieces.now (Verdict.Word matches) operands.now (map (λ text. text.now) texts.now) }
 {
     let mut verdict = Verdict::Word(matches);
@@ -167,38 +168,4 @@ fn filled(pieces: &[Piece], matches: u32, operands: &[Operand], texts: &[&[u8]])
     } else {
         Verdict::Line
     }
-}
-
-/// What an instruction of an extension says with these operands: its word, or Line, or Reach.
-#[tactic(auto, unfolding(crate::specs::Filling::own_verdict))]
-pub fn own(alloc: Global, instruction: &Instruction, texts: &[&[u8]]) -> Result<Verdict, Memory>
-    ensures { IfOk result (λ verdict. verdict ≡ own_verdict (view_instruction instruction.now) (map (λ text. text.now) texts.now)) }
-{
-    let operands = operands(alloc, instruction)?;
-    Ok(filled(
-        instruction.pieces.as_slice(),
-        instruction.matches,
-        operands.as_slice(),
-        texts,
-    ))
-}
-
-fn is_named(name: &Name, text: &[u8]) -> bool
-    ensures { result ≡ same_bytes name.now text.now }
-{
-    name.as_str().as_bytes() == text
-}
-
-/// The instruction of this name.
-pub fn named<'a>(instructions: &'a [Instruction], name: &[u8]) -> Option<&'a Instruction>
-    ensures { option_map (λ i. view_instruction i.now) result ≡ named_instruction name.now (map view_instruction instructions.now) }
-{
-    let mut left = instructions;
-    while let Some((instruction, rest)) = left.split_first() {
-        if is_named(&instruction.behaviour.name, name) {
-            return Some(instruction);
-        }
-        left = rest;
-    }
-    None
 }

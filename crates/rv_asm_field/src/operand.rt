@@ -91,7 +91,7 @@ fn push_numbers(
 
 /// The operands of an instruction, in the order in which they are written.
 #[tactic(auto, unfolding(crate::specs::Operands::operands_of))]
-pub fn operands(alloc: Global, instruction: &Instruction) -> Result<Vec<Operand>, Memory>
+pub(crate) fn operands(alloc: Global, instruction: &Instruction) -> Result<Vec<Operand>, Memory>
     ensures { IfOk result (λ operands. operands.items ≡ operands_of (map typed_whole instruction.now.behaviour.body) instruction.now.pieces) }
 {
     let body = instruction.behaviour.body.as_slice();
@@ -105,7 +105,7 @@ pub fn operands(alloc: Global, instruction: &Instruction) -> Result<Vec<Operand>
 }
 
 /// What an operand's text writes: the number of a register, or a number.
-pub fn value(operand: Operand, text: &[u8]) -> Option<Number>
+pub(crate) fn value(operand: Operand, text: &[u8]) -> Option<Number>
     ensures { result ≡ operand_value operand text.now }
 {
     if operand.is_register {

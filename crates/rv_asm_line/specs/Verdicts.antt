@@ -7,7 +7,7 @@ use Rattle.rv_asm_text.specs.Names.{register_of, mnemonic_of}
 use Rattle.rv_asm_text.specs.Numbers.{number_of}
 use Rattle.rv_asm_field.specs.declared.verdict.Verdict.{Verdict}
 use Rattle.rv_asm_field.specs.declared.verdict.Verdict.TheVariants as V
-use Rattle.rv_asm_field.specs.Filling.{own_verdict, named_instruction}
+use Rattle.rv_asm_field.specs.Filling.{named_instruction, found_verdict}
 use Rattle.rv_asm_line.specs.declared.form.Form.{Form}
 use Rattle.rv_asm_line.specs.declared.form.Form.TheVariants as F
 use Rattle.rv_asm_line.specs.declared.label.Target.{Target}
@@ -109,11 +109,6 @@ form_verdict places at F.Move row texts = move_verdict row texts
 form_verdict places at F.Goto row texts = goto_verdict places at row texts
 form_verdict places at F.Return row texts = bare_verdict row 1 zero_number texts
 form_verdict places at F.Word row texts = plain_verdict texts
-
--- what an instruction of the extension says
-abbrev pub found_verdict : List (List ℕ) → Option InstructionTree → Verdict
-found_verdict texts None = V.Line
-found_verdict texts (Some i) = own_verdict i texts
 
 -- a base name and a short form win over an extension's
 abbrev pub mnemonic_verdict : List InstructionTree → Places → ℕ → List ℕ → Option ℕ → Verdict

@@ -1,6 +1,7 @@
 ghost use Rattle.std.specs.Prelude.{◌≡◌, ◌==◌, ◌<◌, ◌≤◌, ◌^◌, ℕ, [], length, map, true, slice_index_or, if◌then◌else◌, IfOk};
 ghost use Rattle.ix_extension.specs.Extensions.{view_instruction};
 ghost use Rattle.rv_asm_text.specs.Numbers.{most_size};
+ghost use Rattle.rv_asm_field.specs.Customs.{AreForms};
 ghost use Rattle.rv_asm_line.specs.Labels.{found, is_doubled, target_of};
 ghost use Rattle.rv_asm_line.specs.Verdicts.{nth, registers_verdict, number_verdict, access_verdict, load_verdict, store_verdict, branch_verdict, upper_verdict, jump_verdict, jump_register_verdict, bare_verdict, move_verdict, goto_verdict, plain_verdict, all_of_memory, form_verdict, instruction_verdict, with_label as specified_with_label, line_verdict};
 ghost use Rattle.rv_asm_line.specs.Forms.{zero_number};
@@ -10,7 +11,7 @@ use crate::form::{Form, form_of, row_of};
 use crate::label::{Place, Target, has_doubled_label, target_at};
 use ix_bits::Memory;
 use ix_tree::Instruction;
-use rv_asm_field::{Verdict, named, own};
+use rv_asm_field::{CustomForm, Verdict, custom_word};
 use rv_asm_text::{Number, indexed, instruction, mnemonic, name, operands, read_number, register};
 use std::alloc::Global;
 use std::collections::BTreeMap;
@@ -283,10 +284,12 @@ fn base_line(
 fn instruction_line(
     alloc: Global,
     instructions: &[Instruction],
+    forms: &BTreeMap<&[u8], CustomForm>,
     labels: &BTreeMap<&[u8], Place>,
     at: u32,
     text: &[u8],
 ) -> Result<Verdict, Memory>
+    requires { AreForms (map view_instruction instructions.now) forms.now }
     ensures { IfOk result (λ verdict. verdict ≡ instruction_verdict (map view_instruction instructions.now) (found labels.now) at text.now) }
 {
     if text.is_empty() {
@@ -296,10 +299,7 @@ fn instruction_line(
     let name = name(text);
     match mnemonic(name) {
         Some(place) => Ok(base_line(labels, at, form_of(place), row_of(place), texts.as_slice())),
-        None => match named(instructions, name) {
-            None => Ok(Verdict::Line),
-            Some(instruction) => own(alloc, instruction, texts.as_slice()),
-        },
+        None => Ok(custom_word(instructions, forms, name, texts.as_slice())),
     }
 }
 
@@ -321,13 +321,15 @@ fn with_label(is_doubled: bool, verdict: Verdict) -> Verdict
 pub fn line_verdict_of(
     alloc: Global,
     instructions: &[Instruction],
+    forms: &BTreeMap<&[u8], CustomForm>,
     labels: &BTreeMap<&[u8], Place>,
     number: u32,
     at: u32,
     line: &[u8],
 ) -> Result<Verdict, Memory>
+    requires { AreForms (map view_instruction instructions.now) forms.now }
     ensures { IfOk result (λ verdict. verdict ≡ line_verdict (map view_instruction instructions.now) (found labels.now) number at line.now) }
 {
-    let verdict = instruction_line(alloc, instructions, labels, at, instruction(line))?;
+    let verdict = instruction_line(alloc, instructions, forms, labels, at, instruction(line))?;
     Ok(with_label(has_doubled_label(labels, number, line), verdict))
 }

@@ -10,14 +10,14 @@ use Rattle.rv_reader.specs.declared.read.ReadErr.TheVariants as read_err
 use Rattle.rv_reader.specs.ReadTexts.{TellsBadLine}
 use Rattle.rv_reader.specs.Traces.{IsBadLine, feeds}
 use Rattle.rv_reader.proofs.Unique.{not_both, one_bad, one_trace}
-use Rattle.rv_kinds.specs.Kinds.{Kind, of_moves, of_hold, of_fetch, of_successor, of_unit, of_stop, of_commit, of_write, IsAllRight}
-use Rattle.rv_kinds.specs.Kinds as kinds
-use Rattle.rv_kinds.specs.Made.{row_of}
-use Rattle.rv_fit.specs.Fit.{plain_setting}
-use Rattle.rv_printed.specs.Printed.{widths_of, state_behind}
+use Rattle.rv_rows.specs.Kinds.{Kind, of_moves, of_hold, of_fetch, of_successor, of_unit, of_stop, of_commit, of_write, IsAllRight}
+use Rattle.rv_rows.specs.Kinds as kinds
+use Rattle.rv_rows.specs.Made.{row_of}
+use Rattle.rv_watch.specs.Fit.{plain_setting}
+use Rattle.rv_watch.specs.Printed.{widths_of, state_behind}
 use Rattle.rv_ending.specs.Differing.{IsDifferingLine}
-use Rattle.rv_faults.specs.Faults.{rows_behind, AreAllRight, number_of, lines_below, IsReadAs, IsRowFault, IsStateFault}
-use Rattle.rv_faults.specs.AuditLaws.{IsRight}
+use Rattle.rv_watch.specs.Faults.{rows_behind, AreAllRight, number_of, lines_below, IsReadAs, IsRowFault, IsStateFault}
+use Rattle.rv_watch.specs.AuditLaws.{IsRight}
 use Rattle.rv_audit.specs.declared.auditing.AuditErr.{AuditErr}
 use Rattle.rv_audit.specs.declared.auditing.AuditErr.TheVariants.{Line, Moves, Hold, Fetch, Successor, Unit as unit_fault, Stop, Commit, Write, State, Memory}
 use Rattle.rv_audit.specs.Refused.{IsFault, TellsFault, unread}

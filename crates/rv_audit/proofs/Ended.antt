@@ -9,12 +9,12 @@ use Rattle.rv_lawful.specs.Outstanding.{outstanding, outstanding_targets}
 use Rattle.rv_shown.specs.Shown.{Shown, shown_texts}
 use Rattle.rv_reader.specs.declared.read.TraceRead.{TraceRead}
 use Rattle.rv_reader.specs.Traces.{feeds}
-use Rattle.rv_known.specs.declared.known.Owed.{Owed}
+use Rattle.rv_rows.specs.declared.known.Owed.{Owed}
 use Rattle.rv_ending.specs.Differing.{IsDifferingLine}
 use Rattle.rv_ending.specs.Owed.{owed_pairs, AreSixteen}
-use Rattle.rv_printed.specs.Printed.{widths_of, state_behind}
-use Rattle.rv_faults.specs.Faults.{rows_behind, AreAllRight, IsStateFault}
-use Rattle.rv_faults.specs.AuditLaws.{IsRight}
+use Rattle.rv_watch.specs.Printed.{widths_of, state_behind}
+use Rattle.rv_watch.specs.Faults.{rows_behind, AreAllRight, IsStateFault}
+use Rattle.rv_watch.specs.AuditLaws.{IsRight}
 use Rattle.rv_watch.specs.declared.against.Against.{Against}
 use Rattle.rv_watch.specs.declared.watch.Watch.{Watch}
 use Rattle.rv_watch.specs.Watched.{setting_of, tree_of, IsWatched}

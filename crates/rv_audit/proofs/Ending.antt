@@ -9,9 +9,9 @@ use Rattle.ix_plan.specs.declared.design.Design.{Design}
 use Rattle.ix_plan.specs.declared.design.Plan.{Plan}
 use Rattle.ix_tree.specs.declared.extension.Register.{Register}
 use Rattle.rv_core.specs.declared.Shape.{Shape}
-use Rattle.rv_effect.specs.declared.decoded.Decoded.{Decoded}
-use Rattle.rv_effect.specs.declared.decoded.Decoded.TheVariants as D
-use Rattle.rv_effect.specs.Decoding.{decoded_in}
+use Rattle.rv_seq.specs.declared.decoded.Decoded.{Decoded}
+use Rattle.rv_seq.specs.declared.decoded.Decoded.TheVariants as D
+use Rattle.rv_seq.specs.Decoding.{decoded_in}
 use Rattle.rv_asks.specs.declared.asks.Act.{Act}
 use Rattle.rv_asks.specs.declared.asks.Outline.{Outline}
 use Rattle.rv_asks.specs.Acts.{acts_of, spawns_custom}
@@ -19,10 +19,10 @@ use Rattle.rv_asks.specs.Asks.{flags, tail_of, outline_of, plan_outline, block_a
 use Rattle.rv_lawful.specs.Settings.{Setting}
 use Rattle.rv_lawful.specs.Outstanding.{Decoupled, owed_targets}
 use Rattle.rv_reader.specs.Traces.{IsState}
-use Rattle.rv_known.specs.Known.{owed_of}
+use Rattle.rv_rows.specs.Known.{owed_of}
 use Rattle.rv_ending.specs.Owed.{owed_pairs, AreSixteen}
-use Rattle.rv_fit.specs.Fit.{plain_setting}
-use Rattle.rv_printed.specs.Printed.{width_of}
+use Rattle.rv_watch.specs.Fit.{plain_setting}
+use Rattle.rv_watch.specs.Printed.{width_of}
 
 -- ---- what is outstanding
 pub pairs_are : (k : Setting) (l : List Decoupled) → flat_map owed_pairs (map (owed_of k) l) ≡ flat_map (owed_targets k) l

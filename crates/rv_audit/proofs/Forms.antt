@@ -8,9 +8,9 @@ use Rattle.rv_lawful.specs.LawfulTrace.{IsInForm}
 use Rattle.rv_rows.specs.Facts.{AreGoingOn, MoveAbove, MovesAbove}
 use Rattle.rv_shown.specs.Shown.{Shown}
 use Rattle.rv_reader.specs.Forms.{IsRow}
-use Rattle.rv_kinds.specs.Kinds.{is_of_cell, GoesOnAs, MovesRightly}
-use Rattle.rv_kinds.specs.Made.{row_of}
-use Rattle.rv_faults.proofs.Making.{in_form}
+use Rattle.rv_rows.specs.Kinds.{is_of_cell, GoesOnAs, MovesRightly}
+use Rattle.rv_rows.specs.Made.{row_of}
+use Rattle.rv_watch.proofs.Making.{in_form}
 
 pub form_of : (widths : List ℕ) (k : Setting) (earlier : List Row) (s : Shown) → IsRow widths k.shape.stages s → IsInForm k (row_of k earlier s)
 form_of widths k earlier s f = in_form k earlier s f.line.stages_are f.line.flushed

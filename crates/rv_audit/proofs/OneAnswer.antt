@@ -9,11 +9,11 @@ use Rattle.rv_trace.specs.TraceText.{trace_text}
 use Rattle.rv_text.specs.RunText.{state_text}
 use Rattle.rv_lawful.specs.Outstanding.{architecture, outstanding_targets}
 use Rattle.rv_lawful.specs.LawfulTrace.{Lawful}
-use Rattle.rv_gone.specs.Recorded.{AreRecorded}
-use Rattle.rv_fit.specs.Fit.{plain_setting}
-use Rattle.rv_printed.specs.Printed.{state_behind}
-use Rattle.rv_faults.specs.Audited.{IsAudited}
-use Rattle.rv_faults.specs.AuditLaws.{AuditLaw}
+use Rattle.rv_rows.specs.Recorded.{AreRecorded}
+use Rattle.rv_watch.specs.Fit.{plain_setting}
+use Rattle.rv_watch.specs.Printed.{state_behind}
+use Rattle.rv_watch.specs.Audited.{IsAudited}
+use Rattle.rv_watch.specs.AuditLaws.{AuditLaw}
 use Rattle.rv_audit.proofs.Causes.{not_refused}
 use Rattle.rv_audit.specs.Alike.{AreAlike, OneAnswerLaw}
 use Rattle.rv_audit.proofs.OneSetting.{one_setting}

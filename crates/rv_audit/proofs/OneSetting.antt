@@ -8,14 +8,14 @@ use Rattle.ix_plan.specs.declared.design.Plan.{Plan}
 use Rattle.ix_plan.specs.declared.design.Design.{Design}
 use Rattle.ix_plan.specs.Units.{first_units}
 use Rattle.ix_standing.specs.Standing.{AreBuilt, Stands}
-use Rattle.rv_effect.specs.Decoding.{decoded_in}
+use Rattle.rv_seq.specs.Decoding.{decoded_in}
 use Rattle.rv_seq.specs.States.{first}
 use Rattle.rv_unit.specs.Numbering.{unit_of}
 use Rattle.rv_asks.specs.declared.asks.Act.{Act}
 use Rattle.rv_asks.specs.Acts.{acts_of_all}
 use Rattle.rv_asks.specs.Asks.{plan_outline, blank_outline, asks_with, asks_in}
 use Rattle.rv_lawful.specs.Settings.{Setting, course_of, jump_of}
-use Rattle.rv_fit.specs.Fit.{plain_setting}
+use Rattle.rv_watch.specs.Fit.{plain_setting}
 use Rattle.rv_audit.specs.Alike.{AreAlike}
 use Rattle.rv_audit.proofs.OnePlan.{one_plan_each}
 

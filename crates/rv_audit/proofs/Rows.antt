@@ -8,11 +8,11 @@ use Rattle.rv_shown.specs.declared.shown.ShownRow.{ShownRow}
 use Rattle.rv_shown.specs.Shown.{Shown, shown_in, shown_texts}
 use Rattle.rv_reader.specs.Traces.{feeds, bit}
 use Rattle.rv_reader.proofs.Passing.{map_push, map_long}
-use Rattle.rv_kinds.specs.Kinds.{IsAllRight}
-use Rattle.rv_kinds.specs.Made.{row_of}
-use Rattle.rv_fit.specs.Fit.{plain_setting}
-use Rattle.rv_faults.specs.Faults.{rows_behind, AreAllRight, lines_below, IsReadAs, IsRowFault}
-use Rattle.rv_faults.proofs.Folding.{behind_none, none_right, behind_last, right_last}
+use Rattle.rv_rows.specs.Kinds.{IsAllRight}
+use Rattle.rv_rows.specs.Made.{row_of}
+use Rattle.rv_watch.specs.Fit.{plain_setting}
+use Rattle.rv_watch.specs.Faults.{rows_behind, AreAllRight, lines_below, IsReadAs, IsRowFault}
+use Rattle.rv_watch.proofs.Folding.{behind_none, none_right, behind_last, right_last}
 use Rattle.rv_watch.specs.declared.against.Against.{Against}
 use Rattle.rv_watch.specs.declared.watch.Watch.{Watch}
 use Rattle.rv_watch.specs.Watched.{setting_of, IsWatched}

@@ -5,8 +5,8 @@ use Rattle.rv_trace.specs.declared.row.Cell.{Cell}
 use Rattle.rv_trace.specs.declared.row.Row.{Row}
 use Rattle.rv_trace.specs.Trace.{newest}
 use Rattle.rv_lawful.specs.Settings.{Setting, Stands}
-use Rattle.rv_kinds.specs.Kinds.{is_of_cell}
-use Rattle.rv_known.specs.declared.known.Owed.{Owed}
+use Rattle.rv_rows.specs.Kinds.{is_of_cell}
+use Rattle.rv_rows.specs.declared.known.Owed.{Owed}
 use Rattle.rv_holdings.specs.Expected.{IsStopper, AsksAtRead}
 use Rattle.rv_holdings.proofs.Above.{get_of}
 

@@ -4,9 +4,9 @@ use Rattle.rv_seq.specs.declared.commit.Stop.{Stop}
 use Rattle.rv_trace.specs.declared.row.Row.{Row}
 use Rattle.rv_trace.specs.Trace.{newest}
 use Rattle.rv_rows.specs.Facts.{AreGoingOn}
-use Rattle.rv_known.specs.Known.{IsOwing}
+use Rattle.rv_rows.specs.Known.{IsOwing}
 use Rattle.rv_owing.specs.Owing.{OwingLaw, GrantedLaw}
-use Rattle.rv_fit.specs.Fit.{IsFit, FitLaw}
+use Rattle.rv_watch.specs.Fit.{IsFit, FitLaw}
 use Rattle.rv_watch.specs.declared.against.Against.{Against}
 use Rattle.rv_watch.specs.declared.watch.Watch.{Watch}
 use Rattle.rv_watch.specs.Watched.{setting_of, IsFitting, IsWatched}

@@ -15,13 +15,13 @@ use Rattle.rv_lawful.specs.Outstanding.{Written, is_serial, serial_written, unit
 use Rattle.rv_lawful.specs.Headline.{IsRecord, IsSpawnWrite}
 use Rattle.rv_lawful.specs.LawfulTrace.{serial_in, WritesUnit}
 use Rattle.rv_shown.specs.Shown.{Shown}
-use Rattle.rv_steps.specs.declared.step.Step.{Step}
-use Rattle.rv_kinds.specs.Kinds.{RetiresRightly, WritesRightly}
-use Rattle.rv_kinds.specs.Made.{record_of, retired_made, written_of, written_made, no_writes, row_of}
-use Rattle.rv_known.specs.Known.{IsOwing}
-use Rattle.rv_made.specs.declared.due.Due.{Due}
-use Rattle.rv_made.specs.Due.{IsDue}
-use Rattle.rv_made.specs.Making.{IsWriting}
+use Rattle.rv_past.specs.declared.step.Step.{Step}
+use Rattle.rv_rows.specs.Kinds.{RetiresRightly, WritesRightly}
+use Rattle.rv_rows.specs.Made.{record_of, retired_made, written_of, written_made, no_writes, row_of}
+use Rattle.rv_rows.specs.Known.{IsOwing}
+use Rattle.rv_past.specs.declared.due.Due.{Due}
+use Rattle.rv_past.specs.Due.{IsDue}
+use Rattle.rv_past.specs.Making.{IsWriting}
 use Rattle.rv_owing.specs.Owing.{GrantedLaw}
 use Rattle.rv_audit.specs.Judged.{is_done, is_step_done, retires_step, writes_step}
 

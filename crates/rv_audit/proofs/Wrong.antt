@@ -6,11 +6,11 @@ use Rattle.rv_lawful.specs.Settings.{Setting}
 use Rattle.rv_lawful.specs.LawfulTrace.{IsInForm, LawfulRow, WritesUnit}
 use Rattle.rv_rows.specs.Facts.{IsPlain, AreGoingOn}
 use Rattle.rv_shown.specs.Shown.{Shown}
-use Rattle.rv_kinds.specs.Kinds.{Kind, of_moves, of_hold, of_fetch, of_successor, of_unit, of_stop, of_commit, of_write, MovesRightly, IsRight, IsAllRight, RowKinds}
-use Rattle.rv_kinds.specs.Laws.{AreEmptyUnits, KindsLaw}
-use Rattle.rv_kinds.specs.Made.{row_of}
-use Rattle.rv_gone.specs.Recorded.{IsRecorded}
-use Rattle.rv_faults.specs.Faults.{number_of}
+use Rattle.rv_rows.specs.Kinds.{Kind, of_moves, of_hold, of_fetch, of_successor, of_unit, of_stop, of_commit, of_write, MovesRightly, IsRight, IsAllRight, RowKinds}
+use Rattle.rv_rows.specs.Laws.{AreEmptyUnits, KindsLaw}
+use Rattle.rv_rows.specs.Made.{row_of}
+use Rattle.rv_rows.specs.Recorded.{IsRecorded}
+use Rattle.rv_watch.specs.Faults.{number_of}
 use Rattle.rv_audit.specs.declared.judging.Fault.{Fault}
 use Rattle.rv_audit.specs.declared.judging.Fault.TheVariants as fault
 use Rattle.rv_audit.specs.Judged.{kind_of, IsFirstWrong, TellsRow, TellsBehind, TellsLines, Judges}

@@ -3,9 +3,9 @@ use Rattle.std.specs.Prelude.{◌≡◌, ℕ, ◌≤◌, ◌^◌, List, length}
 use Rattle.ix_extension.specs.Extensions.{view_extension}
 use Rattle.ix_plan.specs.declared.design.Design.{Design}
 use Rattle.ix_standing.specs.Standing.{Stands}
-use Rattle.rv_fit.specs.Fit.{plain_setting}
-use Rattle.rv_printed.specs.Printed.{AreGiven}
-use Rattle.rv_faults.specs.Audited.{IsAudited}
+use Rattle.rv_watch.specs.Fit.{plain_setting}
+use Rattle.rv_watch.specs.Printed.{AreGiven}
+use Rattle.rv_watch.specs.Audited.{IsAudited}
 use Rattle.rv_audit.specs.declared.auditing.AuditErr.{AuditErr}
 use Rattle.rv_audit.specs.Refused.{IsFault}
 

@@ -9,10 +9,10 @@ use Rattle.rv_seq.specs.declared.answer.StepAnswer.TheVariants.{Done, Stopped}
 use Rattle.rv_seq.specs.declared.commit.Commit.{Commit}
 use Rattle.rv_lawful.specs.Outstanding.{Written}
 use Rattle.rv_shown.specs.Shown.{Shown}
-use Rattle.rv_kinds.specs.Kinds.{Kind, of_moves, of_hold, of_fetch, of_successor, of_unit, of_stop, of_commit, of_write, HoldsRightly, FetchesRightly, SucceedsRightly, StopsInPlace, RetiresRightly, WritesRightly, IsRight, IsAllRight}
-use Rattle.rv_kinds.specs.Made.{row_of}
-use Rattle.rv_made.specs.declared.due.Due.{Due}
-use Rattle.rv_faults.specs.Faults.{number_of}
+use Rattle.rv_rows.specs.Kinds.{Kind, of_moves, of_hold, of_fetch, of_successor, of_unit, of_stop, of_commit, of_write, HoldsRightly, FetchesRightly, SucceedsRightly, StopsInPlace, RetiresRightly, WritesRightly, IsRight, IsAllRight}
+use Rattle.rv_rows.specs.Made.{row_of}
+use Rattle.rv_past.specs.declared.due.Due.{Due}
+use Rattle.rv_watch.specs.Faults.{number_of}
 use Rattle.rv_watch.specs.declared.against.Against.{Against}
 use Rattle.rv_watch.specs.declared.watch.Watch.{Watch}
 use Rattle.rv_watch.specs.Watched.{setting_of, IsWatched}

@@ -8,9 +8,9 @@ use Rattle.rv_reader.specs.declared.read.ReadErr.{ReadErr}
 use Rattle.rv_reader.specs.declared.read.ReadErr.TheVariants as read_err
 use Rattle.rv_reader.specs.declared.read.TraceRead.{TraceRead}
 use Rattle.rv_reader.specs.Traces.{IsBadLine, line_numbers, line_behind}
-use Rattle.rv_kinds.specs.Kinds.{of_moves, of_hold, of_fetch, of_successor, of_unit, of_stop, of_commit, of_write}
-use Rattle.rv_printed.specs.Printed.{widths_of}
-use Rattle.rv_faults.specs.Faults.{rows_behind, AreAllRight, IsReadAs, IsRowFault, IsStateFault}
+use Rattle.rv_rows.specs.Kinds.{of_moves, of_hold, of_fetch, of_successor, of_unit, of_stop, of_commit, of_write}
+use Rattle.rv_watch.specs.Printed.{widths_of}
+use Rattle.rv_watch.specs.Faults.{rows_behind, AreAllRight, IsReadAs, IsRowFault, IsStateFault}
 use Rattle.rv_watch.specs.declared.against.Against.{Against}
 use Rattle.rv_watch.specs.declared.watch.Watch.{Watch}
 use Rattle.rv_watch.specs.Watched.{setting_of, IsWatched}

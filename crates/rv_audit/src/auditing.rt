@@ -2,9 +2,9 @@ ghost use Rattle.std.specs.Prelude.{◌≡◌, ◌≤◌, ◌<◌, ◌+◌, ◌^
 ghost use Rattle.ix_extension.specs.Extensions.{view_extension};
 ghost use Rattle.ix_standing.specs.Standing.{Stands};
 ghost use Rattle.ix_eval.specs.Scratches.{IsScratchOf};
-ghost use Rattle.rv_printed.specs.Printed.{widths_of, AreGiven};
-ghost use Rattle.rv_faults.specs.Audited.{IsAudited};
-ghost use Rattle.rv_faults.specs.AuditLaws.{IsRight};
+ghost use Rattle.rv_watch.specs.Printed.{widths_of, AreGiven};
+ghost use Rattle.rv_watch.specs.Audited.{IsAudited};
+ghost use Rattle.rv_watch.specs.AuditLaws.{IsRight};
 ghost use Rattle.rv_watch.specs.Watched.{tree_of, IsFitting, IsWatched};
 ghost use Rattle.rv_audit.specs.declared.auditing.AuditErr.{AuditErr as AuditErrValue};
 ghost use Rattle.rv_audit.specs.declared.auditing.AuditErr.TheVariants as err;
@@ -19,15 +19,13 @@ use ix_plan::Design;
 use ix_tree::Extension;
 use rv_asks::asking_of;
 use rv_ending::differing_line;
-use rv_faults::audit_laws;
-use rv_fit::settings_fit;
 use rv_isa::Image;
-use rv_made::Page;
+use rv_past::Page;
 use rv_reader::{ReadErr, TraceRead, read_trace};
 use rv_shown::ShownRow;
 use rv_sight::sight_laws;
 use rv_waits::Waits;
-use rv_watch::{Against, Watch};
+use rv_watch::{Against, Watch, audit_laws, settings_fit};
 use std::alloc::Global;
 
 /// Why a text is not that of a lawful run: the number, from 1, of the first line that is not right,

@@ -5,33 +5,30 @@ ghost use Rattle.rv_trace.specs.Trace.{newest, retirements};
 ghost use Rattle.rv_lawful.specs.LawfulTrace.{WritesUnit};
 ghost use Rattle.rv_shown.specs.Shown.{shown_in};
 ghost use Rattle.rv_reader.specs.Forms.{IsRow};
-ghost use Rattle.rv_kinds.specs.Kinds.{MovesRightly};
-ghost use Rattle.rv_kinds.specs.Made.{row_of};
-ghost use Rattle.rv_known.specs.Known.{IsKnown};
+ghost use Rattle.rv_rows.specs.Kinds.{MovesRightly};
+ghost use Rattle.rv_rows.specs.Made.{row_of};
+ghost use Rattle.rv_rows.specs.Known.{IsKnown};
 ghost use Rattle.rv_holdings.specs.Expected.{IsStopper, AsksAtRead};
-ghost use Rattle.rv_made.specs.Due.{IsDue};
-ghost use Rattle.rv_made.specs.Making.{IsWriting};
+ghost use Rattle.rv_past.specs.Due.{IsDue};
+ghost use Rattle.rv_past.specs.Making.{IsWriting};
 ghost use Rattle.rv_watch.specs.Watched.{setting_of, tree_of, IsFitting, IsWatched};
 ghost use Rattle.rv_audit.specs.Judged.{is_done as specified_is_done, retires_step as specified_retires_step, is_step_done as specified_is_step_done, writes_step as specified_writes_step, TellsRow, TellsBehind, TellsLines, Judges};
 
 use ix_bits::Memory;
 use ix_eval::Scratch;
 use rv_asks::Asks;
-use rv_fit::settings_fit;
 use rv_holdings::{holds_behind, holds_rightly, is_held};
-use rv_kinds::kinds_are_lawful;
-use rv_known::{Known, Owed};
-use rv_made::{Due, Page, made};
 use rv_marks::{
     fetches_rightly, is_cell_stop, moves_rightly, stops_rightly, succeeds_behind, succeeds_rightly,
     unit_rightly,
 };
 use rv_owing::owing_facts;
-use rv_seen::places;
+use rv_past::{Due, Page, made};
+use rv_rows::{Known, Owed, kinds_are_lawful};
 use rv_seq::StepAnswer;
 use rv_shown::ShownRow;
 use rv_trace::{Cell, Row};
-use rv_watch::{Against, Watch, known, ready};
+use rv_watch::{Against, Watch, known, places, ready, settings_fit};
 
 /// In what respect a row is not right.
 #[derive(Clone, Copy, Debug, PartialEq, Eq)]

@@ -1,7 +1,7 @@
 ghost use Rattle.rv_audit.specs.Alike.{AlikeLaw, OneAnswerLaw};
 
 use ix_sheet::chosen_law;
-use rv_faults::audit_laws;
+use rv_watch::audit_laws;
 
 /// Designs that stand for one extension and one datasheet judge traces by one setting, and no text
 /// is that of a lawful run of one of them and refused for another. It does nothing: its contract is

@@ -14,8 +14,8 @@ use Rattle.rv_seq.specs.declared.arch.Arch.{Arch}
 use Rattle.rv_seq.specs.Commits.{applied}
 use Rattle.rv_seq.specs.Runs.{run}
 use Rattle.rv_seq.specs.Steps.{word_at, step}
-use Rattle.rv_steps.specs.Steps.{behind}
-use Rattle.rv_steps.proofs.Growing.{run_more}
+use Rattle.rv_past.specs.Steps.{behind}
+use Rattle.rv_past.proofs.Growing.{run_more}
 use Rattle.rv_barrel.specs.declared.cell.InFlight.{InFlight}
 use Rattle.rv_barrel.specs.Cells.{Slots, count, fetched_at, fetched_of, AreAsked}
 use Rattle.rv_barrel.specs.Moving.{new_in, put_first, step_here, tried_at, fetched_in}

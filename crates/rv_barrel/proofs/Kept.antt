@@ -9,9 +9,9 @@ use Rattle.rv_seq.specs.declared.answer.StepAnswer.{StepAnswer}
 use Rattle.rv_seq.specs.declared.arch.Arch.{Arch}
 use Rattle.rv_seq.specs.Runs.{run}
 use Rattle.rv_seq.specs.Steps.{step}
-use Rattle.rv_steps.specs.declared.step.Step.{Step}
-use Rattle.rv_steps.specs.Steps.{behind}
-use Rattle.rv_steps.proofs.Growing.{run_more}
+use Rattle.rv_past.specs.declared.step.Step.{Step}
+use Rattle.rv_past.specs.Steps.{behind}
+use Rattle.rv_past.proofs.Growing.{run_more}
 use Rattle.rv_barrel.specs.declared.cell.InFlight.{InFlight}
 use Rattle.rv_barrel.specs.Cells.{Slots, count, AreAsked}
 use Rattle.rv_barrel.specs.Moving.{advanced, all_free, ahead_of, ahead_by}

@@ -324,7 +324,7 @@ executed_next d image h n s1 new ahead ahead2 event false b known e st is goes =
 
 -- The front
 
-fetched_is : (p : ℕ) (new : Option InFlight) → is_some (fetched_in p new) ≡ is_some new
+pub fetched_is : (p : ℕ) (new : Option InFlight) → is_some (fetched_in p new) ≡ is_some new
 fetched_is p None = refl
 fetched_is p (Some c) = refl
 

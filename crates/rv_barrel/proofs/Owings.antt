@@ -8,7 +8,7 @@ use Rattle.rv_lawful.specs.Outstanding.{in_unit}
 use Rattle.rv_lawful.specs.Settings.{Setting}
 use Rattle.rv_seq.specs.declared.answer.StepAnswer.{StepAnswer}
 use Rattle.rv_seq.specs.declared.commit.Commit.{Commit}
-use Rattle.rv_steps.specs.declared.step.Step.{Step}
+use Rattle.rv_past.specs.declared.step.Step.{Step}
 use Rattle.rv_tried.specs.Parts.{spawned}
 use Rattle.rv_unit.specs.Entries.{is_number}
 use Rattle.rv_barrel.specs.declared.cell.InFlight.{InFlight}

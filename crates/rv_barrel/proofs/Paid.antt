@@ -15,7 +15,7 @@ use Rattle.rv_harts.specs.Turns.{asked}
 use Rattle.rv_hart_runs.specs.HartRuns.{KnownHart}
 use Rattle.rv_lawful.specs.Outstanding.{in_unit, after_retired}
 use Rattle.rv_lawful.specs.Settings.{Setting}
-use Rattle.rv_made.specs.Making.{IsStored}
+use Rattle.rv_past.specs.Making.{IsStored}
 use Rattle.rv_past.specs.Past.{SoundSteps, retired_one}
 use Rattle.rv_past.specs.Past as past
 use Rattle.rv_seq.specs.Commits.{IsStoredInside, applied}
@@ -24,7 +24,7 @@ use Rattle.rv_seq.specs.declared.answer.StepAnswer.TheVariants.{Done}
 use Rattle.rv_seq.specs.declared.arch.Arch.{Arch}
 use Rattle.rv_seq.specs.declared.commit.Commit.{Commit}
 use Rattle.rv_seq.specs.Sound.{IsSound}
-use Rattle.rv_steps.specs.declared.step.Step.{Step}
+use Rattle.rv_past.specs.declared.step.Step.{Step}
 use Rattle.rv_tried.specs.Parts.{shown, native}
 use Rattle.rv_unit.specs.declared.entry.Entry.{Entry}
 use Rattle.rv_unit.specs.Entries.{is_frozen}

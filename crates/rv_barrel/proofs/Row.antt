@@ -17,7 +17,7 @@ use Rattle.rv_lawful.specs.Settings.{Setting}
 use Rattle.rv_seq.specs.declared.answer.StepAnswer.{StepAnswer}
 use Rattle.rv_seq.specs.declared.answer.StepAnswer.TheVariants.{Done}
 use Rattle.rv_seq.specs.declared.commit.Commit.{Commit}
-use Rattle.rv_steps.specs.declared.step.Step.{Step}
+use Rattle.rv_past.specs.declared.step.Step.{Step}
 use Rattle.rv_tried.specs.Parts.{shown}
 use Rattle.rv_barrel.specs.declared.cell.InFlight.{InFlight}
 use Rattle.rv_barrel.specs.Cells.{Slots, count, fetched_at, fetched_of, AreAsked}

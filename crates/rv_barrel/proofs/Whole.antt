@@ -16,13 +16,14 @@ use Rattle.rv_lawful.specs.LawfulTrace.{serial_in}
 use Rattle.rv_lawful.specs.Settings.{Setting}
 use Rattle.rv_seq.specs.declared.arch.Arch.{Arch}
 use Rattle.rv_seq.specs.Runs.{run}
+use Rattle.rv_seq.specs.Steps.{word_at}
 use Rattle.rv_unit.specs.Slots.{units_of}
 use Rattle.rv_unit.specs.Standing.{Standing}
 use Rattle.rv_barrel.specs.declared.cell.Front.{Front}
 use Rattle.rv_barrel.specs.declared.cell.InFlight.{InFlight}
 use Rattle.rv_barrel.specs.declared.cell.Owed.{Owed}
 use Rattle.rv_barrel.specs.Cells.{Slots, count, fetched_at, fetched_of, AreAsked, AreOwed}
-use Rattle.rv_barrel.specs.Moving.{put_first, tried_at, fetched_in}
+use Rattle.rv_barrel.specs.Moving.{put_first, tried_at, fetched_in, new_in}
 use Rattle.rv_barrel.specs.Older.{kept_of}
 use Rattle.rv_barrel.specs.Showing.{retired_by}
 use Rattle.rv_barrel.specs.Sides.{IsSide}
@@ -71,6 +72,20 @@ new_there : (d : Design) (image : List ℕ) (h n : ℕ) (g : Hart) (s : Slots) �
 unfolding place_of
 new_there d image h n g [] lt e = absurd (omega (arith, lt))
 new_there d image h n g (s ∷ older) lt e = new_is d image h n g older (first_free g.retired s older g.above e)
+
+-- stage 0 is free as a row begins
+pub free_first : (q : ℕ) (s : Slots) (above : List (Option Fetched)) → fetched_of q s ≡ None ∷ above → get_or s 0 None ≡ None
+free_first q [] above e = refl
+free_first q (None ∷ older) above e = refl
+free_first q (Some c ∷ older) above e = cc
+
+-- what comes in has the fetch address
+pub at_there : (d : Design) (image : List ℕ) (may : Bool) (next fetch place : ℕ) → IfSome (fetched_in place (new_of d image may next fetch)) (λ c. c.at ≡ fetch)
+at_there d image false next fetch place = tt
+at_there d image true next fetch place = by_word (word_at image fetch) where
+  by_word : (w : Option ℕ) → IfSome (fetched_in place (new_in d next fetch w)) (λ c. c.at ≡ fetch)
+  by_word None = tt
+  by_word (Some w) = refl
 
 pub begun : (d : Design) (image : List ℕ) (h n : ℕ) (s s1 : Slots) (front : Front) (ahead arch : Arch) (u : Standing) (owed : List Owed) (room : ℕ) (may : Bool) (new : Option InFlight) →
     IsSide (view_extension d.extension) (hart_setting d image) h n s front ahead arch u owed room →

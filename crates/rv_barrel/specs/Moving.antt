@@ -3,14 +3,14 @@ use Rattle.std.specs.Prelude.{ℕ, zero, suc, List, [], ◌∷◌, length, repli
 use Rattle.ix_extension.specs.Extensions.{ExtensionTree, view_extension}
 use Rattle.ix_plan.specs.declared.design.Design.{Design}
 use Rattle.rv_asks.specs.Asks.{asks_in}
-use Rattle.rv_effect.specs.Decoding.{decoded_in}
+use Rattle.rv_seq.specs.Decoding.{decoded_in}
 use Rattle.rv_harts.specs.Harts.{Fetched}
 use Rattle.rv_lawful.specs.Settings.{state_trial, word_accesses}
 use Rattle.rv_seq.specs.declared.arch.Arch.{Arch}
 use Rattle.rv_seq.specs.Sound.{IsSound}
 use Rattle.rv_seq.specs.Steps.{word_at, step}
-use Rattle.rv_steps.specs.declared.step.Step.{Step}
-use Rattle.rv_steps.specs.Steps.{behind}
+use Rattle.rv_past.specs.declared.step.Step.{Step}
+use Rattle.rv_past.specs.Steps.{behind}
 use Rattle.rv_barrel.specs.declared.cell.InFlight.{InFlight}
 use Rattle.rv_barrel.specs.Cells.{Slots, fetched_at}
 

@@ -6,7 +6,7 @@ use Rattle.rv_asks.specs.declared.asks.Asks.{Asks}
 use Rattle.rv_lawful.specs.Outstanding.{targets_of}
 use Rattle.rv_seq.specs.declared.answer.StepAnswer.{StepAnswer}
 use Rattle.rv_seq.specs.declared.answer.StepAnswer.TheVariants.{Done, Stopped}
-use Rattle.rv_steps.specs.declared.step.Step.{Step}
+use Rattle.rv_past.specs.declared.step.Step.{Step}
 use Rattle.rv_tried.specs.Parts.{spawned}
 use Rattle.rv_unit.specs.declared.entry.Entry.{Entry}
 use Rattle.rv_unit.specs.Entries.{is_number}

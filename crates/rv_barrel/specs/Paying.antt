@@ -2,11 +2,11 @@
 use Rattle.std.specs.Prelude.{ℕ, Option, Some, None}
 use Rattle.ix_extension.specs.Extensions.{ExtensionTree}
 use Rattle.rv_asks.specs.declared.asks.Asks.{Asks}
-use Rattle.rv_made.specs.declared.due.Due.{Due}
-use Rattle.rv_made.specs.Making.{IsStored}
+use Rattle.rv_past.specs.declared.due.Due.{Due}
+use Rattle.rv_past.specs.Making.{IsStored}
 use Rattle.rv_past.specs.Past.{retired_by as due_retired}
 use Rattle.rv_seq.specs.declared.arch.Arch.{Arch}
-use Rattle.rv_steps.specs.declared.step.Step.{Step}
+use Rattle.rv_past.specs.declared.step.Step.{Step}
 use Rattle.rv_barrel.specs.declared.cell.InFlight.{InFlight}
 use Rattle.rv_barrel.specs.Showing.{retired_by, step_by}
 

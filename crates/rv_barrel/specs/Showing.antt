@@ -8,7 +8,7 @@ use Rattle.rv_harts.specs.HartRows.{turn_at}
 use Rattle.rv_seq.specs.declared.answer.StepAnswer.{StepAnswer}
 use Rattle.rv_seq.specs.declared.answer.StepAnswer.TheVariants.{Done, Stopped}
 use Rattle.rv_seq.specs.declared.commit.Commit.{Commit}
-use Rattle.rv_steps.specs.declared.step.Step.{Step}
+use Rattle.rv_past.specs.declared.step.Step.{Step}
 use Rattle.rv_tried.specs.Parts.{shown}
 use Rattle.rv_barrel.specs.declared.cell.InFlight.{InFlight}
 use Rattle.rv_barrel.specs.Cells.{Slots}

@@ -2,7 +2,7 @@
 use Rattle.std.specs.Prelude.{◌≡◌, ℕ, suc, ◌+◌, ◌≤◌, List, ◌∷◌, length, take, drop, vec_capacity, Option, Some, None, Bool, true, false, if◌then◌else◌}
 use Rattle.std.specs.Option.{option_or}
 use Rattle.ix_extension.specs.Extensions.{ExtensionTree}
-use Rattle.rv_effect.specs.WordEffects.{AreWide}
+use Rattle.rv_seq.specs.WordEffects.{AreWide}
 use Rattle.rv_harts.specs.HartRows.{hart_at}
 use Rattle.rv_harts.specs.HartStates.{architecture}
 use Rattle.rv_lawful.specs.Settings.{Setting}

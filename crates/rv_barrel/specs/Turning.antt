@@ -10,7 +10,7 @@ use Rattle.rv_lawful.specs.Settings.{Setting}
 use Rattle.rv_seq.specs.declared.answer.StepAnswer.{StepAnswer}
 use Rattle.rv_seq.specs.declared.answer.StepAnswer.TheVariants as answers
 use Rattle.rv_seq.specs.declared.commit.Stop.{Stop}
-use Rattle.rv_steps.specs.declared.step.Step.{Step}
+use Rattle.rv_past.specs.declared.step.Step.{Step}
 use Rattle.rv_barrel.specs.declared.cell.InFlight.{InFlight}
 use Rattle.rv_barrel.specs.declared.turning.Wait.{Wait}
 use Rattle.rv_barrel.specs.declared.turning.Wait.TheVariants.{Operand, Board, Custom}

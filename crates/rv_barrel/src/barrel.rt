@@ -16,7 +16,7 @@ use ix_eval::Scratch;
 use ix_plan::{Design, Target};
 use rv_asks::{Asking, asking_of};
 use rv_hart_runs::hart_runs;
-use rv_harts::{BarrelCell, BarrelRow};
+use rv_harts::{BarrelCell, BarrelRow, HartPart};
 use rv_isa::Image;
 use rv_seq::Arch;
 use rv_sight::sight_laws;
@@ -73,6 +73,20 @@ fn joined(a: &[Option<BarrelCell>; 5], b: &[Option<BarrelCell>; 5]) -> [Option<B
     all
 }
 
+// A hart's part of a row in which nothing happens.
+fn quiet() -> HartPart
+    ensures retired { result.retired ≡ None }
+    ensures written { result.written ≡ None }
+{
+    HartPart {
+        retired: None,
+        written: None,
+        flushed: [None; 5],
+        redirect: None,
+        stop: None,
+    }
+}
+
 impl<'a> Barrel<'a> {
     /// Two harts before their first row, with room for so many rows. The design stands for its extension and sheet, no behaviour of it is tightly coupled, and its last stage is at most
     /// one behind that of memory.
@@ -122,7 +136,11 @@ impl<'a> Barrel<'a> {
         ensures state { (AreWords self.old.first → StateLaw self.old.design self.old.first) × (AreWords self.old.second → StateLaw self.old.design self.old.second) }
     {
         hart_runs();
-        let (a, first) = row_of(
+        let mut row = BarrelRow {
+            cells: [None; 5],
+            parts: [quiet(); 2],
+        };
+        let a = row_of(
             self.design,
             &self.asking,
             self.first,
@@ -130,8 +148,9 @@ impl<'a> Barrel<'a> {
             self.made,
             &mut self.a,
             &mut self.scratch,
+            &mut row.parts[0],
         );
-        let (b, second) = row_of(
+        let b = row_of(
             self.design,
             &self.asking,
             self.second,
@@ -139,12 +158,11 @@ impl<'a> Barrel<'a> {
             self.made,
             &mut self.b,
             &mut self.scratch,
+            &mut row.parts[1],
         );
+        row.cells = joined(&a, &b);
         self.made += 1;
-        BarrelRow {
-            cells: joined(&a, &b),
-            parts: [first, second],
-        }
+        row
     }
 
     /// The architectural state of a hart, 0 or 1, after the last row: that which the rows make.

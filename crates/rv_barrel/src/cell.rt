@@ -1,5 +1,5 @@
 use rv_asks::Asks;
-use rv_steps::Step;
+use rv_past::Step;
 use rv_tried::Spawned;
 
 /// An instruction of a hart in a stage.

@@ -12,8 +12,8 @@ use crate::turning::{stop_due, turn_of};
 use rv_asks::Asks;
 use rv_core::Shape;
 use rv_harts::{Event, EventAt};
+use rv_past::Step;
 use rv_seq::StepAnswer;
-use rv_steps::Step;
 
 // Does an instruction settle its successor in this stage?
 fn settles(shape: Shape, stage: u8, asks: &Asks) -> bool

@@ -1,21 +1,21 @@
-ghost use Rattle.std.specs.Prelude.{◌≡◌, ◌+◌, ◌-◌, ◌<◌, ◌^◌, ◌||◌, suc, ℕ, None, is_some, length, get_or, slice_set, IfSome, if◌then◌else◌};
+ghost use Rattle.std.specs.Prelude.{◌≡◌, ◌+◌, ◌-◌, ◌<◌, ◌^◌, ◌||◌, suc, Option, None, is_some, length, get_or, slice_set, IfSome, if◌then◌else◌};
 ghost use Rattle.ix_extension.specs.Extensions.{view_extension};
 ghost use Rattle.ix_extension.specs.WellFormed.{IsWellFormed};
 ghost use Rattle.ix_eval.specs.Scratches.{IsScratchOf};
 ghost use Rattle.rv_asks.specs.Asks.{IsAskingOf};
-ghost use Rattle.rv_effect.specs.WordEffects.{AreWide};
+ghost use Rattle.rv_seq.specs.WordEffects.{AreWide};
+ghost use Rattle.rv_harts.specs.Harts.{Fetched};
 ghost use Rattle.rv_harts.specs.HartRows.{address_after as specified_address_after, lost as specified_lost, event_at};
 ghost use Rattle.rv_seq.specs.Steps.{word_at as specified_word_at};
-ghost use Rattle.rv_barrel.specs.Moving.{new_one, new_in, fetched_in, put_first, with_step, tried_at, going, advanced, all_free, ahead_of, IsSoundSlot};
+ghost use Rattle.rv_barrel.specs.Moving.{new_one, new_in, put_first, with_step, tried_at, going, advanced, all_free, ahead_of, IsSoundSlot};
 
 use crate::cell::{Front, InFlight};
 use ix_eval::Scratch;
 use ix_plan::Design;
 use rv_asks::{Asking, asks_of};
-use rv_effect::decode_in;
 use rv_harts::{Event, EventAt};
-use rv_seq::{Arch, StepAnswer, apply, word_at};
-use rv_steps::step_of;
+use rv_past::step_of;
+use rv_seq::{Arch, StepAnswer, apply, decode_in, word_at};
 
 // What is fetched with this word.
 fn fetched(design: &Design, asking: &Asking, serial: u32, at: u32, word: u32) -> InFlight
@@ -34,24 +34,30 @@ fn fetched(design: &Design, asking: &Asking, serial: u32, at: u32, word: u32) ->
     }
 }
 
-// What comes into stage 0, where a hart may fetch and the image has a word at the fetch address.
-fn entering(
+// Puts what is fetched into stage 0, which is free, where a hart may fetch and the image has a word at the fetch address. Tells whether there is one.
+fn enter(
     design: &Design,
     asking: &Asking,
     image: &[u32],
     may_fetch: bool,
     front: Front,
-) -> Option<InFlight>
+    slot: &mut Option<InFlight>,
+) -> bool
     requires well_formed { IsWellFormed design.now.extension }
     requires asking { IsAskingOf design.now asking.now }
-    ensures { result ≡ (if may_fetch then new_in design.now front.next front.fetch (specified_word_at image.now front.fetch) else None) }
+    requires free { slot.old ≡ None }
+    ensures new { result ≡ is_some (if may_fetch then new_in design.now front.next front.fetch (specified_word_at image.now front.fetch) else None) }
+    ensures slot { slot.new ≡ (if may_fetch then new_in design.now front.next front.fetch (specified_word_at image.now front.fetch) else None) }
 {
     if !may_fetch {
-        return None;
+        return false;
     }
     match word_at(image, front.fetch) {
-        None => None,
-        Some(word) => Some(fetched(design, asking, front.next, front.fetch, word)),
+        None => false,
+        Some(word) => {
+            *slot = Some(fetched(design, asking, front.next, front.fetch, word));
+            true
+        }
     }
 }
 
@@ -76,7 +82,8 @@ fn try_slot(
     }
 }
 
-/// The stages as a row begins: what is fetched comes in, and what stands in EX is tried on the state behind all that has left EX. Gives what is fetched.
+/// The stages as a row begins, the first of them free: what is fetched comes in, and what stands in EX is tried on the state behind all that has left EX. Tells whether something is
+/// fetched.
 pub fn prepare(
     design: &Design,
     asking: &Asking,
@@ -86,33 +93,30 @@ pub fn prepare(
     ahead: &Arch,
     slots: &mut [Option<InFlight>],
     scratch: &mut Scratch,
-) -> Option<InFlight>
+) -> bool
     requires well_formed { IsWellFormed design.now.extension }
     requires asking { IsAskingOf design.now asking.now }
     requires wide { AreWide (view_extension design.now.extension) ahead.now.custom }
     requires scratch { IsScratchOf (view_extension design.now.extension) scratch.old }
     requires inside { design.now.sheet.shape.ex < length slots.old }
+    requires free { get_or slots.old 0 None ≡ None }
     ensures scratch { IsScratchOf (view_extension design.now.extension) scratch.new }
-    ensures new { result ≡ (if may_fetch then new_in design.now front.next front.fetch (specified_word_at image.now front.fetch) else None) }
+    ensures new { result ≡ is_some (if may_fetch then new_in design.now front.next front.fetch (specified_word_at image.now front.fetch) else None) }
     ensures sound { IsSoundSlot (view_extension design.now.extension) (get_or slots.new design.now.sheet.shape.ex None) }
-    ensures slots { slots.new ≡ tried_at (view_extension design.now.extension) image.now ahead.now design.now.sheet.shape.ex (put_first result slots.old) }
+    ensures slots { slots.new ≡ tried_at (view_extension design.now.extension) image.now ahead.now design.now.sheet.shape.ex (put_first (if may_fetch then new_in design.now front.next front.fetch (specified_word_at image.now front.fetch) else None) slots.old) }
 {
-    let new = entering(design, asking, image, may_fetch, front);
-    slots[0] = new;
+    let new = enter(design, asking, image, may_fetch, front, &mut slots[0]);
     let execute = usize::from(design.sheet.shape.ex);
     try_slot(design, image, ahead, &mut slots[execute], scratch);
     new
 }
 
-// The next fetch address, where this comes into stage 0, and this is the event of the row.
-fn address_after(fetch: u32, new: &Option<InFlight>, event: &Option<EventAt>) -> u32
-    ensures { (q : ℕ) → result ≡ specified_address_after fetch (fetched_in q new.now) (event_at event.now) }
+// The next fetch address, where something comes into stage 0 or nothing does, and this is the event of the row.
+fn address_after(fetch: u32, is_new: bool, event: &Option<EventAt>) -> u32
+    ensures { (new : Option Fetched) → is_new ≡ is_some new → IfSome new (λ c. c.at ≡ fetch) → result ≡ specified_address_after fetch new (event_at event.now) }
 {
     match event {
-        None => match new {
-            None => fetch,
-            Some(one) => one.at.wrapping_add(4),
-        },
+        None => { if is_new { fetch.wrapping_add(4) } else { fetch } }
         Some(found) => match found.event {
             Event::Turned(_, at) => at,
             Event::Led(at) => at,
@@ -136,6 +140,15 @@ pub fn lost(event: &Option<EventAt>) -> u8
     }
 }
 
+// Frees a stage. A slot is large, and one that is free is left as it is.
+fn free_slot(slot: &mut Option<InFlight>)
+    ensures { slot.new ≡ None }
+{
+    if slot.is_some() {
+        *slot = None;
+    }
+}
+
 // Puts what goes on from the stage before into a stage; so many of the first stages have nothing that does.
 fn come_at(slots: &mut [Option<InFlight>], gone: usize, stage: usize)
     requires before { 0 < stage }
@@ -143,8 +156,8 @@ fn come_at(slots: &mut [Option<InFlight>], gone: usize, stage: usize)
     ensures { slots.new ≡ slice_set slots.old stage (going gone (stage - 1) (get_or slots.old (stage - 1) None)) }
 {
     let before = stage - 1;
-    if before < gone {
-        slots[stage] = None;
+    if before < gone || slots[before].is_none() {
+        free_slot(&mut slots[stage]);
     } else {
         slots[stage] = slots[before];
     }
@@ -158,7 +171,7 @@ pub fn advance(slots: &mut [Option<InFlight>], gone: usize)
     for stage in (1..slots.len()).rev() {
         come_at(slots, gone, stage);
     }
-    slots[0] = None;
+    free_slot(&mut slots[0]);
 }
 
 /// Frees all stages.
@@ -186,24 +199,15 @@ pub fn go_on(design: &Design, slot: &Option<InFlight>, ahead: &mut Arch)
     }
 }
 
-/// What is fetched next, behind a row into which this comes, with this event and a stop or none.
-pub fn front_after(
-    front: Front,
-    new: &Option<InFlight>,
-    event: &Option<EventAt>,
-    stops: bool,
-) -> Front
+/// What is fetched next, behind a row into which something comes or nothing does, with this event and a stop or none.
+pub fn front_after(front: Front, is_new: bool, event: &Option<EventAt>, stops: bool) -> Front
     requires { front.next + 1 < 2 ^ 32 }
-    ensures fetch { (q : ℕ) → result.fetch ≡ specified_address_after front.fetch (fetched_in q new.now) (event_at event.now) }
-    ensures next { result.next ≡ (if is_some new.now then suc front.next else front.next) }
+    ensures fetch { (new : Option Fetched) → is_new ≡ is_some new → IfSome new (λ c. c.at ≡ front.fetch) → result.fetch ≡ specified_address_after front.fetch new (event_at event.now) }
+    ensures next { result.next ≡ (if is_new then suc front.next else front.next) }
     ensures stopped { result.stopped ≡ (front.stopped || stops) }
 {
-    let fetch = address_after(front.fetch, new, event);
-    let next = if new.is_some() {
-        front.next + 1
-    } else {
-        front.next
-    };
+    let fetch = address_after(front.fetch, is_new, event);
+    let next = if is_new { front.next + 1 } else { front.next };
     Front {
         fetch,
         next,

@@ -1,4 +1,4 @@
-ghost use Rattle.std.specs.Prelude.{◌≡◌, ◌+◌, ◌<◌, ◌≤◌, ◌++◌, ◌∷◌, ℕ, List, Some, length, vec_capacity};
+ghost use Rattle.std.specs.Prelude.{◌≡◌, ◌+◌, ◌<◌, ◌≤◌, ◌++◌, ◌∷◌, ℕ, List, None, Some, length, vec_capacity};
 ghost use Rattle.ix_plan.specs.Units.{unit_written};
 ghost use Rattle.rv_harts.specs.Harts.{Fetched};
 ghost use Rattle.rv_harts.specs.HartRows.{written_by, written_as};
@@ -8,7 +8,7 @@ ghost use Rattle.rv_unit.specs.Slots.{units_of};
 ghost use Rattle.rv_unit.specs.Timed.{AreUnits, IsTimed};
 ghost use Rattle.rv_barrel.specs.Cells.{AreOwed};
 ghost use Rattle.rv_barrel.specs.Older.{kept_of};
-ghost use Rattle.rv_barrel.specs.Owing.{oldest_of, entering_by, owed_by, without_serial};
+ghost use Rattle.rv_barrel.specs.Owing.{oldest_of, entering_by, owed_by, unit_entered, without_serial};
 
 use crate::cell::{InFlight, Owed};
 use ix_bits::Bits;
@@ -57,29 +57,35 @@ fn shown_of(one: &Owed) -> (u32, u8, Slot<u32>, [Slot<Bits>; 16])
     (one.serial, one.writes.rd_index, one.writes.rd, custom)
 }
 
-// What is written for this serial.
-fn written_for(owed: &[Owed], serial: u32) -> Option<(u32, u8, Slot<u32>, [Slot<Bits>; 16])>
-    ensures { (k : Setting) (all : List Fetched) → AreOwed k owed.now all → result ≡ written_by k all (Some serial) }
+// Shows what is written for this serial.
+fn show_for(
+    owed: &[Owed],
+    serial: u32,
+    written: &mut Option<(u32, u8, Slot<u32>, [Slot<Bits>; 16])>,
+)
+    requires { written.old ≡ None }
+    ensures { (k : Setting) (all : List Fetched) → AreOwed k owed.now all → written.new ≡ written_by k all (Some serial) }
 {
-    match owed {
-        [] => None,
-        [one, newer @ ..] => {
-            if one.serial == serial {
-                Some(shown_of(one))
-            } else {
-                written_for(newer, serial)
-            }
+    if let [one, newer @ ..] = owed {
+        if one.serial == serial {
+            *written = Some(shown_of(one));
+        } else {
+            show_for(newer, serial, written);
         }
     }
 }
 
-/// What is written in a row, where a serial of these is.
-pub fn written_of(owed: &[Owed], out: Option<u32>) -> Option<(u32, u8, Slot<u32>, [Slot<Bits>; 16])>
-    ensures { (k : Setting) (all : List Fetched) → AreOwed k owed.now all → result ≡ written_by k all out }
+/// Shows what is written in a row, where a serial of these is, and where the row shows nothing yet.
+pub fn show_written(
+    owed: &[Owed],
+    out: Option<u32>,
+    written: &mut Option<(u32, u8, Slot<u32>, [Slot<Bits>; 16])>,
+)
+    requires { written.old ≡ None }
+    ensures { (k : Setting) (all : List Fetched) → AreOwed k owed.now all → written.new ≡ written_by k all out }
 {
-    match out {
-        None => None,
-        Some(serial) => written_for(owed, serial),
+    if let Some(serial) = out {
+        show_for(owed, serial, written);
     }
 }
 
@@ -98,33 +104,26 @@ pub fn take_out(owed: &mut Vec<Owed>, out: Option<u32>)
     }
 }
 
-/// What retires out of a slot with a unit.
-pub fn entering_in(slot: &Option<InFlight>) -> Option<(u8, Owed)>
-    ensures { result ≡ entering_by slot.now }
+/// Puts what retires out of a slot with a unit, if anything does, behind all others, into reserved room. Gives its unit and its serial.
+pub fn put_last(owed: &mut Vec<Owed>, slot: &Option<InFlight>) -> Option<(u8, u32)>
+    requires { length (owed.old.items ++ owed_by (entering_by slot.now)) ≤ vec_capacity owed.old }
+    ensures unit { result ≡ unit_entered (entering_by slot.now) }
+    ensures items { owed.new.items ≡ owed.old.items ++ owed_by (entering_by slot.now) }
+    ensures capacity { vec_capacity owed.old ≤ vec_capacity owed.new }
 {
     let one = slot.as_ref()?;
     let unit = one.asks.unit?;
     let step = one.step.as_ref()?;
     match &step.answer {
         StepAnswer::Stopped(_) => None,
-        StepAnswer::Done(commit) => Some((
-            unit,
-            Owed {
+        StepAnswer::Done(commit) => {
+            let entering = Owed {
                 serial: one.serial,
                 asks: one.asks,
                 writes: spawn_writes(&one.asks, &step.own, commit),
-            },
-        )),
-    }
-}
-
-/// Puts what enters a unit, if anything, behind all others, into reserved room.
-pub fn put_last(owed: &mut Vec<Owed>, enter: &Option<(u8, Owed)>)
-    requires { length (owed.old.items ++ owed_by enter.now) ≤ vec_capacity owed.old }
-    ensures items { owed.new.items ≡ owed.old.items ++ owed_by enter.now }
-    ensures capacity { vec_capacity owed.old ≤ vec_capacity owed.new }
-{
-    if let Some((_, one)) = enter {
-        owed.push(*one).unwrap();
+            };
+            owed.push(entering).unwrap();
+            Some((unit, one.serial))
+        }
     }
 }

@@ -15,21 +15,13 @@ ghost use Rattle.rv_barrel.specs.Paying.{IsStoredSlot, arch_by};
 ghost use Rattle.rv_barrel.specs.Showing.{retired_by};
 
 use crate::cell::{InFlight, Owed};
-use crate::owing::{entering_in, put_last, serial_out, take_out, written_of};
-use crate::showing::retired_in;
-use ix_bits::Bits;
+use crate::owing::{put_last, serial_out, show_written, take_out};
+use crate::showing::show_retired;
 use ix_plan::Design;
-use rv_made::Due;
-use rv_past::{pay_written, retire};
-use rv_seq::{Arch, Commit, Slot};
+use rv_harts::HartPart;
+use rv_past::{pay_written, retire_step};
+use rv_seq::{Arch, Commit};
 use rv_unit::Units;
-
-/// What a row writes of a hart: what retires, with its serial, and what a unit writes.
-#[derive(Clone, Copy)]
-pub struct Paid {
-    pub retired: Option<(u32, Commit)>,
-    pub written: Option<(u32, u8, Slot<u32>, [Slot<Bits>; 16])>,
-}
 
 // Makes the writes of what retires out of a slot.
 fn retire_slot(
@@ -44,23 +36,9 @@ fn retire_slot(
     ensures { arch.new ≡ arch_by (view_extension design.now.extension) slot.now arch.old }
 {
     if let Some(one) = slot {
-        if let Some(step) = one.step {
-            let due = Due {
-                step,
-                asks: one.asks,
-            };
-            retire(&design.extension, &due, retired, arch);
+        if let Some(step) = &one.step {
+            retire_step(&design.extension, step, &one.asks, retired, arch);
         }
-    }
-}
-
-// The unit and the serial of what enters, if anything.
-fn entered(enter: &Option<(u8, Owed)>) -> Option<(u8, u32)>
-    ensures { result ≡ unit_entered enter.now }
-{
-    match enter {
-        None => None,
-        Some((unit, owed)) => Some((*unit, owed.serial)),
     }
 }
 
@@ -74,8 +52,8 @@ pub fn serial_in_row(steps: bool, units: &Units) -> Option<u32>
     if steps { serial } else { None }
 }
 
-/// Makes the writes of a row: of what goes out of the last stage, of which this is the slot, and of the serial that goes out of the units, if any. What retires with a unit is owed
-/// from then on, and enters its unit; where the units step in the row they stay as they are until the next one.
+/// Makes the writes of a row: of what goes out of the last stage, of which this is the slot, and of the serial that goes out of the units, if any. The hart's part of the row, in which
+/// nothing is written yet, shows both. What retires with a unit is owed from then on, and enters its unit; where the units step in the row they stay as they are until the next one.
 pub fn pay(
     design: &Design,
     slot: &Option<InFlight>,
@@ -84,29 +62,30 @@ pub fn pay(
     arch: &mut Arch,
     units: &mut Units,
     owed: &mut Vec<Owed>,
-) -> Paid
+    part: &mut HartPart,
+)
     requires well_formed { IsWellFormed design.now.extension }
     requires stored { IsStoredSlot slot.now }
     requires enters { CanEnter units.old.lasts units.old.entries (unit_entered (entering_by slot.now)) }
     requires room { length (without_serial out owed.old.items ++ owed_by (entering_by slot.now)) ≤ vec_capacity owed.old }
-    ensures retired { result.retired ≡ retired_by slot.now }
-    ensures written { (k : Setting) (all : List Fetched) → AreOwed k owed.old.items all → result.written ≡ written_by k all out }
-    ensures arch { arch.new ≡ after_written result.written (arch_by (view_extension design.now.extension) slot.now arch.old) }
+    requires retires { part.old.retired ≡ None }
+    requires writes { part.old.written ≡ None }
+    ensures retired { part.new.retired ≡ retired_by slot.now }
+    ensures written { (k : Setting) (all : List Fetched) → AreOwed k owed.old.items all → part.new.written ≡ written_by k all out }
+    ensures arch { arch.new ≡ after_written part.new.written (arch_by (view_extension design.now.extension) slot.now arch.old) }
     ensures units { units_of units.new.stages units.new.lasts units.new.entries ≡ (if steps then units_of units.old.stages units.old.lasts units.old.entries else next_units (unit_entered (entering_by slot.now)) (units_of units.old.stages units.old.lasts units.old.entries)) }
     ensures stages { units.new.stages ≡ units.old.stages }
     ensures lasts { units.new.lasts ≡ units.old.lasts }
     ensures owed { owed.new.items ≡ without_serial out owed.old.items ++ owed_by (entering_by slot.now) }
     ensures capacity { vec_capacity owed.old ≤ vec_capacity owed.new }
 {
-    let retired = retired_in(slot);
-    let enter = entering_in(slot);
-    let written = written_of(owed.as_slice(), out);
-    retire_slot(design, slot, &retired, arch);
-    pay_written(&written, arch);
+    show_retired(slot, &mut part.retired);
+    show_written(owed.as_slice(), out, &mut part.written);
+    retire_slot(design, slot, &part.retired, arch);
+    pay_written(&part.written, arch);
     take_out(owed, out);
-    put_last(owed, &enter);
+    let entered = put_last(owed, slot);
     if !steps {
-        units.cycle(entered(&enter));
+        units.cycle(entered);
     }
-    Paid { retired, written }
 }

@@ -103,18 +103,16 @@ pub fn stop_of(event: &Option<EventAt>) -> Option<Stop>
     }
 }
 
-/// What retires out of a slot, with its serial.
-pub fn retired_in(slot: &Option<InFlight>) -> Option<(u32, Commit)>
-    ensures { result ≡ retired_by slot.now }
+/// Shows what retires out of a slot, with its serial, where a row shows nothing yet. A record is large, and none is written where nothing retires.
+pub fn show_retired(slot: &Option<InFlight>, retired: &mut Option<(u32, Commit)>)
+    requires { retired.old ≡ None }
+    ensures { retired.new ≡ retired_by slot.now }
 {
-    match slot {
-        None => None,
-        Some(one) => match &one.step {
-            None => None,
-            Some(step) => match &step.answer {
-                StepAnswer::Stopped(_) => None,
-                StepAnswer::Done(commit) => Some((one.serial, shown(&one.asks, commit))),
-            },
-        },
+    if let Some(one) = slot {
+        if let Some(step) = &one.step {
+            if let StepAnswer::Done(commit) = &step.answer {
+                *retired = Some((one.serial, shown(&one.asks, commit)));
+            }
+        }
     }
 }

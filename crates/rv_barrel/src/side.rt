@@ -3,7 +3,7 @@ ghost use Rattle.ix_extension.specs.Extensions.{view_extension};
 ghost use Rattle.ix_extension.specs.WellFormed.{IsWellFormed};
 ghost use Rattle.ix_eval.specs.Scratches.{IsScratchOf};
 ghost use Rattle.rv_asks.specs.Asks.{IsAskingOf};
-ghost use Rattle.rv_effect.specs.WordEffects.{AreWide};
+ghost use Rattle.rv_seq.specs.WordEffects.{AreWide};
 ghost use Rattle.rv_harts.specs.BarrelRows.{hart_setting};
 ghost use Rattle.rv_harts.specs.HartRows.{hart_row, below as specified_below, lost as specified_lost};
 ghost use Rattle.rv_hart_runs.specs.HartRuns.{KnownHart};
@@ -169,16 +169,19 @@ fn row_in(
     units: &mut Units,
     owed: &mut Vec<Owed>,
     scratch: &mut Scratch,
-) -> ([Option<BarrelCell>; 5], HartPart)
+    part: &mut HartPart,
+) -> [Option<BarrelCell>; 5]
     requires well_formed { IsWellFormed design.now.extension }
     requires asking { IsAskingOf design.now asking.now }
     requires scratch { IsScratchOf (view_extension design.now.extension) scratch.old }
     requires row { row + 1 < 2 ^ 32 }
     requires known { KnownHart (hart_setting design.now image.now) hart row }
     requires side { IsSide (view_extension design.now.extension) (hart_setting design.now image.now) hart row slots.old front.old ahead.old arch.old units.old owed.old.items (vec_capacity owed.old) }
+    requires retires { part.old.retired ≡ None }
+    requires writes { part.old.written ≡ None }
     ensures scratch { IsScratchOf (view_extension design.now.extension) scratch.new }
-    ensures cells { result.0 ≡ (hart_row (hart_setting design.now image.now) hart row).cells }
-    ensures part { result.1 ≡ (hart_row (hart_setting design.now image.now) hart row).part }
+    ensures cells { result ≡ (hart_row (hart_setting design.now image.now) hart row).cells }
+    ensures part { part.new ≡ (hart_row (hart_setting design.now image.now) hart row).part }
     ensures side { IsSide (view_extension design.now.extension) (hart_setting design.now image.now) hart (suc row) slots.new front.new ahead.new arch.new units.new owed.new.items (vec_capacity owed.new) }
 {
     unit_laws();
@@ -194,18 +197,14 @@ fn row_in(
     let cells = cells_of(hart, &event, slots);
     let flushed = serials_in(&slots[..usize::from(below(&event))]);
     let last = &slots[usize::from(shape.stages) - 1];
-    let paid = pay(design, last, steps, out, arch, units, owed);
+    pay(design, last, steps, out, arch, units, owed, part);
     let stop = stopping(stop_of(&event), may_fetch, slots, owed.as_slice());
-    *front = front_after(*front, &new, &event, stop.is_some());
+    *front = front_after(*front, new, &event, stop.is_some());
     settle(design, &event, stop.is_some(), slots, ahead);
-    let part = HartPart {
-        retired: paid.retired,
-        written: paid.written,
-        flushed,
-        redirect: redirect(&event),
-        stop,
-    };
-    (cells, part)
+    part.flushed = flushed;
+    part.redirect = redirect(&event);
+    part.stop = stop;
+    cells
 }
 
 // The same of the slots that are kept, of which the core has the first ones as stages.
@@ -222,16 +221,19 @@ fn row_over(
     units: &mut Units,
     owed: &mut Vec<Owed>,
     scratch: &mut Scratch,
-) -> ([Option<BarrelCell>; 5], HartPart)
+    part: &mut HartPart,
+) -> [Option<BarrelCell>; 5]
     requires well_formed { IsWellFormed design.now.extension }
     requires asking { IsAskingOf design.now asking.now }
     requires scratch { IsScratchOf (view_extension design.now.extension) scratch.old }
     requires row { row + 1 < 2 ^ 32 }
     requires known { KnownHart (hart_setting design.now image.now) hart row }
     requires side { IsSide (view_extension design.now.extension) (hart_setting design.now image.now) hart row (take design.now.sheet.shape.stages slots.old) front.old ahead.old arch.old units.old owed.old.items (vec_capacity owed.old) }
+    requires retires { part.old.retired ≡ None }
+    requires writes { part.old.written ≡ None }
     ensures scratch { IsScratchOf (view_extension design.now.extension) scratch.new }
-    ensures cells { result.0 ≡ (hart_row (hart_setting design.now image.now) hart row).cells }
-    ensures part { result.1 ≡ (hart_row (hart_setting design.now image.now) hart row).part }
+    ensures cells { result ≡ (hart_row (hart_setting design.now image.now) hart row).cells }
+    ensures part { part.new ≡ (hart_row (hart_setting design.now image.now) hart row).part }
     ensures side { IsSide (view_extension design.now.extension) (hart_setting design.now image.now) hart (suc row) (take design.now.sheet.shape.stages slots.new) front.new ahead.new arch.new units.new owed.new.items (vec_capacity owed.new) }
 {
     let stages = usize::from(design.sheet.shape.stages);
@@ -248,6 +250,7 @@ fn row_over(
         units,
         owed,
         scratch,
+        part,
     )
 }
 
@@ -260,16 +263,19 @@ pub fn row_of(
     row: u32,
     side: &mut Side,
     scratch: &mut Scratch,
-) -> ([Option<BarrelCell>; 5], HartPart)
+    part: &mut HartPart,
+) -> [Option<BarrelCell>; 5]
     requires well_formed { IsWellFormed design.now.extension }
     requires asking { IsAskingOf design.now asking.now }
     requires scratch { IsScratchOf (view_extension design.now.extension) scratch.old }
     requires row { row + 1 < 2 ^ 32 }
     requires known { KnownHart (hart_setting design.now image.now) hart row }
     requires side { IsKept (view_extension design.now.extension) (hart_setting design.now image.now) hart row side.old }
+    requires retires { part.old.retired ≡ None }
+    requires writes { part.old.written ≡ None }
     ensures scratch { IsScratchOf (view_extension design.now.extension) scratch.new }
-    ensures cells { result.0 ≡ (hart_row (hart_setting design.now image.now) hart row).cells }
-    ensures part { result.1 ≡ (hart_row (hart_setting design.now image.now) hart row).part }
+    ensures cells { result ≡ (hart_row (hart_setting design.now image.now) hart row).cells }
+    ensures part { part.new ≡ (hart_row (hart_setting design.now image.now) hart row).part }
     ensures side { IsKept (view_extension design.now.extension) (hart_setting design.now image.now) hart (suc row) side.new }
 {
     row_over(
@@ -285,5 +291,6 @@ pub fn row_of(
         &mut side.units,
         &mut side.owed,
         scratch,
+        part,
     )
 }

@@ -10,7 +10,7 @@ use Rattle.ix_extension.specs.Extensions.{ExtensionTree}
 use Rattle.rv_seq.specs.declared.arch.Arch.{Arch}
 use Rattle.rv_trace.specs.TraceText.{hex_word_text, registers_text}
 use Rattle.rv_text.specs.RunText.{outstanding_line, memory_word, memory_lines, trap_text, custom_lines, head_text, state_text}
-use Rattle.rv_known.specs.declared.known.Owed.{Owed}
+use Rattle.rv_rows.specs.declared.known.Owed.{Owed}
 use Rattle.rv_ending.specs.Owed.{owed_pairs, x_part, custom_part, customs_from, owed_lines, HasSixteen, AreSixteen}
 
 customs_more_from : (o : Owed) (c n : ℕ) → customs_from o c (suc n) ≡ customs_from o c n ++ custom_part o (c + n)

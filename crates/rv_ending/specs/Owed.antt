@@ -4,7 +4,7 @@ use Rattle.ix_plan.specs.declared.design.Target.{Target}
 use Rattle.ix_plan.specs.declared.design.Target.TheVariants.{X, Custom}
 use Rattle.rv_text.specs.RunText.{outstanding_line}
 use Rattle.rv_lawful.specs.Outstanding.{targets_of}
-use Rattle.rv_known.specs.declared.known.Owed.{Owed}
+use Rattle.rv_rows.specs.declared.known.Owed.{Owed}
 
 -- the outstanding targets of an instruction, with its serial
 abbrev pub owed_pairs : Owed → List (ℕ × Target)

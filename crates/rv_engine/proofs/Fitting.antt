@@ -4,7 +4,7 @@ use Rattle.std.specs.Prelude.{IfSome, slice_get, option_map, if◌then◌else◌
 use Rattle.ix_extension.specs.Extensions.{ExtensionTree, view_extension}
 use Rattle.ix_plan.specs.declared.design.Design.{Design}
 use Rattle.rv_core.specs.declared.Shape.{Shape}
-use Rattle.rv_effect.specs.WordEffects.{AreWide}
+use Rattle.rv_seq.specs.WordEffects.{AreWide}
 use Rattle.rv_seq.specs.declared.answer.StepAnswer.{StepAnswer}
 use Rattle.rv_seq.specs.declared.answer.StepAnswer.TheVariants.{Done, Stopped}
 use Rattle.rv_seq.specs.Sound.{IsSound, IsSoundCommit}
@@ -20,8 +20,8 @@ use Rattle.rv_tried.specs.Parts.{native}
 use Rattle.ix_plan.specs.declared.design.Plan.{Plan}
 use Rattle.rv_unit.specs.Numbering.{lasts_of, unit_after, unit_of}
 use Rattle.rv_unit.proofs.Numbered.{numbering_law}
-use Rattle.rv_effect.specs.declared.decoded.Decoded.{Decoded}
-use Rattle.rv_effect.specs.declared.decoded.Decoded.TheVariants as D
+use Rattle.rv_seq.specs.declared.decoded.Decoded.{Decoded}
+use Rattle.rv_seq.specs.declared.decoded.Decoded.TheVariants as D
 use Rattle.rv_asks.specs.Asks.{asks_in}
 use Rattle.rv_engine.specs.Owing.{Outstanding}
 use Rattle.rv_engine.specs.declared.reading.Operands.{Operands}

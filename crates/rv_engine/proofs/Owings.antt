@@ -1,18 +1,22 @@
 -- The entry that writes is the oldest one of its unit, and what it owes stands at its place.
 use Rattle.std.proofs.Common.{◌≡◌, ℕ, zero, suc, ◌+◌, ◌-◌, ◌<◌, ◌≤◌, List, [], ◌∷◌, ◌++◌, length, take, drop, Option, Some, None, Bool, true, false, refl, sym, ap, ◌∙◌, subst, arith, inl, inr}
-use Rattle.std.specs.Prelude.{◌&&◌, ◌||◌, if◌then◌else◌, ◌==◌, slice_get, slice_index_or, option_map}
+use Rattle.std.specs.Prelude.{◌&&◌, ◌||◌, if◌then◌else◌, ◌==◌, replicate, slice_get, slice_index_or, option_map}
 use Rattle.std.proofs.lemmas.Bool.{cases_lt}
 use Rattle.std.proofs.lemmas.Bool.Decides.{nat_tests}
 use Rattle.std.proofs.lemmas.List.{length-append, length-drop}
+use Rattle.ix_eval.specs.Tables.{table}
+use Rattle.rv_asks.specs.declared.asks.Asks.{Asks}
+use Rattle.rv_lawful.specs.Outstanding.{touches}
 use Rattle.rv_unit.specs.declared.entry.Entry.{Entry}
-use Rattle.rv_unit.specs.Entries.{last_time, is_finished, has_finished, writer, is_number, does_write, cons_unless, moved, stepped, entered}
+use Rattle.rv_unit.specs.Entries.{last_time, is_finished, has_finished, writer, is_number, does_write, cons_unless, moved, stepped, entered, is_frozen}
 use Rattle.rv_unit.specs.Timed.{IsBehind, IsTimed, CanEnter}
 use Rattle.rv_unit.specs.UnitLaws.{TimedLaw, RoomLaw}
 use Rattle.rv_unit.proofs.Cycling.{writes_at}
 use Rattle.rv_unit.proofs.Finishing.{writer_finished, same_test}
+use Rattle.rv_holds.specs.Holds.{least_from, numbered, register_at, register_count}
 use Rattle.rv_holds.specs.Tokens.{or_else}
 use Rattle.rv_engine.specs.declared.owing.Owed.{Owed}
-use Rattle.rv_engine.specs.Owing.{Outstanding, paying_among, unpaid_among, unpaid, oldest_serial, unit_entered, owed_by_entering, entries_after, owed_after, outstanding_after}
+use Rattle.rv_engine.specs.Owing.{Outstanding, holder, holder_for, board_of, paying_among, unpaid_among, unpaid, oldest_serial, unit_entered, owed_by_entering, entries_after, owed_after, outstanding_after}
 use Rattle.rv_engine.specs.Places.{oldest_place, without_place, IsPayingPlace, AreKept}
 
 is_eq : (a b : ℕ) → (a == b) ≡ true → a ≡ b
@@ -237,3 +241,25 @@ kept_as s s' l l' e e' o o' p p' hs hl he ho hp h =
     (subst (λ x. AreKept (record { stages = s; lasts = l; entries = x; owed = o' }) p') (sym he)
     (subst (λ x. AreKept (record { stages = s; lasts = x; entries = e'; owed = o' }) p') (sym hl)
     (subst (λ x. AreKept (record { stages = x; lasts = l'; entries = e'; owed = o' }) p') (sym hs) h))))
+
+-- Where nothing stands in units
+
+none_for : (a : Asks) (n : ℕ) → holder_for [] a n ≡ None
+none_for a n = either (touches a (register_at n)) where
+  either : (b : Bool) → (if b then holder n [] else None) ≡ None
+  either true = refl
+  either false = refl
+
+none_held : (a : Asks) (n count : ℕ) → least_from (holder_for [] a) n count ≡ None
+none_held a n zero = refl
+none_held a n (suc count) = ap (λ o. or_else (numbered n o) (least_from (holder_for [] a) (suc n) count)) (none_for a n) ∙ none_held a (suc n) count
+
+-- where nothing is owed no register is waited for
+pub board_none : (owed : List Owed) (a : Asks) → length owed ≡ 0 → board_of owed a ≡ None
+board_none [] a e = none_held a 0 register_count
+board_none (o ∷ older) a e = absurd (omega (arith, e))
+
+-- where nothing stands in units none is frozen
+pub idle_frozen : (lasts : List ℕ) (entries : List Entry) → length entries ≡ 0 → replicate 64 false ≡ table (is_frozen lasts entries) 64
+idle_frozen lasts [] e = refl
+idle_frozen lasts (one ∷ entries) e = absurd (omega (arith, e))

@@ -13,7 +13,7 @@ use Rattle.ix_extension.specs.Extensions.{ExtensionTree, view_extension}
 use Rattle.ix_eval.specs.Tables.{table}
 use Rattle.ix_eval.specs.Evaluated.{type_of_custom}
 use Rattle.ix_eval.proofs.Tables.{table_length, table_at}
-use Rattle.rv_effect.specs.WordEffects.{AreWide}
+use Rattle.rv_seq.specs.WordEffects.{AreWide}
 use Rattle.rv_seq.specs.declared.commit.Slot.{Slot}
 use Rattle.rv_seq.specs.declared.commit.Slot.TheVariants.{Absent, Now, Later}
 use Rattle.rv_seq.specs.States.{zero_bit}

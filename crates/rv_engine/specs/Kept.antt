@@ -10,8 +10,8 @@ use Rattle.rv_seq.specs.Sound.{IsNowWide, IsSound}
 use Rattle.ix_eval.specs.Evaluated.{type_of_custom}
 use Rattle.rv_seq.specs.declared.commit.Commit.{Commit}
 use Rattle.rv_seq.specs.Commits.{IsStoredInside}
-use Rattle.rv_effect.specs.Decoding.{IsIn}
-use Rattle.rv_effect.specs.WordEffects.{AreWide}
+use Rattle.rv_seq.specs.Decoding.{IsIn}
+use Rattle.rv_seq.specs.WordEffects.{AreWide}
 use Rattle.rv_tried.specs.declared.trial.Trial.{Trial}
 use Rattle.rv_tried.specs.Whole.{AreBlocksWide}
 use Rattle.rv_holds.specs.declared.token.Token.{Token}

@@ -7,7 +7,7 @@ use Rattle.ix_mean.specs.declared.evaluate.State.{State}
 use Rattle.rv_core.specs.declared.Shape.{Shape}
 use Rattle.rv_core.specs.Guesses.{next_word, guess_of}
 use Rattle.rv_isa.specs.Fields.{rs1_of, rs2_of}
-use Rattle.rv_effect.specs.Decoding.{decoded_in}
+use Rattle.rv_seq.specs.Decoding.{decoded_in}
 use Rattle.rv_seq.specs.declared.arch.Arch.{Arch}
 use Rattle.rv_seq.specs.declared.answer.StepAnswer.{StepAnswer}
 use Rattle.rv_seq.specs.declared.answer.StepAnswer.TheVariants.{Done, Stopped}

@@ -3,7 +3,7 @@ ghost use Rattle.std.specs.Option.{option_copied};
 ghost use Rattle.ix_extension.specs.Extensions.{view_extension};
 ghost use Rattle.ix_extension.specs.WellFormed.{IsWellFormed};
 ghost use Rattle.ix_eval.specs.Scratches.{IsScratchOf};
-ghost use Rattle.rv_effect.specs.WordEffects.{AreWide};
+ghost use Rattle.rv_seq.specs.WordEffects.{AreWide};
 ghost use Rattle.rv_asks.specs.Asks.{IsAskingOf};
 ghost use Rattle.rv_seq.specs.declared.commit.Stop.TheVariants.{Fetch};
 ghost use Rattle.rv_seq.specs.Steps.{word_at as specified_word_at};
@@ -18,9 +18,9 @@ ghost use Rattle.rv_engine.specs.Owing.{IsOwingOf};
 use crate::entering::{is_interrupted, is_pending, is_waiting, take_interrupt};
 use crate::filling::{fetch, guess};
 use crate::front::{Front, Kept};
-use crate::moving::{accesses_then, advance, last, put_early, put_late, retired_in, stood_then};
+use crate::moving::{accesses_then, advance, last, put_early, put_late, show_retired, stood_then};
 use crate::owing::{Owed, Owing};
-use crate::paying::{entering_in, pay_all, retire, written_of};
+use crate::paying::{pay_all, retire, show_written};
 use crate::reading::{owed_in, read};
 use crate::showing::show;
 use crate::trying::{load, try_executing};
@@ -78,7 +78,7 @@ fn owes(owing: &Owing) -> bool
 /// file, of the token that leaves EX.
 fn write(
     design: &Design,
-    paying: &Option<Owed>,
+    paying: Option<&Owed>,
     slots: &[Option<Token>],
     future: &mut [Bits; 16],
     arch: &mut Arch,
@@ -86,8 +86,8 @@ fn write(
     requires well_formed { IsWellFormed design.now.extension }
     requires inside { design.now.sheet.shape.ex < length slots.now }
     requires stored { AreStoredInside (native_of (leaving None slots.now)) }
-    ensures future { future.new ≡ file_early (going (first_slot (drop design.now.sheet.shape.ex slots.now))) (file_late (leaving None slots.now) (file_paid paying.now future.old)) }
-    ensures arch { arch.new ≡ arch_paid paying.now (arch_retired (view_extension design.now.extension) (native_of (leaving None slots.now)) arch.old) }
+    ensures future { future.new ≡ file_early (going (first_slot (drop design.now.sheet.shape.ex slots.now))) (file_late (leaving None slots.now) (file_paid (option_copied paying.entry) future.old)) }
+    ensures arch { arch.new ≡ arch_paid (option_copied paying.entry) (arch_retired (view_extension design.now.extension) (native_of (leaving None slots.now)) arch.old) }
 {
     retire(&design.extension, last(slots), arch);
     pay_all(paying, future, arch);
@@ -143,7 +143,8 @@ fn prepare(
     next
 }
 
-/// One row of the slots of the stages, what it shows the modules, and what is kept after it.
+/// One row of the slots of the stages, put where nothing is retired or written yet, what it shows the modules, where they are there to see it, and what is kept after it. The parts of
+/// a row are large, and those that it has not are not written.
 fn row_of(
     design: &Design,
     asking: &Asking,
@@ -156,7 +157,10 @@ fn row_of(
     owing: &mut Owing,
     slots: &mut [Option<Token>],
     scratch: &mut Scratch,
-) -> (Row, Shown)
+    row: &mut Row,
+    shows: bool,
+    shown: &mut Shown,
+)
     requires well_formed { IsWellFormed design.now.extension }
     requires asking { IsAskingOf design.now asking.now }
     requires scratch { IsScratchOf (view_extension design.now.extension) scratch.old }
@@ -169,9 +173,11 @@ fn row_of(
     requires accesses { front.old.accesses + 1 < 2 ^ 32 }
     requires stood { front.old.stood + 1 < 2 ^ 32 }
     requires rows { front.old.rows + 1 < 2 ^ 32 }
+    requires retires { row.old.retired ≡ None }
+    requires writes { row.old.written ≡ None }
     ensures scratch { IsScratchOf (view_extension design.now.extension) scratch.new }
-    ensures row { IsRowOf (setting design.now image.now waits.now (option_copied lines.entry)) (machine_with front.old future.old arch.old owing.old slots.old) result.0 }
-    ensures shown { result.1 ≡ shown_of (setting design.now image.now waits.now (option_copied lines.entry)) (machine_with front.old future.old arch.old owing.old slots.old) }
+    ensures row { IsRowOf (setting design.now image.now waits.now (option_copied lines.entry)) (machine_with front.old future.old arch.old owing.old slots.old) row.new }
+    ensures shown { shows ≡ true → shown.new ≡ shown_of (setting design.now image.now waits.now (option_copied lines.entry)) (machine_with front.old future.old arch.old owing.old slots.old) }
     ensures after { machine_with front.new future.new arch.new owing.new slots.new ≡ machine_after (setting design.now image.now waits.now (option_copied lines.entry)) (machine_with front.old future.old arch.old owing.old slots.old) }
     ensures future { AreWide (view_extension design.now.extension) future.new }
     ensures fitting { AreFitting design.now slots.new }
@@ -196,7 +202,7 @@ fn row_of(
     );
     let entered = enters(shape, interrupted, slots);
     let turn = turn_in(shape, entered, front.fetch, slots);
-    let shown = show(shape, arch, future, owing, turn, slots);
+    show(shape, arch, future, owing, turn, slots, shows, shown);
     let left = flush(turn, slots);
     let cells = left.cells;
     let flushed = left.flushed;
@@ -205,11 +211,12 @@ fn row_of(
     let memory = usize::from(shape.mem);
     let accesses = accesses_then(front.accesses, &slots[memory]);
     let stood = stood_then(front.stood, &slots[memory]);
-    let retired = retired_in(last(slots));
+    show_retired(last(slots), &mut row.retired);
     let paying = owing.paying();
-    write(design, &paying, slots, future, arch);
+    write(design, paying, slots, future, arch);
+    show_written(paying, &mut row.written);
     let taken = take_interrupt(shape, entered, arch);
-    owing.cycle(entering_in(last(slots)));
+    owing.cycle(last(slots));
     let stop = stop_of_row(image, stopped, slots, owing, fetch);
     advance(slots);
     let waiting = is_waiting(pending, entered);
@@ -221,16 +228,11 @@ fn row_of(
         rows: front.rows + 1,
         waiting,
     };
-    let row = Row {
-        cells,
-        retired,
-        written: written_of(&paying),
-        flushed,
-        redirect: left.redirect,
-        taken,
-        stop,
-    };
-    (row, shown)
+    row.cells = cells;
+    row.flushed = flushed;
+    row.redirect = left.redirect;
+    row.taken = taken;
+    row.stop = stop;
 }
 
 /// The same of the slots that are kept, of which the core has the first ones as stages.
@@ -246,7 +248,10 @@ fn row_in(
     owing: &mut Owing,
     slots: &mut [Option<Token>; 5],
     scratch: &mut Scratch,
-) -> (Row, Shown)
+    row: &mut Row,
+    shows: bool,
+    shown: &mut Shown,
+)
     requires well_formed { IsWellFormed design.now.extension }
     requires asking { IsAskingOf design.now asking.now }
     requires scratch { IsScratchOf (view_extension design.now.extension) scratch.old }
@@ -258,9 +263,11 @@ fn row_in(
     requires accesses { front.old.accesses + 1 < 2 ^ 32 }
     requires stood { front.old.stood + 1 < 2 ^ 32 }
     requires rows { front.old.rows + 1 < 2 ^ 32 }
+    requires retires { row.old.retired ≡ None }
+    requires writes { row.old.written ≡ None }
     ensures scratch { IsScratchOf (view_extension design.now.extension) scratch.new }
-    ensures row { IsRowOf (setting design.now image.now waits.now (option_copied lines.entry)) (machine_with front.old future.old arch.old owing.old (take design.now.sheet.shape.stages slots.old)) result.0 }
-    ensures shown { result.1 ≡ shown_of (setting design.now image.now waits.now (option_copied lines.entry)) (machine_with front.old future.old arch.old owing.old (take design.now.sheet.shape.stages slots.old)) }
+    ensures row { IsRowOf (setting design.now image.now waits.now (option_copied lines.entry)) (machine_with front.old future.old arch.old owing.old (take design.now.sheet.shape.stages slots.old)) row.new }
+    ensures shown { shows ≡ true → shown.new ≡ shown_of (setting design.now image.now waits.now (option_copied lines.entry)) (machine_with front.old future.old arch.old owing.old (take design.now.sheet.shape.stages slots.old)) }
     ensures after { machine_with front.new future.new arch.new owing.new (take design.now.sheet.shape.stages slots.new) ≡ machine_after (setting design.now image.now waits.now (option_copied lines.entry)) (machine_with front.old future.old arch.old owing.old (take design.now.sheet.shape.stages slots.old)) }
     ensures future { AreWide (view_extension design.now.extension) future.new }
     ensures fitting { AreFitting design.now (take design.now.sheet.shape.stages slots.new) }
@@ -280,12 +287,14 @@ fn row_in(
         owing,
         &mut slots[..stages],
         scratch,
-    )
+        row,
+        shows,
+        shown,
+    );
 }
 
-/// One row of a pipeline of a design, over an image and a memory with these waits, with this interrupt line, if there is one, with what it shows the modules, and what it keeps
-/// after the row. The asking and the
-/// scratch are of this design. It takes no memory.
+/// One row of a pipeline of a design, put where nothing is retired or written yet, over an image and a memory with these waits, with this interrupt line, if there is one, with
+/// what it shows the modules, where they are there to see it, and what it keeps after the row. The asking and the scratch are of this design. It takes no memory.
 pub fn make_row(
     design: &Design,
     asking: &Asking,
@@ -294,7 +303,10 @@ pub fn make_row(
     lines: Option<&Lines>,
     kept: &mut Kept,
     scratch: &mut Scratch,
-) -> (Row, Shown)
+    row: &mut Row,
+    shows: bool,
+    shown: &mut Shown,
+)
     requires well_formed { IsWellFormed design.now.extension }
     requires asking { IsAskingOf design.now asking.now }
     requires scratch { IsScratchOf (view_extension design.now.extension) scratch.old }
@@ -304,8 +316,10 @@ pub fn make_row(
     requires accesses { kept.old.front.accesses + 1 < 2 ^ 32 }
     requires stood { kept.old.front.stood + 1 < 2 ^ 32 }
     requires rows { kept.old.front.rows + 1 < 2 ^ 32 }
-    ensures row { IsRowOf (setting design.now image.now waits.now (option_copied lines.entry)) (machine_of design.now.sheet.shape kept.old) result.0 }
-    ensures shown { result.1 ≡ shown_of (setting design.now image.now waits.now (option_copied lines.entry)) (machine_of design.now.sheet.shape kept.old) }
+    requires retires { row.old.retired ≡ None }
+    requires writes { row.old.written ≡ None }
+    ensures row { IsRowOf (setting design.now image.now waits.now (option_copied lines.entry)) (machine_of design.now.sheet.shape kept.old) row.new }
+    ensures shown { shows ≡ true → shown.new ≡ shown_of (setting design.now image.now waits.now (option_copied lines.entry)) (machine_of design.now.sheet.shape kept.old) }
     ensures after { machine_of design.now.sheet.shape kept.new ≡ machine_after (setting design.now image.now waits.now (option_copied lines.entry)) (machine_of design.now.sheet.shape kept.old) }
     ensures fit { IsFit (setting design.now image.now waits.now (option_copied lines.entry)) (machine_of design.now.sheet.shape kept.new) }
     ensures owing { IsOwingOf design.now kept.new.owing }
@@ -323,5 +337,8 @@ pub fn make_row(
         &mut kept.owing,
         &mut kept.slots,
         scratch,
-    )
+        row,
+        shows,
+        shown,
+    );
 }

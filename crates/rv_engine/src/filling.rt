@@ -1,7 +1,7 @@
 ghost use Rattle.std.specs.Prelude.{◌≡◌, ◌+◌, ◌<◌, ◌^◌, length, option_map};
 ghost use Rattle.ix_extension.specs.Extensions.{view_extension};
 ghost use Rattle.ix_extension.specs.WellFormed.{IsWellFormed};
-ghost use Rattle.rv_effect.specs.WordEffects.{AreWide};
+ghost use Rattle.rv_seq.specs.WordEffects.{AreWide};
 ghost use Rattle.ix_eval.specs.Scratches.{IsScratchOf};
 ghost use Rattle.rv_asks.specs.Asks.{IsAskingOf};
 ghost use Rattle.rv_core.specs.Guesses.{guess_of};
@@ -15,10 +15,9 @@ use ix_eval::{Inputs, Scratch};
 use ix_plan::Design;
 use rv_asks::{Asking, asks_of};
 use rv_core::{Blocks, Plain, Predictor};
-use rv_effect::{blocks_effect, decode_in};
 use rv_holds::{Beside, Token};
 use rv_memory::RandomAccess;
-use rv_seq::{TrapState, return_to};
+use rv_seq::{TrapState, blocks_effect, decode_in, return_to};
 use rv_trace::Cell;
 
 /// The token of a fetched word, which sees no operands yet.

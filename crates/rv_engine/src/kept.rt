@@ -4,7 +4,7 @@ ghost use Rattle.ix_extension.specs.WellFormed.{IsWellFormed};
 ghost use Rattle.rv_unit.specs.Numbering.{lasts_of};
 ghost use Rattle.rv_unit.specs.Timed.{AreUnits};
 ghost use Rattle.rv_engine.specs.Owing.{IsOwingOf};
-ghost use Rattle.rv_effect.specs.WordEffects.{AreWide};
+ghost use Rattle.rv_seq.specs.WordEffects.{AreWide};
 ghost use Rattle.rv_engine.specs.Settings.{setting, first_state, first_machine};
 ghost use Rattle.rv_engine.specs.Kept.{machine_of, IsFit};
 

@@ -9,7 +9,7 @@ ghost use Rattle.rv_lawful.specs.Future.{early_write, late_write, with_writes};
 use ix_bits::Bits;
 use rv_asks::Asks;
 use rv_holds::{Token, access_of};
-use rv_seq::{Commit, Slot, StepAnswer};
+use rv_seq::{Commit, Slot, StepAnswer, put_custom};
 use rv_trace::Hold;
 use rv_tried::shown;
 
@@ -49,6 +49,15 @@ fn is_held(slot: &Option<Token>) -> bool
     }
 }
 
+/// Frees a stage. A slot is large, and one that is free is left as it is.
+fn free(slot: &mut Option<Token>)
+    ensures { slot.new ≡ None }
+{
+    if slot.is_some() {
+        *slot = None;
+    }
+}
+
 /// Puts what goes on from the stage before into a stage.
 fn come_at(slots: &mut [Option<Token>], stage: usize)
     requires before { 0 < stage }
@@ -56,8 +65,8 @@ fn come_at(slots: &mut [Option<Token>], stage: usize)
     ensures { slots.new ≡ slice_set slots.old stage (going (get_or slots.old (stage - 1) None)) }
 {
     let before = stage - 1;
-    if is_held(&slots[before]) {
-        slots[stage] = None;
+    if slots[before].is_none() || is_held(&slots[before]) {
+        free(&mut slots[stage]);
     } else {
         slots[stage] = slots[before];
     }
@@ -83,7 +92,7 @@ fn leave(slot: &mut Option<Token>)
     if is_held(slot) {
         stay_in(slot);
     } else {
-        *slot = None;
+        free(slot);
     }
 }
 
@@ -106,35 +115,27 @@ pub fn last(slots: &[Option<Token>]) -> &Option<Token>
     &slots[slots.len() - 1]
 }
 
-/// What a token retires, with its serial, where it was tried and makes no stop.
-fn retired_by(token: &Token) -> Option<(u32, Commit)>
-    ensures { result ≡ with_serial token.now.cell.serial token.now.asks (specified_commit_of token.now) }
+/// Shows what a token retires, with its serial, where it was tried and makes no stop, and where a row shows nothing yet.
+fn show_retired_by(token: &Token, retired: &mut Option<(u32, Commit)>)
+    requires { retired.old ≡ None }
+    ensures { retired.new ≡ with_serial token.now.cell.serial token.now.asks (specified_commit_of token.now) }
 {
-    match &token.trial {
-        None => None,
-        Some(trial) => match &trial.answer {
-            StepAnswer::Stopped(_) => None,
-            StepAnswer::Done(commit) => Some((token.cell.serial, shown(&token.asks, commit))),
-        },
+    if let Some(trial) = &token.trial {
+        if let StepAnswer::Done(commit) = &trial.answer {
+            *retired = Some((token.cell.serial, shown(&token.asks, commit)));
+        }
     }
 }
 
-/// What the token of the last stage retires, where it goes out.
-pub fn retired_in(slot: &Option<Token>) -> Option<(u32, Commit)>
-    ensures { result ≡ retired_of (going slot.now) }
+/// Shows what the token of the last stage retires, where it goes out and a row shows nothing yet.
+pub fn show_retired(slot: &Option<Token>, retired: &mut Option<(u32, Commit)>)
+    requires { retired.old ≡ None }
+    ensures { retired.new ≡ retired_of (going slot.now) }
 {
-    match slot {
-        Some(token) if token.cell.hold.is_none() => retired_by(token),
-        _ => None,
-    }
-}
-
-/// Writes a custom register.
-fn put_register(register: &mut Bits, slot: &Slot<Bits>)
-    ensures { register.new ≡ with_slot register.old slot.now }
-{
-    if let Slot::Now(value) = slot {
-        *register = *value;
+    if let Some(token) = slot {
+        if token.cell.hold.is_none() {
+            show_retired_by(token, retired);
+        }
     }
 }
 
@@ -154,7 +155,7 @@ fn put_early_in(register: &mut Bits, is_pending: bool, block: &Option<Bits>, slo
     if is_pending {
         put_block(register, block);
     } else {
-        put_register(register, slot);
+        put_custom(register, slot);
     }
 }
 
@@ -163,7 +164,7 @@ fn put_late_in(register: &mut Bits, is_late: bool, is_own: bool, slot: &Slot<Bit
     ensures { register.new ≡ with_slot register.old (if is_late && is_own then slot.now else Absent) }
 {
     if is_late && is_own {
-        put_register(register, slot);
+        put_custom(register, slot);
     }
 }
 

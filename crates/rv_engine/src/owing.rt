@@ -1,15 +1,19 @@
-ghost use Rattle.std.specs.Prelude.{◌≡◌, ◌<◌, ◌≤◌, [], ◌++◌, length, IfOk, IfSome, vec_capacity};
+ghost use Rattle.std.specs.Option.{option_copied};
+ghost use Rattle.std.specs.Prelude.{◌≡◌, ◌<◌, ◌≤◌, [], ◌++◌, Some, length, ◌==◌, IfOk, IfSome, vec_capacity};
 ghost use Rattle.rv_unit.specs.Numbering.{lasts_of, is_decoupled as specified_is_decoupled};
 ghost use Rattle.rv_unit.specs.Entries.{is_frozen as specified_is_frozen};
 ghost use Rattle.rv_unit.specs.Timed.{AreUnits, CanEnter, room};
 ghost use Rattle.rv_engine.specs.Owing.{outstanding_of, paying, unpaid, oldest_serial, unit_hold as specified_unit_hold, unit_entered, owed_by_entering, outstanding_after};
+ghost use Rattle.rv_engine.specs.Rows.{going, entering_of};
 ghost use Rattle.rv_engine.specs.Places.{oldest_place, IsPayingPlace, without_place};
 
 use ix_bits::Memory;
 use ix_plan::{Design, Mode, Plan};
 use rv_asks::Asks;
+use rv_holds::Token;
+use rv_seq::StepAnswer;
 use rv_trace::Hold;
-use rv_tried::Spawned;
+use rv_tried::{Spawned, spawn_writes};
 use rv_unit::{Entry, Units, unit_laws};
 use std::alloc::Global;
 use std::marker::Model;
@@ -35,6 +39,7 @@ pub struct Owing {
 impl Model for Owing {
     ghost use Rattle.std.specs.Prelude.{vec_capacity};
     ghost use Rattle.rv_engine.specs.Owing.{Outstanding};
+    ghost use Rattle.rv_engine.specs.Rows.{going, entering_of};
     ghost use Rattle.rv_engine.specs.Places.{AreKept};
 
     ghost Value = { Outstanding };
@@ -118,24 +123,58 @@ fn take_at(owed: &mut Vec<Owed>, place: Option<usize>)
     }
 }
 
-/// Puts what enters, if anything, before all others, into reserved room.
-fn put_first(owed: &mut Vec<Owed>, enter: Option<(u8, Owed)>)
-    requires { length (owed_by_entering enter ++ owed.old.items) ≤ vec_capacity owed.old }
-    ensures items { owed.new.items ≡ owed_by_entering enter ++ owed.old.items }
+/// Puts what a token owes, if it has a unit and was tried, before all others, into reserved room.
+fn put_owed(owed: &mut Vec<Owed>, token: &Token)
+    requires { length (owed_by_entering (entering_of (Some token.now)) ++ owed.old.items) ≤ vec_capacity owed.old }
+    ensures items { owed.new.items ≡ owed_by_entering (entering_of (Some token.now)) ++ owed.old.items }
     ensures capacity { vec_capacity owed.new ≡ vec_capacity owed.old }
 {
-    if let Some((_, one)) = enter {
-        owed.insert(0, one).unwrap();
+    if token.asks.unit.is_some() {
+        if let Some(trial) = &token.trial {
+            if let StepAnswer::Done(commit) = &trial.answer {
+                let one = Owed {
+                    serial: token.cell.serial,
+                    asks: token.asks,
+                    writes: spawn_writes(&token.asks, &trial.own, commit),
+                };
+                owed.insert(0, one).unwrap();
+            }
+        }
     }
 }
 
-/// The unit and the serial of what enters, if anything.
-fn entered(enter: &Option<(u8, Owed)>) -> Option<(u8, u32)>
-    ensures { result ≡ unit_entered enter.now }
+/// The same of the token of the last stage, of which this is the slot, where it goes out.
+fn put_first(owed: &mut Vec<Owed>, slot: &Option<Token>)
+    requires { length (owed_by_entering (entering_of (going slot.now)) ++ owed.old.items) ≤ vec_capacity owed.old }
+    ensures items { owed.new.items ≡ owed_by_entering (entering_of (going slot.now)) ++ owed.old.items }
+    ensures capacity { vec_capacity owed.new ≡ vec_capacity owed.old }
 {
-    match enter {
-        None => None,
-        Some((unit, owed)) => Some((*unit, owed.serial)),
+    if let Some(token) = slot {
+        if token.cell.hold.is_none() {
+            put_owed(owed, token);
+        }
+    }
+}
+
+/// The unit that a token enters, with its serial, where it has one and was tried.
+fn entered_by(token: &Token) -> Option<(u8, u32)>
+    ensures { result ≡ unit_entered (entering_of (Some token.now)) }
+{
+    let unit = token.asks.unit?;
+    let trial = token.trial.as_ref()?;
+    match &trial.answer {
+        StepAnswer::Stopped(_) => None,
+        StepAnswer::Done(_) => Some((unit, token.cell.serial)),
+    }
+}
+
+/// The same of the token of the last stage, of which this is the slot, where it goes out.
+fn entered(slot: &Option<Token>) -> Option<(u8, u32)>
+    ensures { result ≡ unit_entered (entering_of (going slot.now)) }
+{
+    match slot {
+        Some(token) if token.cell.hold.is_none() => entered_by(token),
+        _ => None,
     }
 }
 
@@ -164,12 +203,12 @@ impl Owing {
     }
 
     /// What is written in this row: all targets of one `spawn` body together.
-    pub fn paying(&self) -> Option<Owed>
-        ensures { result ≡ paying self.now }
+    pub fn paying(&self) -> Option<&Owed>
+        ensures { option_copied result ≡ paying self.now }
     {
         match self.place() {
             None => None,
-            Some(at) => Some(self.owed[at]),
+            Some(at) => Some(&self.owed[at]),
         }
     }
 
@@ -205,15 +244,22 @@ impl Owing {
         self.owed.as_slice()
     }
 
-    /// One row: what is written leaves, and all others go on, with what enters. Takes no memory.
-    pub fn cycle(&mut self, enter: Option<(u8, Owed)>)
-        requires { CanEnter self.old.lasts self.old.entries (unit_entered enter) }
-        ensures { self.new ≡ outstanding_after self.old enter }
+    /// Whether nothing stands in units.
+    pub fn is_idle(&self) -> bool
+        ensures { result ≡ (length self.now.entries == 0) }
+    {
+        self.units.entries().is_empty()
+    }
+
+    /// One row: what is written leaves, and all others go on, with what the token of the last stage, of which this is the slot, enters a unit with. Takes no memory.
+    pub fn cycle(&mut self, slot: &Option<Token>)
+        requires { CanEnter self.old.lasts self.old.entries (unit_entered (entering_of (going slot.now))) }
+        ensures { self.new ≡ outstanding_after self.old (entering_of (going slot.now)) }
     {
         unit_laws();
         let place = self.place();
-        self.units.cycle(entered(&enter));
+        self.units.cycle(entered(slot));
         take_at(&mut self.owed, place);
-        put_first(&mut self.owed, enter);
+        put_first(&mut self.owed, slot);
     }
 }

@@ -13,8 +13,8 @@ use ix_eval::Inputs;
 use ix_plan::Design;
 use rv_asks::Asks;
 use rv_core::Shape;
-use rv_effect::{rs1_of, rs2_of};
 use rv_holds::{Beside, Token, access_of, is_last, operand_of};
+use rv_seq::{rs1_of, rs2_of};
 use rv_waits::Waits;
 
 /// For how many rows the next access still waits.

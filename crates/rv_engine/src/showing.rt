@@ -1,4 +1,4 @@
-ghost use Rattle.std.specs.Prelude.{◌≡◌, ◌-◌, ◌<◌, ◌≤◌, suc, None, length, drop, get_or, IfSome};
+ghost use Rattle.std.specs.Prelude.{◌≡◌, ◌-◌, ◌<◌, ◌≤◌, suc, true, None, length, drop, get_or, IfSome};
 ghost use Rattle.ix_eval.specs.Tables.{table};
 ghost use Rattle.rv_lawful.specs.Settings.{is_tail as specified_is_tail};
 ghost use Rattle.rv_ports.specs.Drives.{own_number as specified_own_number};
@@ -12,11 +12,10 @@ use crate::owing::Owing;
 use ix_bits::Bits;
 use ix_eval::Access;
 use rv_core::Shape;
-use rv_effect::{Decoded, peek, rs1_of, rs2_of};
 use rv_holds::{Token, Turn, does_stop, is_last, operand_of, struck};
 use rv_memory::RandomAccess;
 use rv_ports::{Seat, Shown};
-use rv_seq::Arch;
+use rv_seq::{Arch, Decoded, peek, rs1_of, rs2_of};
 use rv_trace::Hold;
 
 /// The number of the extension's instruction; one of the base set has none.
@@ -191,13 +190,37 @@ fn frozen_in(owing: &Owing) -> [bool; 64]
     ensures { result ≡ table (is_frozen owing.now.lasts owing.now.entries) 64 }
 {
     let mut all = [false; 64];
+    if owing.is_idle() {
+        return all;
+    }
     for unit in 0..64u8 {
         all[usize::from(unit)] = owing.is_frozen(unit);
     }
     all
 }
 
-/// What a row shows the modules before its writes, where this token turns the fetch.
+/// Shows the modules what a row has for them before its writes, where this token turns the fetch.
+fn show_all(
+    shape: Shape,
+    arch: &Arch,
+    future: &[Bits; 16],
+    owing: &Owing,
+    turn: Option<Turn>,
+    slots: &[Option<Token>],
+    shown: &mut Shown,
+)
+    requires few { length slots.now ≤ 5 }
+    requires inside { shape.mem < length slots.now }
+    requires turn { IfSome turn (λ turn. turn.stage < length slots.now) }
+    ensures { shown.new ≡ shown_with shape arch.now future.now owing.now (specified_struck turn) slots.now }
+{
+    shown.seats = seats_in(shape, &arch.x, struck(turn), slots);
+    shown.custom = *future;
+    shown.datum = datum_in(&arch.mem, &slots[usize::from(shape.mem)]);
+    shown.frozen = frozen_in(owing);
+}
+
+/// The same where modules are there to see it.
 pub fn show(
     shape: Shape,
     arch: &Arch,
@@ -205,19 +228,15 @@ pub fn show(
     owing: &Owing,
     turn: Option<Turn>,
     slots: &[Option<Token>],
-) -> Shown
+    shows: bool,
+    shown: &mut Shown,
+)
     requires few { length slots.now ≤ 5 }
     requires inside { shape.mem < length slots.now }
     requires turn { IfSome turn (λ turn. turn.stage < length slots.now) }
-    ensures { result ≡ shown_with shape arch.now future.now owing.now (specified_struck turn) slots.now }
+    ensures { shows ≡ true → shown.new ≡ shown_with shape arch.now future.now owing.now (specified_struck turn) slots.now }
 {
-    let seats = seats_in(shape, &arch.x, struck(turn), slots);
-    let custom = *future;
-    let frozen = frozen_in(owing);
-    Shown {
-        seats,
-        custom,
-        datum: datum_in(&arch.mem, &slots[usize::from(shape.mem)]),
-        frozen,
+    if shows {
+        show_all(shape, arch, future, owing, turn, slots, shown);
     }
 }

@@ -2,7 +2,7 @@ ghost use Rattle.std.specs.Prelude.{◌≡◌, ◌<◌, length, option_map, if�
 ghost use Rattle.ix_extension.specs.Extensions.{view_extension};
 ghost use Rattle.ix_extension.specs.WellFormed.{IsWellFormed};
 ghost use Rattle.ix_eval.specs.Scratches.{IsScratchOf};
-ghost use Rattle.rv_effect.specs.WordEffects.{AreWide};
+ghost use Rattle.rv_seq.specs.WordEffects.{AreWide};
 ghost use Rattle.rv_engine.specs.Rows.{tried_with, seeing, is_ripe as specified_is_ripe, trying, is_loading as specified_is_loading, with_load, loading};
 ghost use Rattle.rv_engine.specs.Kept.{IsFitting, IsFittingSlot, AreFitting};
 

@@ -8,8 +8,8 @@ use Rattle.ix_plan.specs.declared.design.Plan.{Plan}
 use Rattle.ix_plan.specs.declared.design.Design.{Design}
 use Rattle.ix_plan.specs.Units.{Slots, unit_in, first_units}
 use Rattle.ix_standing.specs.Standing.{Stands}
-use Rattle.rv_effect.specs.declared.decoded.Decoded.{Decoded}
-use Rattle.rv_effect.specs.Decoding.{decoded_in}
+use Rattle.rv_seq.specs.declared.decoded.Decoded.{Decoded}
+use Rattle.rv_seq.specs.Decoding.{decoded_in}
 use Rattle.rv_seq.specs.declared.arch.Arch.{Arch}
 use Rattle.rv_seq.specs.declared.answer.StepAnswer.TheVariants.{Done}
 use Rattle.rv_seq.specs.declared.commit.Commit.{Commit}

@@ -16,9 +16,9 @@ use Rattle.ix_standing.specs.Standing.{Stands}
 use Rattle.rv_asks.specs.declared.asks.Asks.{Asks}
 use Rattle.rv_asks.specs.Acts.{acts_of, spawns_custom}
 use Rattle.rv_asks.specs.Asks.{flags, plan_outline, block_acts, blank_in, asks_in}
-use Rattle.rv_effect.specs.declared.decoded.Decoded.{Decoded}
-use Rattle.rv_effect.specs.declared.decoded.Decoded.TheVariants as D
-use Rattle.rv_effect.specs.Decoding.{decoded_in}
+use Rattle.rv_seq.specs.declared.decoded.Decoded.{Decoded}
+use Rattle.rv_seq.specs.declared.decoded.Decoded.TheVariants as D
+use Rattle.rv_seq.specs.Decoding.{decoded_in}
 use Rattle.rv_holds.specs.Holds.{register_at}
 use Rattle.rv_lawful.specs.Outstanding.{has_target, is_register, x_target, custom_targets, targets_of, owed_targets}
 use Rattle.rv_lawful.specs.Settings.{Setting}

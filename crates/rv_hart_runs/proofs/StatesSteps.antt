@@ -4,8 +4,8 @@ use Rattle.ix_bits.specs.declared.number.Bits.{Bits}
 use Rattle.ix_extension.specs.Extensions.{ExtensionTree, view_extension}
 use Rattle.ix_plan.specs.declared.design.Design.{Design}
 use Rattle.ix_standing.specs.Standing.{Stands}
-use Rattle.rv_effect.specs.declared.decoded.Decoded.{Decoded}
-use Rattle.rv_effect.specs.Decoding.{decoded_in}
+use Rattle.rv_seq.specs.declared.decoded.Decoded.{Decoded}
+use Rattle.rv_seq.specs.Decoding.{decoded_in}
 use Rattle.rv_lawful.specs.Settings.{state_trial, run_trial}
 use Rattle.rv_lawful.specs.Sight.{asked, KeepsLaw, IsKept}
 use Rattle.rv_seq.specs.declared.arch.Arch.{Arch}

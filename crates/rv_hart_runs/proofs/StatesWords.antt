@@ -26,11 +26,11 @@ use Rattle.rv_base.specs.declared.operation.Size.TheVariants as S
 use Rattle.rv_base.specs.Operations.{bytes_in, operation_at}
 use Rattle.rv_base.specs.Computing.{computed, sum, bit_of, is_taken}
 use Rattle.rv_base.specs.Effects.{immediate, result_as, target_as, load_as, loaded_as}
-use Rattle.rv_effect.specs.BaseEffects.{base_rd}
-use Rattle.rv_effect.specs.declared.decoded.Decoded.{Decoded}
-use Rattle.rv_effect.specs.declared.decoded.Decoded.TheVariants as D
-use Rattle.rv_effect.specs.Decoding.{decoded_in}
-use Rattle.rv_effect.specs.WordEffects.{effect_of, over, blocks_effect, AreWide}
+use Rattle.rv_seq.specs.BaseEffects.{base_rd}
+use Rattle.rv_seq.specs.declared.decoded.Decoded.{Decoded}
+use Rattle.rv_seq.specs.declared.decoded.Decoded.TheVariants as D
+use Rattle.rv_seq.specs.Decoding.{decoded_in}
+use Rattle.rv_seq.specs.WordEffects.{effect_of, over, blocks_effect, AreWide}
 use Rattle.rv_seq.specs.declared.arch.Arch.{Arch}
 use Rattle.rv_seq.specs.declared.arch.TrapState.{TrapState}
 use Rattle.rv_seq.specs.declared.answer.StepAnswer.TheVariants.{Done}

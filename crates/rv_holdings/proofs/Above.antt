@@ -8,9 +8,9 @@ use Rattle.rv_trace.specs.declared.row.Cell.{Cell}
 use Rattle.rv_trace.specs.declared.row.Row.{Row}
 use Rattle.rv_trace.specs.Trace.{has_serial}
 use Rattle.rv_lawful.specs.Settings.{Setting, Stands}
-use Rattle.rv_known.specs.declared.known.Known.{Known}
-use Rattle.rv_known.specs.declared.known.Owed.{Owed}
-use Rattle.rv_known.specs.Known.{IsKnown}
+use Rattle.rv_rows.specs.declared.known.Known.{Known}
+use Rattle.rv_rows.specs.declared.known.Owed.{Owed}
+use Rattle.rv_rows.specs.Known.{IsKnown}
 use Rattle.rv_holdings.specs.declared.want.Want.{Want}
 use Rattle.rv_holdings.specs.Expected.{Older, owed_by, instruction_in, instruction_at, instructions_above, meets, oldest}
 

@@ -12,10 +12,10 @@ use Rattle.rv_waits.specs.Waits.{wait_at}
 use Rattle.rv_lawful.specs.Settings.{Setting, Stands, accesses_before}
 use Rattle.rv_lawful.specs.Outstanding.{serial_written}
 use Rattle.rv_lawful.specs.LawfulTrace.{WaitsForMemory, WaitsForStore, WaitsForModule, WaitsForPort}
-use Rattle.rv_kinds.specs.Kinds.{upper, OwnMarked, WaitsForMarked}
-use Rattle.rv_kinds.proofs.Upper.{stands_up, stands_down, flushed_up, place_up}
-use Rattle.rv_known.specs.declared.known.Known.{Known}
-use Rattle.rv_known.specs.declared.known.Owed.{Owed}
+use Rattle.rv_rows.specs.Kinds.{upper, OwnMarked, WaitsForMarked}
+use Rattle.rv_rows.proofs.Upper.{stands_up, stands_down, flushed_up, place_up}
+use Rattle.rv_rows.specs.declared.known.Known.{Known}
+use Rattle.rv_rows.specs.declared.known.Owed.{Owed}
 use Rattle.rv_holdings.specs.declared.want.Want.TheVariants as want
 use Rattle.rv_holdings.specs.Expected.{Older, instructions_above, oldest, memory_hold, store_ahead, store_hold, tail_hold, unit_full, unit_hold, port, port_hold}
 use Rattle.rv_holdings.proofs.Above.{Meets, OldestIs, oldest_is, is_listed, is_below, below_is}

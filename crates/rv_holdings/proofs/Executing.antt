@@ -16,11 +16,11 @@ use Rattle.rv_lawful.specs.Settings.{Setting, Stands}
 use Rattle.rv_lawful.specs.Entering.{is_interrupted, is_line_pending}
 use Rattle.rv_lawful.specs.Outstanding.{is_serial, serial_written, is_written}
 use Rattle.rv_lawful.specs.LawfulTrace.{IsWordOf, IsDueToStop, IsUnwritten, WaitsForCustom, WaitsForJump, WaitsToDrain}
-use Rattle.rv_kinds.specs.Kinds.{upper, OwnMarked}
-use Rattle.rv_kinds.proofs.Upper.{flushed_up, retired_up, written_up, place_up}
-use Rattle.rv_known.specs.declared.known.Known.{Known}
-use Rattle.rv_known.specs.declared.known.Owed.{Owed}
-use Rattle.rv_known.specs.Known.{stop_in, owed_of}
+use Rattle.rv_rows.specs.Kinds.{upper, OwnMarked}
+use Rattle.rv_rows.proofs.Upper.{flushed_up, retired_up, written_up, place_up}
+use Rattle.rv_rows.specs.declared.known.Known.{Known}
+use Rattle.rv_rows.specs.declared.known.Owed.{Owed}
+use Rattle.rv_rows.specs.Known.{stop_in, owed_of}
 use Rattle.rv_holdings.specs.declared.want.Want.TheVariants as want
 use Rattle.rv_holdings.specs.Expected.{Older, instructions_above, is_left, oldest, first_owed, first_from, custom, custom_at, custom_hold, custom_count, late, late_hold, drain, drain_hold}
 use Rattle.rv_holdings.proofs.Above.{Meets, OldestIs, oldest_is, both, and_both}

@@ -12,11 +12,11 @@ use Rattle.rv_lawful.specs.Settings.{Setting, stages_of, Stands}
 use Rattle.rv_lawful.specs.Outstanding.{Decoupled, outstanding}
 use Rattle.rv_lawful.specs.LawfulTrace.{IsWordOf}
 use Rattle.rv_rows.specs.Facts.{IsPlain, AboveFacts}
-use Rattle.rv_kinds.specs.Kinds.{upper}
-use Rattle.rv_kinds.proofs.Upper.{stands_up, stands_down, flushed_up}
-use Rattle.rv_known.specs.declared.known.Known.{Known}
-use Rattle.rv_known.specs.declared.known.Owed.{Owed}
-use Rattle.rv_known.specs.Known.{IsKnown, AreOwed, IsOwing, owed_of}
+use Rattle.rv_rows.specs.Kinds.{upper}
+use Rattle.rv_rows.proofs.Upper.{stands_up, stands_down, flushed_up}
+use Rattle.rv_rows.specs.declared.known.Known.{Known}
+use Rattle.rv_rows.specs.declared.known.Owed.{Owed}
+use Rattle.rv_rows.specs.Known.{IsKnown, AreOwed, IsOwing, owed_of}
 use Rattle.rv_holdings.specs.Expected.{NamesRegisters, Older, instructions_above}
 use Rattle.rv_holdings.proofs.Above.{get_of, IsOf, listed_is, is_listed, Descends}
 use Rattle.rv_holdings.proofs.Past.{lower_serial, unflushed_more, unflushed_both}

@@ -13,7 +13,7 @@ use Rattle.rv_trace.specs.RowParts.{ComesFirst, target_number}
 use Rattle.rv_lawful.specs.Settings.{Setting}
 use Rattle.rv_lawful.specs.Outstanding.{touches}
 use Rattle.rv_lawful.specs.LawfulTrace.{WaitsForWrite}
-use Rattle.rv_kinds.specs.Kinds.{upper, OwnMarked}
+use Rattle.rv_rows.specs.Kinds.{upper, OwnMarked}
 use Rattle.rv_holdings.specs.Expected.{NamesRegisters, register_at}
 use Rattle.rv_holdings.proofs.Least.{FirstIs}
 use Rattle.rv_holdings.proofs.Ordering.{board_kind, FirstIn, one_kind}

@@ -9,7 +9,7 @@ use Rattle.rv_trace.specs.Trace.{has_serial, is_flushed, retires, is_retired, pl
 use Rattle.rv_lawful.specs.Settings.{Setting, stages_of}
 use Rattle.rv_lawful.specs.LawfulTrace.{new_cell, Lawful}
 use Rattle.rv_rows.specs.Facts.{IsPlain, AreGoingOn, cells_in, above, RowFacts}
-use Rattle.rv_kinds.proofs.Moving.{above_of}
+use Rattle.rv_rows.proofs.Moving.{above_of}
 use Rattle.rv_holdings.proofs.Tests.{same_number}
 
 place_step : (rows : List Row) (s : ℕ) → place rows (suc s) ≡ (if is_flushed rows s then place rows s else suc (place rows s))

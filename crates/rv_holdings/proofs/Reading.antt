@@ -16,11 +16,11 @@ use Rattle.rv_trace.specs.RowParts.{ComesFirst}
 use Rattle.rv_lawful.specs.Settings.{Setting, Stands}
 use Rattle.rv_lawful.specs.Outstanding.{has_target, touches, is_written}
 use Rattle.rv_lawful.specs.LawfulTrace.{IsWordOf, reads_of, WaitsForOperand, WaitsForWrite}
-use Rattle.rv_kinds.specs.Kinds.{upper, OwnMarked}
-use Rattle.rv_kinds.proofs.Upper.{stands_up, stands_down, flushed_up}
-use Rattle.rv_known.specs.declared.known.Known.{Known}
-use Rattle.rv_known.specs.declared.known.Owed.{Owed}
-use Rattle.rv_known.specs.Known.{owed_of}
+use Rattle.rv_rows.specs.Kinds.{upper, OwnMarked}
+use Rattle.rv_rows.proofs.Upper.{stands_up, stands_down, flushed_up}
+use Rattle.rv_rows.specs.declared.known.Known.{Known}
+use Rattle.rv_rows.specs.declared.known.Owed.{Owed}
+use Rattle.rv_rows.specs.Known.{owed_of}
 use Rattle.rv_holdings.specs.declared.want.Want.TheVariants as want
 use Rattle.rv_holdings.specs.Expected.{Older, instructions_above, oldest, first_owed, operand, waits_for, operand_hold, register_at, spawner, board, board_at, board_hold, first_from, register_count}
 use Rattle.rv_holdings.proofs.Above.{Meets, OldestIs, oldest_is, both, and_both, not_below, no_less}

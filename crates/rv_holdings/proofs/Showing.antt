@@ -14,7 +14,7 @@ use Rattle.rv_trace.specs.RowParts.{kind_of, register_of, serial_of, target_numb
 use Rattle.rv_lawful.specs.Settings.{Setting, Stands}
 use Rattle.rv_lawful.specs.Outstanding.{has_target}
 use Rattle.rv_rows.specs.Facts.{IsPlain}
-use Rattle.rv_kinds.specs.Kinds.{is_of_cell, IsStopped, OwnMarked, BehindMarked, TrueMarked, ShowsMarked}
+use Rattle.rv_rows.specs.Kinds.{is_of_cell, IsStopped, OwnMarked, BehindMarked, TrueMarked, ShowsMarked}
 use Rattle.rv_holdings.specs.Expected.{NamesRegisters, behind_hold, does_stop, blocks, is_blocked}
 use Rattle.rv_holdings.proofs.Above.{get_of, of_get, is_below, below_is, both, and_both}
 use Rattle.rv_holdings.proofs.Ordering.{operand_kind, board_kind, custom_kind, late_kind, trap_kind, drain_kind, wait_kind, store_kind, module_kind, unit_kind, port_kind, behind_kind, FirstIn}

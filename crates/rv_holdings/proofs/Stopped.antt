@@ -18,12 +18,12 @@ use Rattle.rv_lawful.specs.Outstanding.{has_target, touches, is_serial, serial_w
 use Rattle.rv_lawful.specs.LawfulTrace.{IsWordOf, reads_of, WaitsForOperand, WaitsForWrite, Lawful}
 use Rattle.rv_rows.specs.Facts.{IsPlain, RowFacts}
 use Rattle.rv_rows.proofs.Coming.{same_serial, same_word}
-use Rattle.rv_kinds.specs.Kinds.{is_of_cell, upper, MovesRightly, OwnMarked, HoldsRightly}
-use Rattle.rv_kinds.proofs.Own.{own_above}
-use Rattle.rv_kinds.proofs.Upper.{stands_up, stands_down, flushed_up, retired_up, written_up}
-use Rattle.rv_kinds.proofs.Behind.{IsBehindCell, IsBehindFetch, IsBehind, behind}
-use Rattle.rv_known.specs.declared.known.Owed.{Owed}
-use Rattle.rv_known.specs.Known.{IsOwing}
+use Rattle.rv_rows.specs.Kinds.{is_of_cell, upper, MovesRightly, OwnMarked, HoldsRightly}
+use Rattle.rv_rows.proofs.Own.{own_above}
+use Rattle.rv_rows.proofs.Upper.{stands_up, stands_down, flushed_up, retired_up, written_up}
+use Rattle.rv_rows.proofs.Behind.{IsBehindCell, IsBehindFetch, IsBehind, behind}
+use Rattle.rv_rows.specs.declared.known.Owed.{Owed}
+use Rattle.rv_rows.specs.Known.{IsOwing}
 use Rattle.rv_holdings.specs.Expected.{NamesRegisters, IsStopper, AsksAtRead, register_at, board, board_at, first_from, is_withheld, operand_behind, board_behind, own_behind, does_stop, AreRightBehind}
 use Rattle.rv_holdings.proofs.Above.{get_of, of_get, no_less, not_below, is_below, below_is, both, and_both}
 use Rattle.rv_holdings.proofs.FirstFrom.{registers}

@@ -12,10 +12,10 @@ use Rattle.rv_trace.specs.Trace.{newest}
 use Rattle.rv_trace.specs.RowParts.{names_of}
 use Rattle.rv_lawful.specs.Settings.{Setting, stages_of, Stands}
 use Rattle.rv_rows.specs.Facts.{IsPlain, AreGoingOn, MoveAbove, MovesAbove, RowFacts}
-use Rattle.rv_kinds.specs.Kinds.{is_of_cell, GoesOnAs, MovesRightly, OwnMarked, TrueMarked, ShowsMarked, HoldsRightly}
-use Rattle.rv_known.specs.declared.known.Known.{Known}
-use Rattle.rv_known.specs.declared.known.Owed.{Owed}
-use Rattle.rv_known.specs.Known.{IsKnown, IsHeld, AreOwed, IsOwing}
+use Rattle.rv_rows.specs.Kinds.{is_of_cell, GoesOnAs, MovesRightly, OwnMarked, TrueMarked, ShowsMarked, HoldsRightly}
+use Rattle.rv_rows.specs.declared.known.Known.{Known}
+use Rattle.rv_rows.specs.declared.known.Owed.{Owed}
+use Rattle.rv_rows.specs.Known.{IsKnown, IsHeld, AreOwed, IsOwing}
 use Rattle.rv_holdings.specs.Expected.{NamesRegisters, Older, instructions_above, operand_hold, board_hold, custom_hold, late_hold, drain_hold, memory_hold, store_hold, tail_hold, unit_hold, port_hold, own_hold, own_at, does_stop, expected, AreRight}
 use Rattle.rv_holdings.proofs.Above.{get_of, of_get, get_plain, both, and_both}
 use Rattle.rv_holdings.proofs.Past.{past}

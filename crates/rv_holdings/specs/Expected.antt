@@ -14,9 +14,9 @@ use Rattle.rv_trace.specs.Trace.{has_serial, retires, newest}
 use Rattle.rv_lawful.specs.Settings.{Setting, Stands}
 use Rattle.rv_lawful.specs.LawfulTrace.{reads_of}
 use Rattle.rv_lawful.specs.Outstanding.{is_register, has_target, touches, is_serial, serial_written}
-use Rattle.rv_kinds.specs.Kinds.{is_of_cell}
-use Rattle.rv_known.specs.declared.known.Known.{Known}
-use Rattle.rv_known.specs.declared.known.Owed.{Owed}
+use Rattle.rv_rows.specs.Kinds.{is_of_cell}
+use Rattle.rv_rows.specs.declared.known.Known.{Known}
+use Rattle.rv_rows.specs.declared.known.Owed.{Owed}
 use Rattle.rv_holdings.specs.declared.want.Want.{Want}
 use Rattle.rv_holdings.specs.declared.want.Want.TheVariants as want
 

@@ -5,8 +5,8 @@ ghost use Rattle.rv_trace.specs.Trace.{newest};
 ghost use Rattle.rv_lawful.specs.Settings.{Setting};
 ghost use Rattle.rv_lawful.specs.LawfulTrace.{Lawful, reads_of};
 ghost use Rattle.rv_rows.specs.Facts.{IsPlain};
-ghost use Rattle.rv_kinds.specs.Kinds.{MovesRightly, HoldsRightly};
-ghost use Rattle.rv_known.specs.Known.{IsOwing};
+ghost use Rattle.rv_rows.specs.Kinds.{MovesRightly, HoldsRightly};
+ghost use Rattle.rv_rows.specs.Known.{IsOwing};
 ghost use Rattle.rv_holdings.specs.Expected.{NamesRegisters, IsStopper, AsksAtRead, is_withheld as specified_is_withheld, operand_behind, own_behind as specified_own_behind, expected_behind, IsRightBehind, AreRightBehind};
 
 use crate::expected::least_board;
@@ -14,8 +14,7 @@ use crate::judging::{behind, is_same, stops};
 use crate::older::is_among;
 use rv_asks::Asks;
 use rv_core::Shape;
-use rv_known::Owed;
-use rv_rows::row_facts;
+use rv_rows::{Owed, row_facts};
 use rv_trace::{Cell, Hold, Row};
 
 fn cell_at(row: &Row, stage: usize) -> Option<Cell>

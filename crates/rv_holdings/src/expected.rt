@@ -6,7 +6,7 @@ use crate::search::{first_owed, oldest};
 use crate::want::Want;
 use rv_asks::Asks;
 use rv_core::Shape;
-use rv_known::{Known, Owed};
+use rv_rows::{Known, Owed};
 use rv_trace::{Hold, Row};
 
 fn waited_for(shape: Shape, row: &Row, r: u8, older: &[Option<Owed>]) -> Option<Hold>

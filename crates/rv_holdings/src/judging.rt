@@ -2,16 +2,15 @@ ghost use Rattle.std.specs.Prelude.{◌≡◌, ◌<◌, ℕ, List, None, true, i
 ghost use Rattle.rv_trace.specs.declared.row.Row.{Row};
 ghost use Rattle.rv_lawful.specs.Settings.{Setting};
 ghost use Rattle.rv_rows.specs.Facts.{IsPlain, AreGoingOn};
-ghost use Rattle.rv_kinds.specs.Kinds.{MovesRightly, HoldsRightly, is_of_cell as specified_is_of_cell};
-ghost use Rattle.rv_known.specs.Known.{IsKnown, IsHeld, AreOwed, IsOwing};
+ghost use Rattle.rv_rows.specs.Kinds.{MovesRightly, HoldsRightly, is_of_cell as specified_is_of_cell};
+ghost use Rattle.rv_rows.specs.Known.{IsKnown, IsHeld, AreOwed, IsOwing};
 ghost use Rattle.rv_holdings.specs.Expected.{NamesRegisters, does_stop, blocks as specified_blocks, is_blocked as specified_is_blocked, behind_hold, own_hold as specified_own_hold, own_at, instructions_above, expected as specified_expected, AsExpected, IsRightAt, AreRight};
 
 use crate::expected::own_hold;
 use crate::older::{all_above, is_among};
 use rv_asks::Asks;
 use rv_core::Shape;
-use rv_known::{Known, Owed};
-use rv_rows::row_facts;
+use rv_rows::{Known, Owed, row_facts};
 use rv_seq::Stop;
 use rv_trace::{Cell, Hold, Row};
 

@@ -4,7 +4,7 @@ ghost use Rattle.rv_holdings.specs.Expected.{owed_by, instruction_in, instructio
 
 use rv_asks::Asks;
 use rv_core::Shape;
-use rv_known::{Known, Owed};
+use rv_rows::{Known, Owed};
 use rv_trace::{Cell, Row};
 
 /// Whether a serial is flushed in the row.

@@ -7,7 +7,7 @@ use crate::board::does_spawn;
 use crate::older::is_among;
 use crate::want::Want;
 use rv_core::Shape;
-use rv_known::Owed;
+use rv_rows::Owed;
 use rv_trace::Row;
 
 /// Whether the row retires this serial.

@@ -3,8 +3,7 @@ ghost use Rattle.rv_holds.specs.Tokens.{stop_of as specified_stop_of, commit_of 
 
 use ix_eval::Inputs;
 use rv_asks::Asks;
-use rv_effect::Decoded;
-use rv_seq::{Commit, StepAnswer, Stop};
+use rv_seq::{Commit, Decoded, StepAnswer, Stop};
 use rv_trace::{Cell, Hold};
 use rv_tried::Trial;
 

@@ -10,9 +10,9 @@ use Rattle.ix_graph.specs.declared.kind.Kind.TheVariants.{WrCustReg}
 use Rattle.ix_plan.specs.declared.design.Plan.{Plan}
 use Rattle.ix_plan.specs.declared.design.Design.{Design}
 use Rattle.rv_core.specs.declared.Shape.{Shape}
-use Rattle.rv_effect.specs.declared.decoded.Decoded.{Decoded}
-use Rattle.rv_effect.specs.declared.decoded.Decoded.TheVariants as D
-use Rattle.rv_effect.specs.Decoding.{decoded_in}
+use Rattle.rv_seq.specs.declared.decoded.Decoded.{Decoded}
+use Rattle.rv_seq.specs.declared.decoded.Decoded.TheVariants as D
+use Rattle.rv_seq.specs.Decoding.{decoded_in}
 use Rattle.rv_asks.specs.declared.asks.Act.{Act}
 use Rattle.rv_asks.specs.declared.asks.Outline.{Outline}
 use Rattle.rv_asks.specs.Acts as acts

@@ -5,7 +5,7 @@ use Rattle.ix_bits.specs.declared.number.Bits.{Bits}
 use Rattle.ix_eval.specs.Evaluated.{type_of_custom}
 use Rattle.ix_eval.proofs.Tables.{table_length, table_at}
 use Rattle.rv_asks.specs.declared.asks.Asks.{Asks}
-use Rattle.rv_effect.specs.WordEffects.{AreWide}
+use Rattle.rv_seq.specs.WordEffects.{AreWide}
 use Rattle.rv_seq.specs.declared.commit.Slot.{Slot}
 use Rattle.rv_seq.specs.declared.commit.Slot.TheVariants.{Absent, Now, Later}
 use Rattle.rv_seq.specs.Commits.{with_slot}

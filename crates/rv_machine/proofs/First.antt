@@ -1,7 +1,7 @@
 -- Before the first row the machine is at the start of the run.
 use Rattle.rv_machine.proofs.Nearing.{pass_low}
 use Rattle.rv_machine.proofs.Entered.{first_holds}
-use Rattle.rv_effect.specs.WordEffects.{AreWide}
+use Rattle.rv_seq.specs.WordEffects.{AreWide}
 use Rattle.ix_extension.specs.Extensions.{ExtensionTree}
 use Rattle.rv_seq.specs.declared.arch.Arch.{Arch}
 use Rattle.rv_lawful.specs.Entering.{places, pending, is_line_pending}

@@ -17,7 +17,7 @@ use Rattle.rv_machine.proofs.Settling.{seen_rest}
 use Rattle.rv_machine.proofs.Past.{slot_of, drop_advanced, leaving_drop}
 use Rattle.std.proofs.Common.{◌≡◌, ℕ, ◌+◌, ◌≤◌, List, ◌∷◌, drop, length, Some, None, sym, ap, ◌∙◌, arith, Option, Bool, true, false, zero, suc, [], ◌<◌, subst, refl, inl, inr}
 use Rattle.std.specs.Prelude.{nat_lt, is_some, is_none, not, ◌&&◌, ◌||◌, if◌then◌else◌, slice_get}
-use Rattle.rv_effect.specs.WordEffects.{AreWide}
+use Rattle.rv_seq.specs.WordEffects.{AreWide}
 use Rattle.rv_trace.specs.declared.row.Row.{Row}
 use Rattle.rv_trace.specs.Trace.{place, rows_without, retirements, has_serial}
 use Rattle.rv_waits.specs.Waits.{greatest}

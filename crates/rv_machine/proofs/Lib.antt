@@ -92,3 +92,35 @@ pub mod Alike
 pub mod Over
 pub mod Forwarding
 pub mod Passing
+mod InputsOver
+mod ReadsInput
+mod ReadsPlan
+mod ReadsAsked
+mod ReadsSeat
+mod ReadsClear
+mod ReadsStays
+mod ReadsUnit
+mod ReadsNow
+mod ReadsLoad
+mod ReadsKinds
+mod ReadsInputs
+mod ReadsLaws
+mod ReadsTerms
+mod ReadsRoots
+mod ReadsBlocks
+mod ReadsGraphs
+mod LivesInputs
+mod LivesFrame
+mod LivesEnables
+mod LivesRows
+mod LivesLife
+mod LivesShown
+mod LivesTails
+mod LivesCells
+mod LivesUnits
+mod LivesBehaviours
+mod LivesDesign
+mod LivesLaw
+mod LivesOutputs
+mod LivesPromise
+mod LivesTold

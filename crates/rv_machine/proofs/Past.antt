@@ -29,7 +29,7 @@ use Rattle.rv_machine.proofs.Numbers.{custom_at}
 use Rattle.rv_machine.proofs.Telling.{placed_rest}
 use Rattle.rv_machine.proofs.Retiring as R
 use Rattle.rv_seq.specs.States.{zero_bit}
-use Rattle.rv_effect.specs.WordEffects.{AreWide}
+use Rattle.rv_seq.specs.WordEffects.{AreWide}
 use Rattle.rv_engine.specs.Owing.{unpaid_among}
 use Rattle.rv_unit.specs.Numbering.{lasts_of}
 use Rattle.rv_lawful.specs.Outstanding.{has_target, touches}

@@ -6,9 +6,9 @@ use Rattle.ix_tree.specs.TypedTrees.{TypedTextTree}
 use Rattle.ix_extension.specs.Extensions.{ExtensionTree}
 use Rattle.ix_extension.specs.WellFormed.{IsOf}
 use Rattle.ix_eval.specs.declared.effect.Effect.{Effect}
-use Rattle.rv_effect.specs.declared.decoded.Decoded.{Decoded}
-use Rattle.rv_effect.specs.Decoding.{decoded_in}
-use Rattle.rv_effect.specs.WordEffects.{over, blocks_effect, AreWide}
+use Rattle.rv_seq.specs.declared.decoded.Decoded.{Decoded}
+use Rattle.rv_seq.specs.Decoding.{decoded_in}
+use Rattle.rv_seq.specs.WordEffects.{over, blocks_effect, AreWide}
 use Rattle.rv_seq.specs.declared.arch.Arch.{Arch}
 use Rattle.rv_seq.specs.declared.answer.StepAnswer.TheVariants.{Done}
 use Rattle.rv_seq.specs.declared.commit.Stop.{Stop}

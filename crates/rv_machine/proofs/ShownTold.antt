@@ -9,7 +9,7 @@ use Rattle.ix_eval.specs.Tables.{table}
 use Rattle.ix_eval.proofs.Tables.{table_length, table_at, table_is}
 use Rattle.ix_plan.specs.Units.{Slots as UnitSlots, unit_written, frozen_with}
 use Rattle.rv_isa.specs.Fields.{rs1_of, rs2_of}
-use Rattle.rv_effect.specs.Decoding.{decoded_in}
+use Rattle.rv_seq.specs.Decoding.{decoded_in}
 use Rattle.rv_seq.specs.declared.arch.Arch.{Arch}
 use Rattle.rv_seq.specs.declared.commit.Stop.{Stop}
 use Rattle.rv_seq.specs.declared.commit.Stop.TheVariants.{Fetch}

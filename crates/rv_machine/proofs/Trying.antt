@@ -6,8 +6,8 @@ use Rattle.ix_bits.specs.declared.number.Bits.{Bits}
 use Rattle.ix_mean.specs.declared.evaluate.State.{State}
 use Rattle.rv_core.specs.declared.Shape.{Shape}
 use Rattle.rv_isa.specs.Fields.{rs1_of, rs2_of}
-use Rattle.rv_effect.specs.Decoding.{decoded_in}
-use Rattle.rv_effect.specs.WordEffects.{AreWide}
+use Rattle.rv_seq.specs.Decoding.{decoded_in}
+use Rattle.rv_seq.specs.WordEffects.{AreWide}
 use Rattle.rv_trace.specs.declared.row.Hold.{Hold}
 use Rattle.rv_seq.specs.Steps.{word_at}
 use Rattle.rv_seq.specs.States.{zero_bit}
@@ -21,7 +21,7 @@ use Rattle.rv_tried.specs.Tried.{tried}
 use Rattle.rv_holds.specs.declared.token.Token.{Token}
 use Rattle.rv_holds.specs.Tokens.{Slots, or_else}
 use Rattle.rv_holds.specs.Holds.{oldest, is_late, writes_late, custom, waits_for_custom, first_from, custom_hold, late, late_hold, waiting_hold, register_count, spawner, least_from, register_at}
-use Rattle.rv_effect.specs.declared.decoded.Decoded.{Decoded}
+use Rattle.rv_seq.specs.declared.decoded.Decoded.{Decoded}
 use Rattle.rv_seq.specs.Interrupts.{return_to}
 use Rattle.rv_engine.specs.Settings.{Setting, shape_of, tree_of}
 use Rattle.rv_engine.specs.Rows.{tried_with, seeing, is_ripe, trying}

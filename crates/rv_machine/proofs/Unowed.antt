@@ -8,9 +8,9 @@ use Rattle.ix_plan.specs.declared.design.Target.TheVariants.{X}
 use Rattle.ix_plan.specs.declared.design.Target.TheVariants as target
 use Rattle.ix_extension.specs.Extensions.{view_extension}
 use Rattle.rv_isa.specs.Fields.{rd_of}
-use Rattle.rv_effect.specs.declared.decoded.Decoded.{Decoded}
-use Rattle.rv_effect.specs.declared.decoded.Decoded.TheVariants as D
-use Rattle.rv_effect.specs.Decoding.{decoded_in}
+use Rattle.rv_seq.specs.declared.decoded.Decoded.{Decoded}
+use Rattle.rv_seq.specs.declared.decoded.Decoded.TheVariants as D
+use Rattle.rv_seq.specs.Decoding.{decoded_in}
 use Rattle.rv_asks.specs.declared.asks.Asks.{Asks}
 use Rattle.rv_asks.specs.Asks.{some_so, blank_in, outlines_in, asks_in}
 use Rattle.rv_seq.specs.declared.arch.Arch.{Arch}

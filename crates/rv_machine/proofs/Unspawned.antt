@@ -5,10 +5,10 @@ use Rattle.ix_bits.specs.declared.number.Bits.{Bits}
 use Rattle.ix_eval.proofs.Tables.{table_length, table_is}
 use Rattle.ix_extension.specs.Extensions.{ExtensionTree}
 use Rattle.rv_asks.specs.declared.asks.Asks.{Asks}
-use Rattle.rv_effect.specs.declared.decoded.Decoded.{Decoded}
+use Rattle.rv_seq.specs.declared.decoded.Decoded.{Decoded}
 use Rattle.rv_seq.specs.declared.arch.Arch.{Arch}
 use Rattle.rv_seq.specs.declared.answer.StepAnswer.TheVariants.{Done}
-use Rattle.rv_effect.specs.WordEffects.{over, blocks_effect}
+use Rattle.rv_seq.specs.WordEffects.{over, blocks_effect}
 use Rattle.ix_eval.specs.declared.effect.Effect.{Effect}
 use Rattle.rv_seq.specs.States.{inputs_at}
 use Rattle.rv_seq.specs.declared.commit.Commit.{Commit}

@@ -8,3 +8,5 @@ pub mod Made
 pub mod Left
 pub mod LawfulText
 pub mod Promises
+pub mod Promise
+pub mod Lives

@@ -6,7 +6,7 @@ use Rattle.ix_extension.specs.Extensions.{ExtensionTree}
 use Rattle.rv_core.specs.declared.Shape.{Shape}
 use Rattle.rv_core.specs.Guesses.{guess_of}
 use Rattle.rv_isa.specs.Fields.{rs1_of, rs2_of}
-use Rattle.rv_effect.specs.Decoding.{decoded_in}
+use Rattle.rv_seq.specs.Decoding.{decoded_in}
 use Rattle.rv_seq.specs.declared.arch.Arch.{Arch}
 use Rattle.rv_seq.specs.declared.answer.StepAnswer.{StepAnswer}
 use Rattle.rv_seq.specs.declared.answer.StepAnswer.TheVariants.{Done, Stopped}
@@ -47,7 +47,7 @@ use Rattle.rv_machine.specs.UnitRank.{unit_rank}
 use Rattle.rv_sight.specs.InUnits.{AreInUnits}
 use Rattle.rv_lawful.specs.LawfulTrace.{fetch_address, next_serial, IsWordOf}
 use Rattle.rv_lawful.specs.Sight.{asked, HasWords, AreWords, IsEarly, EarlyLaw, ExactLaw, KeepsLaw, TailLaw, TimeLaw, JumpLaw}
-use Rattle.rv_effect.specs.WordEffects.{AreWide}
+use Rattle.rv_seq.specs.WordEffects.{AreWide}
 use Rattle.rv_sight.specs.Written.{WrittenLaw}
 
 -- where the run goes to the handler

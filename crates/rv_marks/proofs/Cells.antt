@@ -6,7 +6,7 @@ use Rattle.rv_trace.specs.declared.row.Cell.{Cell}
 use Rattle.rv_trace.specs.declared.row.Row.{Row}
 use Rattle.rv_trace.specs.Trace.{has_serial}
 use Rattle.rv_trace.specs.RowParts.{Name, name_of, stays, leaves, front}
-use Rattle.rv_kinds.specs.Kinds.{with_cell}
+use Rattle.rv_rows.specs.Kinds.{with_cell}
 use Rattle.rv_marks.specs.Marks.{same_name, cell_of, lacks}
 
 pub none_some : {A : Type 0} (x : A) → ◌≡◌ {A = Option A} None (Some x) → ⊥

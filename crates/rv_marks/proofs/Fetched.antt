@@ -8,9 +8,9 @@ use Rattle.rv_trace.specs.Trace.{newest}
 use Rattle.rv_trace.specs.RowParts.{Name, name_of, stays, front, fetched}
 use Rattle.rv_lawful.specs.Settings.{Setting, stages_of}
 use Rattle.rv_lawful.specs.LawfulTrace.{fetch_address, next_serial}
-use Rattle.rv_kinds.specs.Kinds.{FetchesRightly}
-use Rattle.rv_known.specs.declared.known.Known.{Known}
-use Rattle.rv_known.specs.Known.{IsReady}
+use Rattle.rv_rows.specs.Kinds.{FetchesRightly}
+use Rattle.rv_rows.specs.declared.known.Known.{Known}
+use Rattle.rv_rows.specs.Known.{IsReady}
 use Rattle.rv_marks.specs.Marks.{same_name, fetched_as, fetches_as, same_serial}
 use Rattle.rv_marks.proofs.Cells.{none_some, some_inside, true_false, same_name_tells}
 

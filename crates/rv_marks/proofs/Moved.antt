@@ -11,7 +11,7 @@ use Rattle.rv_trace.specs.RowParts.{Name, name_of, names_of, stays, leaves, fron
 use Rattle.rv_lawful.specs.Settings.{Setting, stages_of, Stands}
 use Rattle.rv_lawful.specs.LawfulTrace.{Retires}
 use Rattle.rv_rows.specs.Facts.{IsPlain, MoveAbove}
-use Rattle.rv_kinds.specs.Kinds.{is_of_cell, IsStopped, with_cell, kept_back, with_execute, GoesOnAs, DoesOne, MovesRightly}
+use Rattle.rv_rows.specs.Kinds.{is_of_cell, IsStopped, with_cell, kept_back, with_execute, GoesOnAs, DoesOne, MovesRightly}
 use Rattle.rv_marks.specs.Marks.{same_name, cell_of, cells_in, cell_at, in_stage, moved_into, moved_above, moved_with, moved_on, has_kept, lacks, lacks_moved, is_new, flushed_free, is_bare, stops_bare, retired_as, moves_as}
 use Rattle.rv_marks.proofs.Cells.{none_some, some_inside, true_false, at_stage, in_front, front_is, same_name_tells, same_stays, same_leaves, left, implied, is_itself, lacks_tells}
 

@@ -12,8 +12,8 @@ use Rattle.rv_rows.specs.Facts.{IsPlain, RowFacts}
 use Rattle.rv_rows.proofs.Coming.{same_serial}
 use Rattle.rv_rows.proofs.Tests.{not_true, number_same}
 use Rattle.rv_rows.proofs.Places.{place_same}
-use Rattle.rv_kinds.specs.Kinds.{MovesRightly, FetchesRightly, SettlesMarked, SucceedsRightly}
-use Rattle.rv_kinds.proofs.Behind.{IsBehindCell, IsBehindFetch, IsBehind, behind}
+use Rattle.rv_rows.specs.Kinds.{MovesRightly, FetchesRightly, SettlesMarked, SucceedsRightly}
+use Rattle.rv_rows.proofs.Behind.{IsBehindCell, IsBehindFetch, IsBehind, behind}
 use Rattle.rv_marks.specs.Marks.{no_marks, is_still}
 use Rattle.rv_marks.proofs.Cells.{none_some, true_false}
 

@@ -17,13 +17,13 @@ use Rattle.rv_lawful.specs.Entering.{IsGone}
 use Rattle.rv_lawful.specs.Outstanding.{outstanding}
 use Rattle.rv_lawful.specs.LawfulTrace.{Moves, new_cell, fetch_address, OwnHold, StopsRun, IsEmptyAfter, StopsRightly, WritesUnit, Lawful}
 use Rattle.rv_rows.specs.Facts.{IsPlain, AreGoingOn, AboveFacts, FirstFacts, RowFacts, MoveAbove, MovesAbove}
-use Rattle.rv_kinds.specs.Kinds.{is_of_cell, GoesOnAs, MovesRightly, FetchesRightly, SucceedsRightly, StopsInPlace}
-use Rattle.rv_kinds.specs.Laws.{AreEmptyUnits}
-use Rattle.rv_kinds.proofs.Moving.{moves_of}
-use Rattle.rv_kinds.proofs.Own.{own_up, own_down}
-use Rattle.rv_kinds.proofs.Fetching.{Flusher, none_flushed}
-use Rattle.rv_known.specs.declared.known.Known.{Known}
-use Rattle.rv_known.specs.Known.{stop_in, IsKnown, IsHeld}
+use Rattle.rv_rows.specs.Kinds.{is_of_cell, GoesOnAs, MovesRightly, FetchesRightly, SucceedsRightly, StopsInPlace}
+use Rattle.rv_rows.specs.Laws.{AreEmptyUnits}
+use Rattle.rv_rows.proofs.Moving.{moves_of}
+use Rattle.rv_rows.proofs.Own.{own_up, own_down}
+use Rattle.rv_rows.proofs.Fetching.{Flusher, none_flushed}
+use Rattle.rv_rows.specs.declared.known.Known.{Known}
+use Rattle.rv_rows.specs.Known.{stop_in, IsKnown, IsHeld}
 use Rattle.rv_marks.specs.Marks.{cell_of, cell_at}
 use Rattle.rv_marks.specs.Turns.{all_flushed}
 use Rattle.rv_marks.specs.Stops.{own_stop, last_gone, empty_after, fetch_stops, due_of, due_stop}

@@ -12,10 +12,10 @@ use Rattle.rv_trace.specs.RowParts.{Name, name_of, leaves}
 use Rattle.rv_lawful.specs.Settings.{Setting, stages_of, Stands}
 use Rattle.rv_lawful.specs.LawfulTrace.{IsDueToStop, IsSettlingStage, successor, IsNextYounger, HasNoYounger}
 use Rattle.rv_rows.specs.Facts.{IsPlain}
-use Rattle.rv_kinds.specs.Kinds.{is_of_cell, SettlesMarked, IsMarkedMismatch, SucceedsRightly}
-use Rattle.rv_kinds.proofs.Stopping.{same_cell}
-use Rattle.rv_known.specs.declared.known.Known.{Known}
-use Rattle.rv_known.specs.Known.{stop_in, IsKnown}
+use Rattle.rv_rows.specs.Kinds.{is_of_cell, SettlesMarked, IsMarkedMismatch, SucceedsRightly}
+use Rattle.rv_rows.proofs.Stopping.{same_cell}
+use Rattle.rv_rows.specs.declared.known.Known.{Known}
+use Rattle.rv_rows.specs.Known.{stop_in, IsKnown}
 use Rattle.rv_marks.specs.declared.succeeding.Turn.{Turn}
 use Rattle.rv_marks.specs.Marks.{cell_of, cell_at, lacks, same_serial}
 use Rattle.rv_marks.specs.Turns.{late_in, in_execute, in_last, turn_if, nearest_from, all_flushed, settled_right, turn_right, is_turned, struck, flushed_by, is_open, names_it, named_by, execute_turn, last_turn, succeeds_as}

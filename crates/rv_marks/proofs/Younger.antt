@@ -8,7 +8,7 @@ use Rattle.rv_trace.specs.declared.row.Row.{Row}
 use Rattle.rv_trace.specs.Trace.{has_serial}
 use Rattle.rv_lawful.specs.Settings.{Setting, stages_of}
 use Rattle.rv_lawful.specs.LawfulTrace.{IsNextYounger, HasNoYounger}
-use Rattle.rv_kinds.proofs.Stopping.{same_cell}
+use Rattle.rv_rows.proofs.Stopping.{same_cell}
 use Rattle.rv_marks.specs.Marks.{lacks}
 use Rattle.rv_marks.specs.Turns.{nearest_from, all_flushed}
 use Rattle.rv_marks.proofs.Cells.{none_some, some_inside, true_false, lacks_tells, is_itself}

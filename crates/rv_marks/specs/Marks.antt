@@ -7,7 +7,7 @@ use Rattle.rv_trace.specs.declared.row.Row.{Row}
 use Rattle.rv_trace.specs.Trace.{has_serial}
 use Rattle.rv_seq.specs.Steps.{word_at}
 use Rattle.rv_trace.specs.RowParts.{Name, name_of, stays, leaves, front, fetched}
-use Rattle.rv_kinds.specs.Kinds.{is_of_cell, with_cell, kept_back}
+use Rattle.rv_rows.specs.Kinds.{is_of_cell, with_cell, kept_back}
 
 -- Names and stages
 

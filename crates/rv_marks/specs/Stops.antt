@@ -10,8 +10,8 @@ use Rattle.rv_trace.specs.declared.row.Hold.{Hold}
 use Rattle.rv_trace.specs.Trace.{has_serial}
 use Rattle.rv_trace.specs.RowParts.{unless}
 use Rattle.rv_lawful.specs.Settings.{Setting, Stands}
-use Rattle.rv_kinds.specs.Kinds.{OwnMarked}
-use Rattle.rv_known.specs.declared.known.Known.{Known}
+use Rattle.rv_rows.specs.Kinds.{OwnMarked}
+use Rattle.rv_rows.specs.declared.known.Known.{Known}
 use Rattle.rv_marks.specs.Marks.{cells_in, cell_at}
 use Rattle.rv_marks.specs.Turns.{all_flushed}
 

@@ -6,8 +6,8 @@ use Rattle.rv_trace.specs.declared.row.Cell.{Cell}
 use Rattle.rv_trace.specs.declared.row.Row.{Row}
 use Rattle.rv_trace.specs.Trace.{has_serial}
 use Rattle.rv_trace.specs.RowParts.{leaves}
-use Rattle.rv_kinds.specs.Kinds.{is_of_cell}
-use Rattle.rv_known.specs.declared.known.Known.{Known}
+use Rattle.rv_rows.specs.Kinds.{is_of_cell}
+use Rattle.rv_rows.specs.declared.known.Known.{Known}
 use Rattle.rv_marks.specs.declared.succeeding.Turn.{Turn}
 use Rattle.rv_marks.specs.Marks.{cells_in, cell_at, lacks, same_serial}
 

@@ -5,13 +5,13 @@ ghost use Rattle.rv_trace.specs.RowParts.{fetched as specified_fetched};
 ghost use Rattle.rv_lawful.specs.Settings.{Setting};
 ghost use Rattle.rv_lawful.specs.Outstanding.{serial_written};
 ghost use Rattle.rv_lawful.specs.LawfulTrace.{WritesUnit};
-ghost use Rattle.rv_kinds.specs.Kinds.{FetchesRightly};
-ghost use Rattle.rv_known.specs.Known.{IsReady};
+ghost use Rattle.rv_rows.specs.Kinds.{FetchesRightly};
+ghost use Rattle.rv_rows.specs.Known.{IsReady};
 ghost use Rattle.rv_marks.specs.Marks.{fetches_as, same_serial};
 
 use crate::names::{front, is_same, name, stages, stays};
 use rv_core::Shape;
-use rv_known::Known;
+use rv_rows::Known;
 use rv_seq::word_at;
 use rv_trace::Row;
 

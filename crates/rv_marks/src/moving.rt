@@ -3,7 +3,7 @@ ghost use Rattle.rv_trace.specs.declared.row.Row.{Row as RowValue};
 ghost use Rattle.rv_trace.specs.Trace.{newest};
 ghost use Rattle.rv_lawful.specs.Settings.{Setting};
 ghost use Rattle.rv_rows.specs.Facts.{IsPlain};
-ghost use Rattle.rv_kinds.specs.Kinds.{is_of_cell, with_cell as specified_with_cell, kept_back as specified_kept_back, MovesRightly};
+ghost use Rattle.rv_rows.specs.Kinds.{is_of_cell, with_cell as specified_with_cell, kept_back as specified_kept_back, MovesRightly};
 ghost use Rattle.rv_marks.specs.Marks.{in_stage as specified_in_stage, moved_into, moved_above, moved_with, moved_on, has_kept, lacks as specified_lacks, lacks_moved, is_new as specified_is_new, flushed_free, is_bare as specified_is_bare, stops_bare, retired_as, moves_as, cells_in, cell_at};
 
 use crate::names::{cell_in, front, is_among, is_same, leaves, name, stages, stays};

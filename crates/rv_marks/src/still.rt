@@ -4,7 +4,7 @@ ghost use Rattle.rv_trace.specs.Trace.{newest};
 ghost use Rattle.rv_lawful.specs.Settings.{Setting};
 ghost use Rattle.rv_lawful.specs.LawfulTrace.{Lawful};
 ghost use Rattle.rv_rows.specs.Facts.{IsPlain};
-ghost use Rattle.rv_kinds.specs.Kinds.{MovesRightly, FetchesRightly, SucceedsRightly};
+ghost use Rattle.rv_rows.specs.Kinds.{MovesRightly, FetchesRightly, SucceedsRightly};
 ghost use Rattle.rv_marks.specs.Marks.{no_marks as specified_no_marks, is_still as specified_is_still};
 
 use rv_rows::row_facts;

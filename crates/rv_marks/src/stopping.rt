@@ -5,16 +5,15 @@ ghost use Rattle.rv_trace.specs.RowParts.{unless};
 ghost use Rattle.rv_lawful.specs.Settings.{Setting};
 ghost use Rattle.rv_lawful.specs.LawfulTrace.{WritesUnit, Lawful};
 ghost use Rattle.rv_rows.specs.Facts.{IsPlain};
-ghost use Rattle.rv_kinds.specs.Kinds.{MovesRightly, FetchesRightly, SucceedsRightly, StopsInPlace};
-ghost use Rattle.rv_kinds.specs.Laws.{AreEmptyUnits};
-ghost use Rattle.rv_known.specs.Known.{IsKnown, IsHeld};
+ghost use Rattle.rv_rows.specs.Kinds.{MovesRightly, FetchesRightly, SucceedsRightly, StopsInPlace};
+ghost use Rattle.rv_rows.specs.Laws.{AreEmptyUnits};
+ghost use Rattle.rv_rows.specs.Known.{IsKnown, IsHeld};
 ghost use Rattle.rv_marks.specs.Stops.{own_stop as specified_own_stop, last_gone, empty_after, fetch_stops, due_of, due_stop as specified_due_stop};
 
 use crate::names::{cell_in, is_among, stages};
 use crate::succeeding::{are_flushed, below};
 use rv_core::Shape;
-use rv_known::Known;
-use rv_rows::row_facts;
+use rv_rows::{Known, row_facts};
 use rv_seq::{Stop, word_at};
 use rv_trace::{Cell, Row};
 

@@ -2,8 +2,8 @@ ghost use Rattle.std.specs.Prelude.{◌≡◌, ◌-◌, List, None, Some, take, 
 ghost use Rattle.rv_trace.specs.declared.row.Row.{Row as RowValue};
 ghost use Rattle.rv_lawful.specs.Settings.{Setting};
 ghost use Rattle.rv_rows.specs.Facts.{IsPlain};
-ghost use Rattle.rv_kinds.specs.Kinds.{SucceedsRightly};
-ghost use Rattle.rv_known.specs.Known.{IsKnown};
+ghost use Rattle.rv_rows.specs.Kinds.{SucceedsRightly};
+ghost use Rattle.rv_rows.specs.Known.{IsKnown};
 ghost use Rattle.rv_marks.specs.Marks.{cells_in};
 ghost use Rattle.rv_marks.specs.Turns.{late_in, in_execute, in_last, turn_if as specified_turn_if, nearest_from, all_flushed, settled_right, turn_right, is_turned, struck, flushed_by, is_open, names_it, named_by, succeeds_as};
 
@@ -12,7 +12,7 @@ use crate::moving::{is_cell_stop, lacks};
 use crate::names::{cell_in, is_among, leaves, stages};
 use rv_asks::Asks;
 use rv_core::Shape;
-use rv_known::Known;
+use rv_rows::Known;
 use rv_trace::{Cell, Row};
 
 /// A cell that settles its successor: its stage, and the address of the successor.

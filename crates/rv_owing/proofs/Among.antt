@@ -4,7 +4,7 @@ use Rattle.std.specs.Prelude.{◌||◌, if◌then◌else◌, reverse, slice_inde
 use Rattle.std.specs.List.{Contains}
 use Rattle.std.proofs.lemmas.List.{append-nil, reverse-append}
 use Rattle.rv_lawful.specs.Outstanding.{Decoupled, without}
-use Rattle.rv_known.specs.Known.{Falling}
+use Rattle.rv_rows.specs.Known.{Falling}
 
 -- one of these is this one
 abbrev pub Among : List Decoupled → Decoupled → Type 0

@@ -15,10 +15,10 @@ use Rattle.rv_lawful.specs.Outstanding.{units_after}
 use Rattle.rv_lawful.specs.LawfulTrace.{IsWordOf, TrueHold, StopsRun, new_cell, LawfulRow}
 use Rattle.rv_lawful.specs.Headline.{IsRecord}
 use Rattle.rv_rows.specs.Facts.{IsPlain, AreGoingOn, MovesAbove, RowFacts, AboveFacts, FirstFacts}
-use Rattle.rv_kinds.proofs.Moving.{above_of}
-use Rattle.rv_kinds.proofs.Fetching.{left_unflushed}
-use Rattle.rv_gone.specs.Recorded.{HasWords}
-use Rattle.rv_gone.specs.Gone.{GoneLaw, LeavingFacts}
+use Rattle.rv_rows.proofs.Moving.{above_of}
+use Rattle.rv_rows.proofs.Fetching.{left_unflushed}
+use Rattle.rv_rows.specs.Recorded.{HasWords}
+use Rattle.rv_rows.specs.Gone.{GoneLaw, LeavingFacts}
 
 -- a cell that leaves shows no hold
 left_free : (row : Row) (c : Cell) → leaves row (Some c) ≡ name_of (Some c) → c.hold ≡ None

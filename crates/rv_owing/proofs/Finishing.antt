@@ -13,7 +13,7 @@ use Rattle.rv_unit.proofs.Showing.{finished_at, written_law}
 use Rattle.rv_unit.proofs.Moving.{first_time}
 use Rattle.rv_lawful.specs.Outstanding.{is_serial}
 use Rattle.rv_lawful.specs.LawfulTrace.{serial_in}
-use Rattle.rv_kinds.specs.Kinds.{unit_from, unit_marked}
+use Rattle.rv_rows.specs.Kinds.{unit_from, unit_marked}
 use Rattle.rv_owing.specs.Kept.{oldest_in, IsLowest}
 
 -- ---- the serial at the last time of a unit is that of its oldest entry

@@ -22,9 +22,9 @@ use Rattle.rv_lawful.specs.Settings.{Setting, Stands}
 use Rattle.rv_lawful.specs.Outstanding.{Decoupled, Written, serial_written, is_serial, in_unit, entering, units_after, is_written, decoupled_in, decoupled, without, outstanding}
 use Rattle.rv_lawful.specs.LawfulTrace.{serial_in, IsWordOf, LawfulRow, Lawful}
 use Rattle.rv_rows.specs.Facts.{IsPlain, AreGoingOn, RowFacts}
-use Rattle.rv_gone.specs.Recorded.{HasWords, IsRecorded, AreRecorded}
-use Rattle.rv_gone.specs.Gone.{GoneLaw}
-use Rattle.rv_known.specs.Known.{IsOwing}
+use Rattle.rv_rows.specs.Recorded.{HasWords, IsRecorded, AreRecorded}
+use Rattle.rv_rows.specs.Gone.{GoneLaw}
+use Rattle.rv_rows.specs.Known.{IsOwing}
 use Rattle.rv_owing.specs.Units.{AreTimes, HasUnits}
 use Rattle.rv_owing.specs.Owing.{serial_granted, GrantedLaw, PlacedLaw, OwingLaw}
 use Rattle.rv_owing.proofs.Among.{Among, to_contains, from_contains, among_left, among_right, among_either, without_append, without_either, among_without, within_all, Under, Falls, under_all, falls_without, falling}

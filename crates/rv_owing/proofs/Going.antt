@@ -16,10 +16,10 @@ use Rattle.rv_lawful.specs.Settings.{Setting}
 use Rattle.rv_lawful.specs.Outstanding.{Decoupled, serial_written, is_serial, in_unit, entering, units_after, is_written, decoupled_in, decoupled, without, outstanding}
 use Rattle.rv_lawful.specs.LawfulTrace.{serial_in, LawfulRow, Lawful}
 use Rattle.rv_rows.specs.Facts.{IsPlain, AreGoingOn, RowFacts}
-use Rattle.rv_gone.specs.Recorded.{HasWords, IsRecorded, AreRecorded}
-use Rattle.rv_gone.specs.Gone.{GoneLaw}
-use Rattle.rv_known.specs.declared.known.Owed.{Owed}
-use Rattle.rv_known.specs.Known.{owed_of, IsOwing}
+use Rattle.rv_rows.specs.Recorded.{HasWords, IsRecorded, AreRecorded}
+use Rattle.rv_rows.specs.Gone.{GoneLaw}
+use Rattle.rv_rows.specs.declared.known.Owed.{Owed}
+use Rattle.rv_rows.specs.Known.{owed_of, IsOwing}
 use Rattle.rv_owing.specs.Units.{HasUnits}
 use Rattle.rv_owing.specs.declared.owing.Owing.{Owing}
 use Rattle.rv_owing.specs.Owing.{place_of, IsOwed, serial_granted, IsDueBehind, GrantedLaw, into_unit, entering_of}

@@ -7,8 +7,8 @@ use Rattle.std.proofs.lemmas.Bool.Decides.{nat_tests}
 use Rattle.std.proofs.lemmas.List.{reverse-reverse}
 use Rattle.rv_lawful.specs.Settings.{Setting}
 use Rattle.rv_lawful.specs.Outstanding.{Decoupled, is_serial, without}
-use Rattle.rv_known.specs.declared.known.Owed.{Owed}
-use Rattle.rv_known.specs.Known.{Falling, owed_of}
+use Rattle.rv_rows.specs.declared.known.Owed.{Owed}
+use Rattle.rv_rows.specs.Known.{Falling, owed_of}
 use Rattle.rv_owing.specs.Kept.{place_from, place_among, without_at, are_all}
 use Rattle.rv_owing.proofs.Among.{Among, among_left, among_right, reverse_cons, without_reverse, Under, Falls}
 

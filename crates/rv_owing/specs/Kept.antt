@@ -5,7 +5,7 @@ use Rattle.std.specs.Option.{option_or}
 use Rattle.rv_asks.specs.declared.asks.Asks.{Asks}
 use Rattle.rv_unit.specs.declared.entry.Entry.{Entry}
 use Rattle.rv_lawful.specs.Outstanding.{is_serial}
-use Rattle.rv_known.specs.declared.known.Owed.{Owed}
+use Rattle.rv_rows.specs.declared.known.Owed.{Owed}
 
 -- the serial of the oldest entry of a unit
 abbrev pub oldest_in : ℕ → List Entry → Option ℕ

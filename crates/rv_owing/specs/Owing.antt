@@ -12,8 +12,8 @@ use Rattle.rv_lawful.specs.Settings.{Setting}
 use Rattle.rv_lawful.specs.Outstanding.{Decoupled, units_after, outstanding}
 use Rattle.rv_lawful.specs.LawfulTrace.{serial_in, Lawful}
 use Rattle.rv_rows.specs.Facts.{IsPlain}
-use Rattle.rv_gone.specs.Recorded.{HasWords, AreRecorded}
-use Rattle.rv_known.specs.Known.{AreOwed, IsOwing}
+use Rattle.rv_rows.specs.Recorded.{HasWords, AreRecorded}
+use Rattle.rv_rows.specs.Known.{AreOwed, IsOwing}
 use Rattle.rv_owing.specs.declared.owing.Owing.{Owing}
 use Rattle.rv_owing.specs.Units.{HasUnits}
 

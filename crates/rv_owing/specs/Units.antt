@@ -5,7 +5,7 @@ use Rattle.rv_unit.specs.Slots.{units_of}
 use Rattle.rv_unit.specs.Timed.{AreUnits}
 use Rattle.rv_lawful.specs.Settings.{Setting}
 use Rattle.rv_lawful.specs.Outstanding.{has_target}
-use Rattle.rv_kinds.specs.Laws.{AreEmptyUnits}
+use Rattle.rv_rows.specs.Laws.{AreEmptyUnits}
 
 -- the units of a setting are empty before the first row, and have these last times
 pub record AreTimes (k : Setting) (lasts : List ℕ) : Type 0 where

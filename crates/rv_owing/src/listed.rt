@@ -6,7 +6,7 @@ ghost use Rattle.rv_owing.specs.Kept.{oldest_in as specified_oldest_in, place_fr
 
 use ix_bits::{Memory, put};
 use rv_asks::Asks;
-use rv_known::Owed;
+use rv_rows::Owed;
 use rv_unit::{Entry, Units};
 
 // Is it this serial?

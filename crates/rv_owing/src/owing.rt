@@ -5,13 +5,13 @@ ghost use Rattle.rv_lawful.specs.Settings.{Setting};
 ghost use Rattle.rv_lawful.specs.Outstanding.{serial_written, entering as specified_entering, units_after, is_written, outstanding};
 ghost use Rattle.rv_lawful.specs.LawfulTrace.{serial_in, LawfulRow};
 ghost use Rattle.rv_rows.specs.Facts.{IsPlain, AreGoingOn};
-ghost use Rattle.rv_kinds.specs.Kinds.{unit_marked as specified_unit_marked};
+ghost use Rattle.rv_rows.specs.Kinds.{unit_marked as specified_unit_marked};
 ghost use Rattle.rv_unit.specs.Entries.{last_time};
 ghost use Rattle.rv_unit.specs.Numbering.{lasts_of};
 ghost use Rattle.rv_unit.specs.Slots.{serial_at};
 ghost use Rattle.rv_unit.specs.Timed.{AreUnits, IsTimed};
-ghost use Rattle.rv_gone.specs.Recorded.{HasWords, IsRecorded, AreRecorded};
-ghost use Rattle.rv_known.specs.Known.{IsOwing};
+ghost use Rattle.rv_rows.specs.Recorded.{HasWords, IsRecorded, AreRecorded};
+ghost use Rattle.rv_rows.specs.Known.{IsOwing};
 ghost use Rattle.rv_owing.specs.Units.{HasUnits};
 ghost use Rattle.rv_owing.specs.Owing.{IsOwed, serial_granted, GrantedLaw, AreDueBehind, entering_of};
 ghost use Rattle.rv_owing.specs.Kept.{IsLowest};
@@ -23,9 +23,7 @@ use crate::listed::{
 use ix_bits::Memory;
 use ix_plan::Design;
 use rv_asks::Asks;
-use rv_gone::gone_facts;
-use rv_known::Owed;
-use rv_rows::row_facts;
+use rv_rows::{Owed, gone_facts, row_facts};
 use rv_unit::{Units, unit_laws};
 use std::alloc::Global;
 

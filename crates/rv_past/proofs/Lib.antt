@@ -2,3 +2,9 @@ pub mod Widths
 pub mod Told
 pub mod Plainly
 pub mod Sound
+pub mod Trying
+pub mod Growing
+pub mod Cells
+pub mod Rows
+pub mod SoundPage
+pub mod Lines

@@ -4,9 +4,9 @@ use Rattle.std.specs.Prelude.{replicate}
 use Rattle.ix_bits.specs.declared.number.Bits.{Bits}
 use Rattle.ix_eval.specs.Evaluated.{type_of_custom}
 use Rattle.ix_extension.specs.Extensions.{ExtensionTree}
-use Rattle.rv_effect.specs.declared.decoded.Decoded.{Decoded}
-use Rattle.rv_effect.specs.Decoding.{decoded_in}
-use Rattle.rv_effect.specs.WordEffects.{over, blocks_effect}
+use Rattle.rv_seq.specs.declared.decoded.Decoded.{Decoded}
+use Rattle.rv_seq.specs.Decoding.{decoded_in}
+use Rattle.rv_seq.specs.WordEffects.{over, blocks_effect}
 use Rattle.rv_seq.specs.declared.arch.Arch.{Arch}
 use Rattle.rv_seq.specs.declared.answer.StepAnswer.TheVariants.{Done}
 use Rattle.rv_seq.specs.declared.commit.Stop.{Stop}

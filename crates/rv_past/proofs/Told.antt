@@ -2,14 +2,14 @@
 use Rattle.std.proofs.Common.{◌≡◌, ◌∙◌, refl, sym, ap, subst, ℕ, List, [], ◌∷◌, Option, Some, None}
 use Rattle.ix_bits.specs.declared.number.Bits.{Bits}
 use Rattle.ix_extension.specs.Extensions.{ExtensionTree}
-use Rattle.rv_effect.specs.WordEffects.{AreWide}
+use Rattle.rv_seq.specs.WordEffects.{AreWide}
 use Rattle.rv_seq.specs.declared.arch.Arch.{Arch}
 use Rattle.rv_seq.specs.declared.commit.Commit.{Commit}
 use Rattle.rv_seq.specs.Commits.{applied}
 use Rattle.rv_seq.specs.Interrupts.{is_return, resumed}
 use Rattle.rv_seq.specs.Runs.{start}
 use Rattle.rv_seq.specs.States.{first}
-use Rattle.rv_steps.specs.declared.step.Step.{Step}
+use Rattle.rv_past.specs.declared.step.Step.{Step}
 use Rattle.rv_tried.specs.Parts.{native}
 use Rattle.rv_trace.specs.declared.row.Cell.{Cell}
 use Rattle.rv_trace.specs.declared.row.Row.{Row}
@@ -17,8 +17,8 @@ use Rattle.rv_trace.specs.Trace.{place, retirements}
 use Rattle.rv_lawful.specs.Settings.{Setting}
 use Rattle.rv_lawful.specs.Outstanding.{after_retired, after_written, after_entry, architecture}
 use Rattle.rv_lawful.specs.Future.{early_after, late_after, leaves_execute, after_executed, after_late, after_unit, future_file}
-use Rattle.rv_made.specs.declared.due.Due.{Due}
-use Rattle.rv_made.specs.Making.{IsWrittenWide}
+use Rattle.rv_past.specs.declared.due.Due.{Due}
+use Rattle.rv_past.specs.Making.{IsWrittenWide}
 use Rattle.rv_past.specs.declared.past.Past.{Past}
 use Rattle.rv_past.specs.Past.{IsPast, IsSoundStep, IsRetiredStep, IsExecutedStep, retired_by, late_by, early_by}
 use Rattle.rv_past.proofs.Widths.{early_wide, late_wide, unit_wide}

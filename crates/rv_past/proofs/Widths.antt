@@ -6,7 +6,7 @@ use Rattle.ix_extension.specs.Extensions.{ExtensionTree}
 use Rattle.ix_eval.specs.Tables.{table}
 use Rattle.ix_eval.specs.Evaluated.{type_of_custom}
 use Rattle.ix_eval.proofs.Tables.{table_length}
-use Rattle.rv_effect.specs.WordEffects.{AreWide}
+use Rattle.rv_seq.specs.WordEffects.{AreWide}
 use Rattle.rv_seq.specs.declared.commit.Slot.{Slot}
 use Rattle.rv_seq.specs.declared.commit.Slot.TheVariants.{Absent, Now, Later}
 use Rattle.rv_seq.specs.States.{zero_bit}
@@ -18,7 +18,7 @@ use Rattle.rv_asks.specs.declared.asks.Asks.{Asks}
 use Rattle.rv_tried.specs.Whole.{AreBlocksWide}
 use Rattle.rv_lawful.specs.Outstanding.{Written}
 use Rattle.rv_lawful.specs.Future.{is_pending, early_write, late_write, with_writes, early_after, late_after, after_unit}
-use Rattle.rv_made.specs.Making.{IsWrittenWide}
+use Rattle.rv_past.specs.Making.{IsWrittenWide}
 
 table_get : {A : Type 0} (P : ℕ → A → Type 0) (f : ℕ → A) (n : ℕ) → ((r : ℕ) → r < n → P r (f r)) → (r : ℕ) → IfSome (slice_get (table f n) r) (P r)
 table_get P f zero h r = tt

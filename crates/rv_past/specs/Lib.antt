@@ -1,1 +1,4 @@
 pub mod Past
+pub mod Steps
+pub mod Due
+pub mod Making

@@ -2,7 +2,7 @@
 use Rattle.std.specs.Prelude.{◌≡◌, ℕ, List, ◌∷◌, Option, Some, None}
 use Rattle.ix_bits.specs.declared.number.Bits.{Bits}
 use Rattle.ix_extension.specs.Extensions.{ExtensionTree}
-use Rattle.rv_effect.specs.WordEffects.{AreWide}
+use Rattle.rv_seq.specs.WordEffects.{AreWide}
 use Rattle.rv_seq.specs.declared.arch.Arch.{Arch}
 use Rattle.rv_seq.specs.declared.commit.Commit.{Commit}
 use Rattle.rv_seq.specs.Commits.{applied}
@@ -17,8 +17,8 @@ use Rattle.rv_trace.specs.Trace.{place, retirements}
 use Rattle.rv_lawful.specs.Settings.{Setting, jump_with, course_of}
 use Rattle.rv_lawful.specs.Outstanding.{architecture}
 use Rattle.rv_lawful.specs.Future.{early_after, late_after, leaves_execute, future_file}
-use Rattle.rv_made.specs.declared.due.Due.{Due}
-use Rattle.rv_made.specs.Due.{IsDue}
+use Rattle.rv_past.specs.declared.due.Due.{Due}
+use Rattle.rv_past.specs.Due.{IsDue}
 use Rattle.rv_past.specs.declared.past.Past.{Past}
 
 -- the architectural state after these rows and their future file, each value of the width of its register

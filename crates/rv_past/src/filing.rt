@@ -6,12 +6,11 @@ ghost use Rattle.rv_lawful.specs.Settings.{Setting};
 ghost use Rattle.rv_lawful.specs.Future.{early_write, late_write, with_writes, going_on as specified_going_on, leaves_execute, after_unit};
 ghost use Rattle.rv_past.specs.Past.{late_by, early_by};
 
-use crate::paying::{put_custom, put_customs};
+use crate::due::Due;
 use ix_bits::Bits;
 use rv_asks::Asks;
 use rv_core::Shape;
-use rv_made::Due;
-use rv_seq::{Commit, Slot, StepAnswer};
+use rv_seq::{Commit, Slot, StepAnswer, put_custom, put_customs};
 use rv_trace::{Cell, Row};
 
 // Is the serial among the flushed ones?
@@ -135,7 +134,7 @@ fn put_unit(written: &Option<(u32, u8, Slot<u32>, [Slot<Bits>; 16])>, file: &mut
     ensures { file.new ≡ after_unit written.now file.old }
 {
     if let Some(fields) = written {
-        put_customs(&fields.3, file);
+        put_customs(file, &fields.3);
     }
 }
 

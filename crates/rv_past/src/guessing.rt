@@ -2,7 +2,7 @@ ghost use Rattle.std.specs.Prelude.{◌≡◌};
 ghost use Rattle.ix_extension.specs.Extensions.{view_extension};
 ghost use Rattle.ix_extension.specs.WellFormed.{IsWellFormed};
 ghost use Rattle.ix_eval.specs.Scratches.{IsScratchOf};
-ghost use Rattle.rv_effect.specs.WordEffects.{AreWide};
+ghost use Rattle.rv_seq.specs.WordEffects.{AreWide};
 ghost use Rattle.rv_core.specs.Guesses.{guess_of};
 ghost use Rattle.rv_lawful.specs.Settings.{jump_with};
 
@@ -10,8 +10,8 @@ use ix_bits::Bits;
 use ix_eval::{Inputs, Scratch};
 use ix_tree::Extension;
 use rv_core::{Blocks, Plain, Predictor, Shape};
-use rv_effect::blocks_effect;
 use rv_memory::RandomAccess;
+use rv_seq::blocks_effect;
 use rv_trace::Cell;
 
 // Where the always-blocks jump to from a cell with this future file, if they jump.

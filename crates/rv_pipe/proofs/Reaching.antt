@@ -15,8 +15,8 @@ use Rattle.rv_ports.specs.Drives.{drives_of}
 use Rattle.rv_ports.specs.Driven.{AreDriven, inputs_over, ports_in, ports_of, port_values}
 use Rattle.rv_ports.specs.Inputs.{inputs_by}
 use Rattle.rv_ports.specs.declared.shown.Shown.{Shown}
-use Rattle.rv_served.specs.Lives.{PromiseLaw}
-use Rattle.rv_served.specs.Promise.{AllPromised}
+use Rattle.rv_machine.specs.Lives.{PromiseLaw}
+use Rattle.rv_machine.specs.Promise.{AllPromised}
 use Rattle.rv_trace.specs.declared.row.Row.{Row}
 
 -- ---- the ports of the modules are those of the design

@@ -1,2 +1,3 @@
 pub mod Machines
 pub mod Nth
+pub mod Texts

@@ -3,6 +3,7 @@
 
 mod machine;
 mod outstanding;
+mod pipeline;
 mod running;
 
 pub use machine::Machine;

@@ -17,56 +17,44 @@ ghost use Rattle.rv_machine.specs.Promises.{IsRunnable};
 ghost use Rattle.rv_nets.specs.Modules.{AllStep, drivers_of, ports_shown};
 ghost use Rattle.rv_ports.specs.Driven.{AreDriven, ports_of, port_values};
 ghost use Rattle.rv_ports.specs.Drives.{drives_of};
-ghost use Rattle.rv_served.specs.Promise.{AllPromised};
+ghost use Rattle.rv_machine.specs.Promise.{AllPromised};
 ghost use Rattle.rv_trace.specs.declared.row.Row.{Row as TraceRow};
 
-use crate::outstanding::nth_owed;
+use crate::pipeline::{Pipeline, nothing_shown};
 use ix_behaviour::behaviour_laws;
 use ix_bits::{Bits, Memory};
-use ix_eval::Scratch;
 use ix_plan::{Design, Target};
-use rv_asks::{Asking, asking_of};
-use rv_engine::{Kept, first_kept, make_row};
 use rv_isa::Image;
-use rv_machine::rows_laws;
+use rv_machine::{promise_law, rows_laws};
 use rv_nets::{Modules, nets_law};
 use rv_seq::Arch;
-use rv_served::promise_law;
 use rv_sight::sight_laws;
 use rv_trace::{Row, Trace};
 use rv_waits::{Lines, Waits};
 use std::alloc::Global;
 use std::marker::Model;
 
-/// A pipeline with the extension of a design over an image, and the rows that it made. All memory is taken when it is made.
+/// A pipeline with the extension of a design over an image, the rows that it made, and the modules beside it. All memory is taken when it is made.
 #[derive(Drop)]
 pub struct Machine<'a> {
-    design: &'a Design,
-    words: &'a [u32],
-    waits: &'a Waits,
-    lines: Option<&'a Lines>,
-    asking: Asking,
-    scratch: Scratch,
-    kept: Kept,
+    pipeline: Pipeline<'a>,
     trace: Trace,
     modules: Modules<'a>,
 }
 
 impl<'a> Model for Machine<'a> {
-    ghost use Rattle.std.specs.Option.{option_copied};
     ghost use Rattle.std.specs.Prelude.{reverse};
     ghost use Rattle.std.specs.Coded.{codes};
     ghost use Rattle.ix_tree.specs.contracts.typed.TypedStmtKind as statements;
-    ghost use Rattle.rv_engine.specs.Settings.{setting};
     ghost use Rattle.rv_pipe.specs.Machines.{Running, IsSound};
 
     ghost Value = { Running };
 
     ghost coded = { Prim.hlevel (codes, statements.the_row.coded) };
 
-    ghost view = { λ m. record { setting = setting m.design.now m.words.now m.waits.now (option_copied m.lines); rows = reverse m.trace.rows; spare = m.trace.spare; modules = m.modules } };
+    ghost view = { λ m. record { setting = m.pipeline.setting; rows = reverse m.trace.rows; spare = m.trace.spare; modules = m.modules } };
 
-    ghost invariant = { λ m. IsSound (setting m.design.now m.words.now m.waits.now (option_copied m.lines)) m.asking m.scratch m.kept (reverse m.trace.rows) m.trace.spare m.modules };
+    ghost invariant = { λ m. IsSound m.pipeline.setting m.pipeline.machine (reverse m.trace.rows) m.trace.spare m.modules };
 }
 
 impl<'a> Machine<'a> {
@@ -107,7 +95,7 @@ impl<'a> Machine<'a> {
     }
 
     /// The same with an interrupt line or without one.
-    pub(crate) fn at_rest(
+    fn at_rest(
         alloc: Global,
         design: &'a Design,
         image: &'a Image,
@@ -124,18 +112,10 @@ impl<'a> Machine<'a> {
         behaviour_laws();
         sight_laws();
         let trace = Trace::new(alloc, cycles)?;
-        let asking = asking_of(alloc, design)?;
-        let scratch = Scratch::new(alloc, &design.extension)?;
-        let kept = first_kept(alloc, design, lines.is_some())?;
+        let pipeline = Pipeline::new(alloc, design, image, waits, lines)?;
         let modules = Modules::new(alloc, design)?;
         Ok(Machine {
-            design,
-            words: image.as_slice(),
-            waits,
-            lines,
-            asking,
-            scratch,
-            kept,
+            pipeline,
             trace,
             modules,
         })
@@ -153,15 +133,8 @@ impl<'a> Machine<'a> {
         ensures headline { IsRunnable self.new.setting.design self.new.setting.image → Headline self.new.setting.design self.new.setting.image self.new.setting.waits self.new.setting.lines self.new.rows }
     {
         rows_laws();
-        let (row, shown) = make_row(
-            self.design,
-            &self.asking,
-            self.words,
-            self.waits,
-            self.lines,
-            &mut self.kept,
-            &mut self.scratch,
-        );
+        let mut shown = nothing_shown();
+        let row = self.pipeline.cycle(true, &mut shown);
         self.modules.step(&shown);
         self.trace.push(row);
         row
@@ -198,7 +171,7 @@ impl<'a> Machine<'a> {
         ensures applied { IsRunnable self.now.setting.design self.now.setting.image → applied_state (view_extension self.now.setting.design.extension) (lawful_setting self.now.setting.design self.now.setting.image self.now.setting.waits self.now.setting.lines (places self.now.rows)) self.now.rows ≡ run_with (view_extension self.now.setting.design.extension) self.now.setting.image (entries_at self.now.setting.design.sheet.shape.trap self.now.setting.lines (places self.now.rows)) (retirements self.now.rows) }
     {
         rows_laws();
-        &self.kept.arch
+        self.pipeline.arch()
     }
 
     /// The k-th register with an outstanding write after the last row, in the order of retirement and the x register of an instruction before its custom ones, with the count of
@@ -208,9 +181,6 @@ impl<'a> Machine<'a> {
         ensures listed { IsRunnable self.now.setting.design self.now.setting.image → result ≡ slice_get (outstanding_targets (lawful_setting self.now.setting.design self.now.setting.image self.now.setting.waits self.now.setting.lines (places self.now.rows)) self.now.rows) k }
     {
         rows_laws();
-        match nth_owed(self.kept.owing.owed(), k) {
-            Ok(found) => Some(found),
-            Err(_) => None,
-        }
+        self.pipeline.outstanding(k)
     }
 }

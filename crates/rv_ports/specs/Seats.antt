@@ -3,7 +3,7 @@ use Rattle.std.specs.Prelude.{ℕ, suc, ◌+◌, List, [], ◌∷◌, drop, Opti
 use Rattle.ix_eval.specs.declared.access.Access.{Access}
 use Rattle.ix_eval.specs.Tables.{table}
 use Rattle.ix_plan.specs.Units.{Slots, unit_written, frozen_with}
-use Rattle.rv_effect.specs.Memory.{peeked}
+use Rattle.rv_seq.specs.Memory.{peeked}
 use Rattle.rv_isa.specs.Fields.{rs1_of, rs2_of}
 use Rattle.rv_lawful.specs.Settings.{Setting, stages_of, tailed, is_tail}
 use Rattle.rv_lawful.specs.Outstanding.{units_after, architecture}

@@ -12,7 +12,7 @@ use Rattle.rv_rows.proofs.Coming.{some_same, first_held, is_fetched, moves_above
 use Rattle.rv_rows.proofs.Ordered.{ordered, ordered_next}
 use Rattle.rv_rows.proofs.Placed.{one, is_in, lives, out}
 use Rattle.rv_rows.proofs.Flushed.{flushes_from, retired_count}
-use Rattle.rv_rows.proofs.Known.{above_in, first_of, some_stages}
+use Rattle.rv_rows.proofs.KnownRows.{above_in, first_of, some_stages}
 use Rattle.rv_rows.proofs.Knowing.{none_live, no_retirements, first_stage, held_or_new, history, row_in, row_long, row_retiring}
 use Rattle.rv_rows.proofs.Addresses.{HasSettled, AreRight, AreRightAfter, behind, right_above, right_at}
 use Rattle.rv_rows.proofs.Succeeding.{all_right}

@@ -13,7 +13,7 @@ use Rattle.rv_rows.proofs.Coming.{no_cell, first_held, is_fetched, moves_above, 
 use Rattle.rv_rows.proofs.Ordered.{IsOrdered, ordered, ordered_next, first_now, none_now, next_above, known_below}
 use Rattle.rv_rows.proofs.Placed.{count, one, AreIn, MayBeIn, is_in, live, Lives, lives, place_now, out}
 use Rattle.rv_rows.proofs.Flushed.{flushed_cell, flushes_from, Retiring, nothing, leaver, retiring, retired_count}
-use Rattle.rv_rows.proofs.Known.{first_past, past_next, retired_step, IsKnown, AboveIn, above_in, first_of, some_stages}
+use Rattle.rv_rows.proofs.KnownRows.{first_past, past_next, retired_step, IsKnown, AboveIn, above_in, first_of, some_stages}
 use Rattle.rv_rows.proofs.Tests.{differ, no_some, not_true, same_number, or_true}
 
 -- ---- what was flushed or has retired was seen

@@ -13,7 +13,7 @@ use Rattle.rv_rows.proofs.Places.{place_lt}
 use Rattle.rv_rows.proofs.Coming.{Before, held, moved, new, is_fetched, stood, stood_above, same_serial, one_cell}
 use Rattle.rv_rows.proofs.Ordered.{IsOrdered, ordered, ordered_next, first_now, below_above, old_falls, one_in_row, cell_word}
 use Rattle.rv_rows.proofs.Placed.{counted, AreIn, is_in, cell_of}
-use Rattle.rv_rows.proofs.Known.{IsPast, above_in}
+use Rattle.rv_rows.proofs.KnownRows.{IsPast, above_in}
 use Rattle.rv_rows.proofs.Knowing.{history, row_in}
 use Rattle.rv_rows.proofs.Tests.{differ, no_zero, not_true}
 

@@ -7,8 +7,8 @@ use Rattle.ix_mean.specs.Meaning.{Inputs}
 use Rattle.ix_eval.specs.declared.access.Access.{Access}
 use Rattle.ix_eval.specs.declared.effect.Effect.{Effect}
 use Rattle.rv_memory.specs.Room.{is_inside}
-use Rattle.rv_effect.specs.declared.decoded.Decoded.{Decoded}
-use Rattle.rv_effect.specs.WordEffects.{effect_of, over, blocks_effect}
+use Rattle.rv_seq.specs.declared.decoded.Decoded.{Decoded}
+use Rattle.rv_seq.specs.WordEffects.{effect_of, over, blocks_effect}
 use Rattle.rv_seq.specs.declared.commit.Stop.{Stop}
 use Rattle.rv_seq.specs.declared.commit.Stop.TheVariants.{Misaligned, DataRange}
 use Rattle.rv_seq.specs.declared.commit.Commit.{Commit}

@@ -19,9 +19,9 @@ use Rattle.ix_eval.specs.Tables.{table}
 use Rattle.ix_eval.specs.Evaluated.{bits_written, type_of_custom, written, custom_written, effect_at}
 use Rattle.ix_eval.specs.declared.effect.Effect.{Effect}
 use Rattle.ix_eval.proofs.Tables.{table_length, table_at}
-use Rattle.rv_effect.specs.declared.decoded.Decoded.{Decoded}
-use Rattle.rv_effect.specs.declared.decoded.Decoded.TheVariants as D
-use Rattle.rv_effect.specs.WordEffects.{effect_of, customs_over, over, blocks_effect, AreWide}
+use Rattle.rv_seq.specs.declared.decoded.Decoded.{Decoded}
+use Rattle.rv_seq.specs.declared.decoded.Decoded.TheVariants as D
+use Rattle.rv_seq.specs.WordEffects.{effect_of, customs_over, over, blocks_effect, AreWide}
 use Rattle.rv_seq.specs.declared.commit.Slot.{Slot}
 use Rattle.rv_seq.specs.declared.commit.Slot.TheVariants.{Absent, Now, Later}
 use Rattle.rv_seq.specs.States.{zero_bit, initial_in, initial_of, initials}

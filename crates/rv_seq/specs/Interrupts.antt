@@ -2,7 +2,7 @@
 -- are all that is kept of them, and where the handler begins, is this project's choice).
 use Rattle.std.specs.Prelude.{◌≡◌, ℕ, Option, Some, None, Bool, true, false, ◌&&◌, if◌then◌else◌, nat_eq, is_none}
 use Rattle.ix_extension.specs.Extensions.{ExtensionTree}
-use Rattle.rv_effect.specs.Decoding.{decoded_in}
+use Rattle.rv_seq.specs.Decoding.{decoded_in}
 use Rattle.rv_seq.specs.declared.arch.TrapState.{TrapState}
 use Rattle.rv_seq.specs.declared.arch.Arch.{Arch}
 

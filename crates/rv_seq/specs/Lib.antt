@@ -6,3 +6,7 @@ pub mod Interrupts
 pub mod Steps
 pub mod Sound
 pub mod Runs
+pub mod Decoding
+pub mod Memory
+pub mod BaseEffects
+pub mod WordEffects

@@ -9,8 +9,8 @@ use Rattle.ix_behaviour.specs.Behaviours.{spawned_at}
 use Rattle.ix_eval.specs.declared.access.Access.{Access}
 use Rattle.ix_eval.specs.declared.effect.Effect.{Effect}
 use Rattle.rv_isa.specs.Fields.{rd_of}
-use Rattle.rv_effect.specs.declared.decoded.Decoded.{Decoded}
-use Rattle.rv_effect.specs.declared.decoded.Decoded.TheVariants as D
+use Rattle.rv_seq.specs.declared.decoded.Decoded.{Decoded}
+use Rattle.rv_seq.specs.declared.decoded.Decoded.TheVariants as D
 use Rattle.rv_seq.specs.declared.arch.Arch.{Arch}
 use Rattle.rv_seq.specs.declared.answer.StepAnswer.{StepAnswer}
 use Rattle.rv_seq.specs.States.{first}

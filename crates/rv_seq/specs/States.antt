@@ -10,7 +10,7 @@ use Rattle.ix_mean.specs.Given.{inputs_of}
 use Rattle.ix_eval.specs.Tables.{table}
 use Rattle.rv_isa.specs.Fields.{rs1_of, rs2_of}
 use Rattle.rv_memory.specs.Room.{size}
-use Rattle.rv_effect.specs.Memory.{peeked}
+use Rattle.rv_seq.specs.Memory.{peeked}
 use Rattle.rv_seq.specs.declared.arch.Arch.{Arch}
 
 -- where there is no custom register stands a zero of one bit

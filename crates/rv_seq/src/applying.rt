@@ -3,9 +3,9 @@ ghost use Rattle.rv_seq.specs.Commits.{IsStoredInside, x_index, x_slot, slot_of 
 
 use crate::arch::Arch;
 use crate::commit::{Commit, Slot};
+use crate::decoding::rd_of;
 use ix_bits::Bits;
 use ix_eval::{Access, Effect};
-use rv_effect::rd_of;
 use rv_memory::RandomAccess;
 
 // What is written to x register rd; x0 is not written.
@@ -58,8 +58,8 @@ pub fn commit_of(at: u32, word: u32, effect: &Effect) -> Commit
     }
 }
 
-// Writes an x register.
-fn put_x(x: &mut [u32], rd: u8, slot: Slot<u32>)
+/// Writes an x register. A slot without a value writes nothing, nor does a number past the last register.
+pub fn put_x(x: &mut [u32], rd: u8, slot: Slot<u32>)
     ensures { x.new ≡ with_x x.old rd slot }
 {
     if let Slot::Now(value) = slot {
@@ -70,29 +70,26 @@ fn put_x(x: &mut [u32], rd: u8, slot: Slot<u32>)
     }
 }
 
-// The custom register after a write.
-fn after_slot(old: Bits, slot: Slot<Bits>) -> Bits
-    ensures { result ≡ with_slot old slot }
+/// Writes a custom register. A slot without a value writes nothing.
+pub fn put_custom(register: &mut Bits, slot: &Slot<Bits>)
+    ensures { register.new ≡ with_slot register.old slot.now }
 {
-    match slot {
-        Slot::Now(value) => value,
-        _ => old,
+    if let Slot::Now(value) = slot {
+        *register = *value;
     }
 }
 
-// The custom registers after the writes.
-fn customs_after(custom: &[Bits; 16], slots: &[Slot<Bits>; 16]) -> [Bits; 16]
-    ensures { result ≡ with_customs custom.now slots.now }
+/// Writes the custom registers.
+pub fn put_customs(file: &mut [Bits; 16], slots: &[Slot<Bits>; 16])
+    ensures { file.new ≡ with_customs file.old slots.now }
 {
-    let mut all = *custom;
     for number in 0..16usize {
-        all[number] = after_slot(custom[number], slots[number]);
+        put_custom(&mut file[number], &slots[number]);
     }
-    all
 }
 
-// Stores.
-fn put_store(memory: &mut RandomAccess, store: Option<(Access, u32)>)
+/// Stores, where there is a store, which lies in the memory.
+pub fn put_store(memory: &mut RandomAccess, store: Option<(Access, u32)>)
     requires { IsStoredInside store }
     ensures { memory.new ≡ with_store memory.old store }
 {
@@ -109,6 +106,6 @@ pub fn apply(arch: &mut Arch, commit: &Commit)
 {
     arch.pc = commit.next;
     put_x(&mut arch.x, commit.rd_index, commit.rd);
-    arch.custom = customs_after(&arch.custom, &commit.custom);
+    put_customs(&mut arch.custom, &commit.custom);
     put_store(&mut arch.mem, commit.store);
 }

@@ -1,9 +1,8 @@
 ghost use Rattle.std.specs.Prelude.{◌≡◌, IfOk};
 ghost use Rattle.ix_extension.specs.Extensions.{view_extension};
 ghost use Rattle.ix_extension.specs.WellFormed.{IsWellFormed};
-ghost use Rattle.rv_effect.specs.WordEffects.{AreWide};
+ghost use Rattle.rv_seq.specs.WordEffects.{AreWide};
 ghost use Rattle.rv_seq.specs.States.{first, initials, initial_of};
-ghost use Rattle.rv_seq.specs.Bare.{bare};
 ghost use Rattle.rv_seq.specs.Interrupts.{with_line};
 
 use ix_bits::{Bits, Memory};
@@ -86,23 +85,5 @@ impl Arch {
             enabled: true,
         });
         Ok(arch)
-    }
-
-    /// The first state of a core with an extension without sections and no interrupt line.
-    #[tactic(auto, unfolding(crate::specs::States::first))]
-    pub fn bare(alloc: Global) -> Result<Arch, Memory>
-        ensures { IfOk result (λ arch. arch ≡ first bare) }
-    {
-        let custom = initials_of(&[]);
-        match RandomAccess::new(alloc) {
-            Ok(mem) => Ok(Arch {
-                pc: 0,
-                x: [0; 32],
-                custom,
-                mem,
-                trap: None,
-            }),
-            Err(error) => Err(error),
-        }
     }
 }

@@ -4,8 +4,8 @@ ghost use Rattle.ix_extension.specs.WellFormed.{IsWellFormed};
 ghost use Rattle.rv_seq.specs.Interrupts.{return_to as specified_return_to, is_return as specified_is_return, resumed, is_enabled, diverted};
 
 use crate::arch::{Arch, TrapState};
+use crate::decoding::decode_in;
 use ix_tree::Extension;
-use rv_effect::decode_in;
 
 /// MRET (RISC-V Privileged ISA, trap-return instructions).
 const MRET: u32 = 0x3020_0073;

@@ -2,8 +2,8 @@ ghost use Rattle.std.specs.Prelude.{◌≡◌};
 ghost use Rattle.ix_extension.specs.Extensions.{view_extension};
 ghost use Rattle.ix_extension.specs.WellFormed.{IsWellFormed};
 ghost use Rattle.ix_eval.specs.Scratches.{IsScratchOf};
-ghost use Rattle.rv_effect.specs.WordEffects.{AreWide};
-ghost use Rattle.rv_effect.specs.Decoding.{IsIn};
+ghost use Rattle.rv_seq.specs.WordEffects.{AreWide};
+ghost use Rattle.rv_seq.specs.Decoding.{IsIn};
 ghost use Rattle.rv_seq.specs.States.{state_at as specified_state_at};
 ghost use Rattle.rv_seq.specs.Steps.{word_at as specified_word_at, return_effect as specified_return_effect, attempted, of_return, step, after};
 ghost use Rattle.rv_seq.specs.Sound.{IsSound};
@@ -12,11 +12,13 @@ use crate::answer::StepAnswer;
 use crate::applying::{apply, commit_of};
 use crate::arch::Arch;
 use crate::commit::Stop;
+use crate::decoded::Decoded;
+use crate::decoding::{decode_in, rs1_of, rs2_of};
 use crate::interrupts::{is_return, resume, return_to};
 use crate::stopping::stop_of;
+use crate::word_effect::{blocks_effect, effect_of, over};
 use ix_eval::{Effect, Inputs, Scratch};
 use ix_tree::Extension;
-use rv_effect::{Decoded, blocks_effect, decode_in, effect_of, over, rs1_of, rs2_of};
 use rv_isa::Image;
 
 /// The word at an address of the image, where the address is divisible by 4 and inside it.

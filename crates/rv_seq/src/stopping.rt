@@ -2,9 +2,9 @@ ghost use Rattle.std.specs.Prelude.{◌≡◌};
 ghost use Rattle.rv_seq.specs.Stops.{access_stop as specified_access_stop, load_stop as specified_load_stop, store_stop as specified_store_stop, call_stop as specified_call_stop, target_stop as specified_target_stop, stop_of as specified_stop_of};
 
 use crate::commit::Stop;
+use crate::decoded::Decoded;
 use ix_eval::{Access, Effect};
 use rv_base::{Operation, operation_of};
-use rv_effect::Decoded;
 use rv_memory::is_inside;
 
 /// Why an access of the memory stops the run.

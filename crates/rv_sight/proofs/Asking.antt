@@ -12,7 +12,7 @@ use Rattle.ix_plan.specs.declared.design.Design.{Design}
 use Rattle.rv_core.specs.declared.Shape.{Shape}
 use Rattle.rv_isa.specs.declared.base.Base.{Base}
 use Rattle.rv_isa.specs.Fields.{rs1_of, rs2_of}
-use Rattle.rv_effect.specs.declared.decoded.Decoded.TheVariants as D
+use Rattle.rv_seq.specs.declared.decoded.Decoded.TheVariants as D
 use Rattle.rv_asks.specs.declared.asks.Act.{Act}
 use Rattle.rv_asks.specs.declared.asks.Asks.{Asks}
 use Rattle.rv_asks.specs.declared.asks.Outline.{Outline}

@@ -14,7 +14,7 @@ use Rattle.rv_base.specs.declared.operation.Operation.TheVariants as O
 use Rattle.rv_base.specs.declared.operation.Size.{Size}
 use Rattle.rv_base.specs.Operations.{bytes_in, operations, operation_at}
 use Rattle.rv_base.specs.Effects.{result_as, result_at, target_as, target_at, address_at, load_as, load_at, loaded_at, store_as, store_at}
-use Rattle.rv_effect.specs.BaseEffects.{base_access, base_store, base_rd, base_effect}
+use Rattle.rv_seq.specs.BaseEffects.{base_access, base_store, base_rd, base_effect}
 use Rattle.ix_eval.specs.declared.effect.Effect.{Effect}
 use Rattle.ix_mean.specs.Meaning.{Inputs}
 

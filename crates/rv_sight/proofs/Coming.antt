@@ -11,9 +11,9 @@ use Rattle.ix_eval.specs.declared.access.Access.{Access}
 use Rattle.ix_eval.specs.declared.effect.Effect.{Effect}
 use Rattle.rv_isa.specs.declared.base.Base.{Base}
 use Rattle.rv_isa.specs.Fields.{rd_of}
-use Rattle.rv_effect.specs.declared.decoded.Decoded.{Decoded}
-use Rattle.rv_effect.specs.declared.decoded.Decoded.TheVariants as D
-use Rattle.rv_effect.specs.WordEffects.{customs_over, over, blocks_effect}
+use Rattle.rv_seq.specs.declared.decoded.Decoded.{Decoded}
+use Rattle.rv_seq.specs.declared.decoded.Decoded.TheVariants as D
+use Rattle.rv_seq.specs.WordEffects.{customs_over, over, blocks_effect}
 use Rattle.rv_asks.specs.declared.asks.Asks.{Asks}
 use Rattle.rv_seq.specs.declared.arch.Arch.{Arch}
 use Rattle.rv_seq.specs.declared.answer.StepAnswer.{StepAnswer}

@@ -25,9 +25,9 @@ use Rattle.rv_asks.specs.declared.asks.Act.{Act}
 use Rattle.rv_asks.specs.declared.asks.Asks.{Asks}
 use Rattle.rv_asks.specs.Acts as acts
 use Rattle.rv_asks.specs.Asks.{flags, some_so, block_acts, asks_in}
-use Rattle.rv_effect.specs.declared.decoded.Decoded.{Decoded}
-use Rattle.rv_effect.specs.declared.decoded.Decoded.TheVariants as D
-use Rattle.rv_effect.specs.Decoding.{decoded_in}
+use Rattle.rv_seq.specs.declared.decoded.Decoded.{Decoded}
+use Rattle.rv_seq.specs.declared.decoded.Decoded.TheVariants as D
+use Rattle.rv_seq.specs.Decoding.{decoded_in}
 use Rattle.rv_lawful.specs.Sight.{SpawnsNothing}
 use Rattle.rv_lawful.specs.Outstanding.{is_register, has_target, touches}
 use Rattle.rv_sight.specs.InUnits.{AreInUnits}

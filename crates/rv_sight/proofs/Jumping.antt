@@ -11,8 +11,8 @@ use Rattle.ix_depends.specs.Laws.{BlindLaw}
 use Rattle.ix_eval.specs.Evaluated.{effect_at}
 use Rattle.ix_plan.specs.declared.design.Design.{Design}
 use Rattle.ix_standing.specs.Standing.{Stands}
-use Rattle.rv_effect.specs.Memory.{peeked}
-use Rattle.rv_effect.specs.WordEffects.{blocks_effect}
+use Rattle.rv_seq.specs.Memory.{peeked}
+use Rattle.rv_seq.specs.WordEffects.{blocks_effect}
 use Rattle.rv_lawful.specs.Sight.{JumpLaw}
 use Rattle.rv_sight.proofs.Coming.{IsSameBlocks, over_blocks}
 use Rattle.rv_sight.proofs.Parts.{pc_same, customs_same}

@@ -7,9 +7,9 @@ use Rattle.rv_asks.specs.declared.asks.Asks.{Asks}
 use Rattle.rv_asks.specs.declared.asks.Outline.{Outline}
 use Rattle.rv_asks.specs.Asks.{where_so, some_so, with_word, outlines_in, blank_in, asks_in}
 use Rattle.rv_unit.specs.Numbering.{unit_of}
-use Rattle.rv_effect.specs.Decoding.{decoded_in}
-use Rattle.rv_effect.specs.declared.decoded.Decoded.{Decoded}
-use Rattle.rv_effect.specs.declared.decoded.Decoded.TheVariants as D
+use Rattle.rv_seq.specs.Decoding.{decoded_in}
+use Rattle.rv_seq.specs.declared.decoded.Decoded.{Decoded}
+use Rattle.rv_seq.specs.declared.decoded.Decoded.TheVariants as D
 use Rattle.rv_isa.specs.Fields.{rd_of}
 use Rattle.rv_lawful.specs.Sight.{asked}
 

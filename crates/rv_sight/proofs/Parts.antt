@@ -23,7 +23,7 @@ use Rattle.ix_eval.specs.Evaluated.{pattern_written, bits_written, store_of, rea
 use Rattle.ix_eval.specs.declared.access.Access.{Access}
 use Rattle.ix_eval.specs.declared.effect.Effect.{Effect}
 use Rattle.ix_depends.specs.Depends.{AreLowWrites, value_of_write, value_written}
-use Rattle.rv_effect.specs.WordEffects.{AreWide}
+use Rattle.rv_seq.specs.WordEffects.{AreWide}
 use Rattle.rv_seq.specs.States.{zero_bit}
 
 -- ---- tables

@@ -13,8 +13,8 @@ use Rattle.ix_plan.specs.declared.design.Design.{Design}
 use Rattle.ix_standing.specs.Standing.{instruction_number, block_number, behaviours_of, IsPlanned, Stands}
 use Rattle.rv_isa.specs.declared.base.Base.{Base}
 use Rattle.rv_isa.specs.Decoded.{decoded}
-use Rattle.rv_effect.specs.declared.decoded.Decoded.TheVariants as D
-use Rattle.rv_effect.specs.Decoding.{is_word_of, own_from, base_or_own, decoded_in}
+use Rattle.rv_seq.specs.declared.decoded.Decoded.TheVariants as D
+use Rattle.rv_seq.specs.Decoding.{is_word_of, own_from, base_or_own, decoded_in}
 
 -- ---- places of lists
 range_at : (a n m : ℕ) → m < n → slice_get (range_with_len a n) m ≡ Some (a + m)

@@ -28,10 +28,10 @@ use Rattle.rv_base.specs.Effects.{load_at, store_at}
 use Rattle.rv_isa.specs.declared.base.Base.{Base}
 use Rattle.rv_isa.specs.Fields.{rd_of, rs1_of, rs2_of}
 use Rattle.rv_isa.specs.Decoded.{decoded}
-use Rattle.rv_effect.specs.BaseEffects.{base_store, base_effect}
-use Rattle.rv_effect.specs.Memory.{peeked}
-use Rattle.rv_effect.specs.WordEffects.{effect_of, over, blocks_effect, AreWide}
-use Rattle.rv_effect.specs.declared.decoded.Decoded.TheVariants as D
+use Rattle.rv_seq.specs.BaseEffects.{base_store, base_effect}
+use Rattle.rv_seq.specs.Memory.{peeked}
+use Rattle.rv_seq.specs.WordEffects.{effect_of, over, blocks_effect, AreWide}
+use Rattle.rv_seq.specs.declared.decoded.Decoded.TheVariants as D
 use Rattle.rv_asks.specs.declared.asks.Asks.{Asks}
 use Rattle.rv_asks.specs.Acts as acts
 use Rattle.rv_unit.specs.Numbering.{unit_of}

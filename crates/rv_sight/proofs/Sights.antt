@@ -11,12 +11,12 @@ use Rattle.ix_plan.specs.declared.design.Design.{Design}
 use Rattle.ix_standing.specs.Standing.{Stands}
 use Rattle.ix_eval.specs.Evaluated.{effect_at}
 use Rattle.ix_eval.specs.declared.effect.Effect.{Effect}
-use Rattle.rv_effect.specs.BaseEffects.{base_effect}
-use Rattle.rv_effect.specs.Decoding.{decoded_in}
-use Rattle.rv_effect.specs.Memory.{peeked}
-use Rattle.rv_effect.specs.WordEffects.{over, blocks_effect, AreWide}
-use Rattle.rv_effect.specs.declared.decoded.Decoded.{Decoded}
-use Rattle.rv_effect.specs.declared.decoded.Decoded.TheVariants as D
+use Rattle.rv_seq.specs.BaseEffects.{base_effect}
+use Rattle.rv_seq.specs.Decoding.{decoded_in}
+use Rattle.rv_seq.specs.Memory.{peeked}
+use Rattle.rv_seq.specs.WordEffects.{over, blocks_effect, AreWide}
+use Rattle.rv_seq.specs.declared.decoded.Decoded.{Decoded}
+use Rattle.rv_seq.specs.declared.decoded.Decoded.TheVariants as D
 use Rattle.rv_asks.specs.declared.asks.Asks.{Asks}
 use Rattle.rv_unit.specs.Numbering.{unit_of}
 use Rattle.rv_asks.specs.Asks.{tail_of, with_word, base_asks, blank_in, asks_in}

@@ -5,7 +5,7 @@ use Rattle.ix_plan.specs.declared.design.Design.{Design}
 use Rattle.rv_isa.specs.declared.base.Base.{Base}
 use Rattle.rv_asks.specs.Acts as acts
 use Rattle.rv_asks.specs.Asks.{flags, asks_in}
-use Rattle.rv_effect.specs.declared.decoded.Decoded.TheVariants as D
+use Rattle.rv_seq.specs.declared.decoded.Decoded.TheVariants as D
 use Rattle.rv_lawful.specs.Sight.{SpawnsNothing}
 use Rattle.rv_sight.proofs.Asking.{base_asks_are, none_asks}
 

@@ -3,8 +3,8 @@ use Rattle.std.specs.Prelude.{◌≡◌, ◌≢◌, ◌⊎◌, ℕ, ◌<◌, ◌
 use Rattle.ix_extension.specs.Extensions.{view_extension}
 use Rattle.ix_plan.specs.declared.design.Design.{Design}
 use Rattle.rv_asks.specs.declared.asks.Asks.{Asks}
-use Rattle.rv_effect.specs.Decoding.{decoded_in}
-use Rattle.rv_effect.specs.WordEffects.{AreWide}
+use Rattle.rv_seq.specs.Decoding.{decoded_in}
+use Rattle.rv_seq.specs.WordEffects.{AreWide}
 use Rattle.rv_seq.specs.declared.arch.Arch.{Arch}
 use Rattle.rv_seq.specs.declared.answer.StepAnswer.TheVariants.{Done}
 use Rattle.rv_seq.specs.declared.commit.Commit.{Commit}

@@ -4,7 +4,7 @@ ghost use Rattle.ix_extension.specs.WellFormed.{IsWellFormed};
 ghost use Rattle.ix_eval.specs.Scratches.{IsScratchOf};
 ghost use Rattle.ix_io.specs.Faults.{Rose};
 ghost use Rattle.ix_io.specs.Sink.{Appends, AppendsFront};
-ghost use Rattle.rv_effect.specs.WordEffects.{AreWide};
+ghost use Rattle.rv_seq.specs.WordEffects.{AreWide};
 ghost use Rattle.rv_seq.specs.States.{first};
 ghost use Rattle.rv_text.specs.RunText.{state_text, lines_from, run_text};
 ghost use Rattle.rv_text.specs.Telling.{Carries, Breaks};

@@ -14,9 +14,9 @@ use Rattle.ix_eval.specs.Tables.{table}
 use Rattle.ix_eval.proofs.Tables.{table_at}
 use Rattle.ix_eval.specs.Evaluated.{bits_written, type_of_custom, written, custom_written, effect_at}
 use Rattle.ix_eval.specs.declared.effect.Effect.{Effect}
-use Rattle.rv_effect.specs.declared.decoded.Decoded.{Decoded}
-use Rattle.rv_effect.specs.Memory.{peeked}
-use Rattle.rv_effect.specs.WordEffects.{customs_over, over, blocks_effect}
+use Rattle.rv_seq.specs.declared.decoded.Decoded.{Decoded}
+use Rattle.rv_seq.specs.Memory.{peeked}
+use Rattle.rv_seq.specs.WordEffects.{customs_over, over, blocks_effect}
 use Rattle.rv_seq.specs.declared.answer.StepAnswer.TheVariants.{Done}
 use Rattle.rv_seq.specs.declared.commit.Commit.{Commit}
 use Rattle.rv_seq.specs.declared.commit.Slot.TheVariants.{Absent}

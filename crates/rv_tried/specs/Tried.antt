@@ -7,9 +7,9 @@ use Rattle.ix_mean.specs.declared.evaluate.State.{State}
 use Rattle.ix_mean.specs.Given.{inputs_of}
 use Rattle.ix_eval.specs.declared.access.Access.{Access}
 use Rattle.ix_eval.specs.declared.effect.Effect.{Effect}
-use Rattle.rv_effect.specs.declared.decoded.Decoded.{Decoded}
-use Rattle.rv_effect.specs.Memory.{peeked}
-use Rattle.rv_effect.specs.WordEffects.{effect_of, over, blocks_effect}
+use Rattle.rv_seq.specs.declared.decoded.Decoded.{Decoded}
+use Rattle.rv_seq.specs.Memory.{peeked}
+use Rattle.rv_seq.specs.WordEffects.{effect_of, over, blocks_effect}
 use Rattle.rv_seq.specs.declared.answer.StepAnswer.TheVariants.{Done, Stopped}
 use Rattle.rv_seq.specs.declared.commit.Stop.{Stop}
 use Rattle.rv_seq.specs.declared.commit.Stop.TheVariants.{Illegal}

@@ -4,7 +4,7 @@ use Rattle.ix_bits.specs.declared.number.Bits.{Bits}
 use Rattle.ix_extension.specs.Extensions.{ExtensionTree}
 use Rattle.ix_eval.specs.Evaluated.{type_of_custom}
 use Rattle.ix_mean.specs.declared.evaluate.State.{State}
-use Rattle.rv_effect.specs.declared.decoded.Decoded.{Decoded}
+use Rattle.rv_seq.specs.declared.decoded.Decoded.{Decoded}
 use Rattle.rv_seq.specs.declared.answer.StepAnswer.TheVariants.{Done}
 use Rattle.rv_seq.specs.declared.commit.Commit.{Commit}
 use Rattle.rv_seq.specs.declared.commit.Slot.TheVariants.{Absent, Now}

@@ -1,6 +1,6 @@
 ghost use Rattle.std.specs.Prelude.{◌≡◌, ℕ, List, Some};
 ghost use Rattle.ix_extension.specs.Extensions.{ExtensionTree};
-ghost use Rattle.rv_effect.specs.Decoding.{decoded_in};
+ghost use Rattle.rv_seq.specs.Decoding.{decoded_in};
 ghost use Rattle.rv_seq.specs.declared.arch.Arch.{Arch};
 ghost use Rattle.rv_seq.specs.States.{state_at};
 ghost use Rattle.rv_seq.specs.Interrupts.{return_to};

@@ -6,5 +6,5 @@ mod parts;
 mod trial;
 
 pub use laws::trial_laws;
-pub use parts::{Spawned, native, shown, spawn_writes};
+pub use parts::{Spawned, apply_native, shown, spawn_writes};
 pub use trial::{Trial, try_word};

@@ -1,11 +1,11 @@
 ghost use Rattle.std.specs.Prelude.{◌≡◌, ◌&&◌, if◌then◌else◌};
 ghost use Rattle.rv_seq.specs.declared.commit.Slot.TheVariants.{Absent, Later};
-ghost use Rattle.rv_seq.specs.Commits.{slot_of as specified_slot_of};
+ghost use Rattle.rv_seq.specs.Commits.{IsStoredInside, applied, slot_of as specified_slot_of, with_customs, with_slot, with_x};
 ghost use Rattle.rv_tried.specs.Parts as specified;
 
 use ix_bits::Bits;
 use rv_asks::Asks;
-use rv_seq::{Commit, Slot};
+use rv_seq::{Arch, Commit, Slot, put_custom, put_store, put_x};
 
 /// What a `spawn` body writes when its turn comes.
 #[derive(Clone, Copy, Debug, PartialEq, Eq)]
@@ -14,16 +14,6 @@ pub struct Spawned {
     pub rd_index: u8,
     pub rd: Slot<u32>,
     pub custom: [Slot<Bits>; 16],
-}
-
-// What is written to a custom register.
-fn slot_of(value: Option<Bits>) -> Slot<Bits>
-    ensures { result ≡ specified_slot_of value }
-{
-    match value {
-        Some(value) => Slot::Now(value),
-        None => Slot::Absent,
-    }
 }
 
 // What a retirement shows of a custom register.
@@ -61,43 +51,69 @@ pub fn shown(asks: &Asks, commit: &Commit) -> Commit
     }
 }
 
-// What is written to a custom register at retirement, where the blocks write this to it.
-fn native_slot(is_spawned: bool, block: Option<Bits>, slot: Slot<Bits>) -> Slot<Bits>
-    ensures { result ≡ (if is_spawned then specified_slot_of block else slot) }
+// Writes what is written to an x register at retirement: nothing, where a `spawn` body writes one.
+fn put_native_x(x: &mut [u32], spawned: Option<u8>, rd: u8, slot: Slot<u32>)
+    ensures { x.new ≡ with_x x.old (specified.native_index spawned rd) (specified.native_x spawned slot) }
 {
-    if is_spawned { slot_of(block) } else { slot }
+    if spawned.is_none() {
+        put_x(x, rd, slot);
+    }
 }
 
-// What is written to the custom registers at retirement.
-fn native_customs(
+// Writes a custom register as blocks do.
+fn put_block(register: &mut Bits, block: &Option<Bits>)
+    ensures { register.new ≡ with_slot register.old (specified_slot_of block.now) }
+{
+    if let Some(value) = block {
+        *register = *value;
+    }
+}
+
+// Writes what is written to a custom register at retirement, where the blocks write this to it.
+fn put_native(register: &mut Bits, is_spawned: bool, block: &Option<Bits>, slot: &Slot<Bits>)
+    ensures { register.new ≡ with_slot register.old (if is_spawned then specified_slot_of block.now else slot.now) }
+{
+    if is_spawned {
+        put_block(register, block);
+    } else {
+        put_custom(register, slot);
+    }
+}
+
+// Writes what is written to the custom registers at retirement.
+fn put_natives(
+    file: &mut [Bits; 16],
     spawned: &[bool; 16],
     blocks: &[Option<Bits>; 16],
     slots: &[Slot<Bits>; 16],
-) -> [Slot<Bits>; 16]
-    ensures { result ≡ specified.native_customs spawned.now blocks.now slots.now }
+)
+    ensures { file.new ≡ with_customs file.old (specified.native_customs spawned.now blocks.now slots.now) }
 {
-    let mut all = [Slot::Absent; 16];
     for number in 0..16usize {
-        all[number] = native_slot(spawned[number], blocks[number], slots[number]);
+        put_native(
+            &mut file[number],
+            spawned[number],
+            &blocks[number],
+            &slots[number],
+        );
     }
-    all
 }
 
-/// What is written at retirement: all but the writes of the `spawn` body, where the always-blocks write these custom registers.
-#[tactic(auto, unfolding(crate::specs::Parts::native))]
-pub fn native(asks: &Asks, blocks: &[Option<Bits>; 16], commit: &Commit) -> Commit
-    ensures { result ≡ specified.native asks.now blocks.now commit.now }
+/// Makes the writes of retirement: all of a commit, whose store lies in the memory, but the writes of the `spawn` body, where the always-blocks write these custom registers.
+#[tactic(auto, unfolding(crate::specs::Parts::native, rv_seq::specs::Commits::applied))]
+pub fn apply_native(arch: &mut Arch, asks: &Asks, blocks: &[Option<Bits>; 16], commit: &Commit)
+    requires { IsStoredInside commit.now.store }
+    ensures { arch.new ≡ applied (specified.native asks.now blocks.now commit.now) arch.old }
 {
-    let custom = native_customs(&asks.spawned_customs, blocks, &commit.custom);
-    match asks.spawned {
-        None => Commit { custom, ..*commit },
-        Some(_) => Commit {
-            rd_index: 0,
-            rd: Slot::Absent,
-            custom,
-            ..*commit
-        },
-    }
+    arch.pc = commit.next;
+    put_native_x(&mut arch.x, asks.spawned, commit.rd_index, commit.rd);
+    put_natives(
+        &mut arch.custom,
+        &asks.spawned_customs,
+        blocks,
+        &commit.custom,
+    );
+    put_store(&mut arch.mem, commit.store);
 }
 
 // What a `spawn` body writes to a custom register, where the instruction itself writes it.

@@ -3,8 +3,8 @@ ghost use Rattle.ix_mean.specs.Given.{inputs_of};
 ghost use Rattle.ix_extension.specs.Extensions.{view_extension};
 ghost use Rattle.ix_extension.specs.WellFormed.{IsWellFormed};
 ghost use Rattle.ix_eval.specs.Scratches.{IsScratchOf};
-ghost use Rattle.rv_effect.specs.WordEffects.{AreWide};
-ghost use Rattle.rv_effect.specs.Decoding.{IsIn};
+ghost use Rattle.rv_seq.specs.WordEffects.{AreWide};
+ghost use Rattle.rv_seq.specs.Decoding.{IsIn};
 ghost use Rattle.rv_seq.specs.Runs.{access_in};
 ghost use Rattle.rv_seq.specs.Sound.{IsSound};
 ghost use Rattle.rv_seq.specs.declared.answer.StepAnswer.TheVariants.{Stopped};
@@ -15,9 +15,10 @@ use crate::laws::trial_laws;
 use ix_bits::Bits;
 use ix_eval::{Access, Effect, Inputs, Scratch};
 use ix_tree::Extension;
-use rv_effect::{Decoded, blocks_effect, effect_of, over};
 use rv_memory::RandomAccess;
-use rv_seq::{StepAnswer, Stop, commit_of, return_effect, stop_of};
+use rv_seq::{
+    Decoded, StepAnswer, Stop, blocks_effect, commit_of, effect_of, over, return_effect, stop_of,
+};
 
 /// What a word comes to.
 #[derive(Clone, Copy, Debug, PartialEq, Eq)]

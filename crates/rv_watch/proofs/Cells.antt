@@ -8,8 +8,8 @@ use Rattle.rv_trace.specs.RowParts.{names_of}
 use Rattle.rv_lawful.specs.Settings.{Setting, stages_of, Stands}
 use Rattle.rv_lawful.specs.LawfulTrace.{LawfulRow, new_cell}
 use Rattle.rv_rows.specs.Facts.{IsPlain, AreGoingOn, cells_in, MoveAbove, MovesAbove, AboveFacts}
-use Rattle.rv_kinds.specs.Kinds.{is_of_cell, GoesOnAs, MovesRightly}
-use Rattle.rv_kinds.proofs.Moving.{above_of}
+use Rattle.rv_rows.specs.Kinds.{is_of_cell, GoesOnAs, MovesRightly}
+use Rattle.rv_rows.proofs.Moving.{above_of}
 
 -- ---- moves
 

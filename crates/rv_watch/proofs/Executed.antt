@@ -10,8 +10,8 @@ use Rattle.rv_seq.specs.declared.commit.Stop.{Stop}
 use Rattle.rv_seq.specs.declared.answer.StepAnswer.TheVariants.{Done}
 use Rattle.rv_seq.specs.Sound.{IsSound}
 use Rattle.rv_seq.specs.Steps.{word_at}
-use Rattle.rv_steps.specs.declared.step.Step.{Step}
-use Rattle.rv_steps.specs.Steps.{step_at}
+use Rattle.rv_past.specs.declared.step.Step.{Step}
+use Rattle.rv_past.specs.Steps.{step_at}
 use Rattle.rv_tried.specs.Whole.{AreBlocksWide}
 use Rattle.rv_trace.specs.declared.row.Cell.{Cell}
 use Rattle.rv_trace.specs.declared.row.Row.{Row}
@@ -24,8 +24,8 @@ use Rattle.rv_lawful.specs.Entering.{is_line_pending, is_interrupted}
 use Rattle.rv_lawful.specs.Future.{cell_in, going_on, leaves_execute}
 use Rattle.rv_lawful.specs.LawfulTrace.{LawfulRow, OwnHold, StopsRun, IsFlushedByMismatch, IsFlushedByEntry}
 use Rattle.rv_rows.specs.Facts.{IsPlain, AreGoingOn, AboveFacts, FirstFacts, RowFacts}
-use Rattle.rv_gone.specs.Recorded.{HasWords}
-use Rattle.rv_made.specs.declared.due.Due.{Due}
+use Rattle.rv_rows.specs.Recorded.{HasWords}
+use Rattle.rv_past.specs.declared.due.Due.{Due}
 use Rattle.rv_past.specs.Past.{IsExecutedStep}
 use Rattle.rv_watch.proofs.Tests.{differ, not_true, false_or}
 use Rattle.rv_watch.proofs.Cells.{lawful_above}

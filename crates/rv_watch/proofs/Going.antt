@@ -8,10 +8,10 @@ use Rattle.rv_trace.specs.declared.row.Row.{Row}
 use Rattle.rv_trace.specs.Trace.{retirements}
 use Rattle.rv_lawful.specs.Settings.{Setting, Stands, stood, tailed}
 use Rattle.rv_lawful.specs.LawfulTrace.{fetch_address, next_serial}
-use Rattle.rv_kept.specs.declared.kept.Kept.{Kept}
-use Rattle.rv_kept.specs.Kept.{IsKept}
-use Rattle.rv_known.specs.declared.known.Known.{Known}
-use Rattle.rv_known.specs.Known.{IsKnown}
+use Rattle.rv_watch.specs.declared.kept.Kept.{Kept}
+use Rattle.rv_watch.specs.Kept.{IsKept}
+use Rattle.rv_rows.specs.declared.known.Known.{Known}
+use Rattle.rv_rows.specs.Known.{IsKnown}
 use Rattle.rv_watch.specs.Parts.{does_spawn}
 
 -- what is asked of the cell of stage 0

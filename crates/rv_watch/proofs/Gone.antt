@@ -7,8 +7,8 @@ use Rattle.rv_trace.specs.Trace.{retires, is_retired, place, retirements}
 use Rattle.rv_lawful.specs.Settings.{Setting}
 use Rattle.rv_lawful.specs.LawfulTrace.{Lawful}
 use Rattle.rv_rows.specs.Facts.{IsPlain}
-use Rattle.rv_gone.specs.Recorded.{HasWords}
-use Rattle.rv_gone.specs.Gone.{GoneLaw}
+use Rattle.rv_rows.specs.Recorded.{HasWords}
+use Rattle.rv_rows.specs.Gone.{GoneLaw}
 use Rattle.rv_watch.proofs.Tests.{same_number, or_true}
 
 none_retired : (j : ℕ) → is_retired [] j ≡ true → ⊥

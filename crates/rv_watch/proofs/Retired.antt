@@ -16,8 +16,8 @@ use Rattle.rv_seq.specs.declared.answer.StepAnswer.{StepAnswer}
 use Rattle.rv_seq.specs.declared.answer.StepAnswer.TheVariants.{Done, Stopped}
 use Rattle.rv_seq.specs.Commits.{IsStoredInside}
 use Rattle.rv_seq.specs.Sound.{IsNowWide, IsSound}
-use Rattle.rv_steps.specs.declared.step.Step.{Step}
-use Rattle.rv_steps.specs.Steps.{step_at}
+use Rattle.rv_past.specs.declared.step.Step.{Step}
+use Rattle.rv_past.specs.Steps.{step_at}
 use Rattle.rv_tried.specs.declared.parts.Spawned.{Spawned}
 use Rattle.rv_tried.specs.Parts.{shown, spawned}
 use Rattle.rv_tried.specs.Whole.{AreBlocksWide}
@@ -27,11 +27,11 @@ use Rattle.rv_lawful.specs.Settings.{Setting}
 use Rattle.rv_lawful.specs.Outstanding.{Written, in_unit, entering}
 use Rattle.rv_lawful.specs.LawfulTrace.{serial_in}
 use Rattle.rv_lawful.specs.Headline.{IsRecord, IsSpawnWrite}
-use Rattle.rv_kinds.specs.Made.{record_of, retired_made}
-use Rattle.rv_gone.specs.Recorded.{IsRecorded}
-use Rattle.rv_made.specs.declared.due.Due.{Due}
-use Rattle.rv_made.specs.Due.{IsDue}
-use Rattle.rv_made.specs.Making.{IsStored, IsWrittenWide}
+use Rattle.rv_rows.specs.Made.{record_of, retired_made}
+use Rattle.rv_rows.specs.Recorded.{IsRecorded}
+use Rattle.rv_past.specs.declared.due.Due.{Due}
+use Rattle.rv_past.specs.Due.{IsDue}
+use Rattle.rv_past.specs.Making.{IsStored, IsWrittenWide}
 use Rattle.rv_owing.specs.Kept.{unit_entering}
 use Rattle.rv_owing.specs.Owing.{into_unit, entering_of}
 use Rattle.rv_past.specs.Past.{IsRetiredStep}

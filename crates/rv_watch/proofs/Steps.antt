@@ -5,9 +5,9 @@ use Rattle.std.proofs.lemmas.Bool.{cases_lt}
 use Rattle.std.proofs.lemmas.Option.{same_Some}
 use Rattle.ix_extension.specs.Extensions.{ExtensionTree}
 use Rattle.rv_lawful.specs.Settings.{Course, course_of}
-use Rattle.rv_steps.specs.declared.step.Step.{Step}
-use Rattle.rv_steps.specs.declared.steps.Steps.{Steps}
-use Rattle.rv_steps.specs.Steps.{step_at, first_steps, AreSteps}
+use Rattle.rv_past.specs.declared.step.Step.{Step}
+use Rattle.rv_past.specs.declared.steps.Steps.{Steps}
+use Rattle.rv_past.specs.Steps.{step_at, first_steps, AreSteps}
 
 longer : {A : Type 0} (l : List A) (y : A) → length (l ++ y ∷ []) ≡ suc (length l)
 longer [] y = refl

@@ -4,8 +4,8 @@ use Rattle.std.specs.Prelude.{slice_get, if◌then◌else◌, is_some}
 use Rattle.std.proofs.lemmas.Option.{same_Some}
 use Rattle.rv_asks.specs.declared.asks.Asks.{Asks}
 use Rattle.rv_seq.specs.declared.commit.Commit.{Commit}
-use Rattle.rv_steps.specs.declared.step.Step.{Step}
-use Rattle.rv_steps.specs.Steps.{step_at}
+use Rattle.rv_past.specs.declared.step.Step.{Step}
+use Rattle.rv_past.specs.Steps.{step_at}
 use Rattle.rv_trace.specs.declared.row.Cell.{Cell}
 use Rattle.rv_trace.specs.declared.row.Row.{Row}
 use Rattle.rv_trace.specs.Trace.{place, retirements, newest}
@@ -13,11 +13,11 @@ use Rattle.rv_lawful.specs.Settings.{Setting, stages_of, Stands, stood, tailed}
 use Rattle.rv_lawful.specs.Outstanding.{in_unit, entering, is_written}
 use Rattle.rv_lawful.specs.LawfulTrace.{serial_in}
 use Rattle.rv_rows.specs.Facts.{IsPlain, AreGoingOn, MovesAbove, AboveFacts}
-use Rattle.rv_kinds.specs.Kinds.{MovesRightly}
-use Rattle.rv_kept.specs.declared.kept.Kept.{Kept}
-use Rattle.rv_kept.specs.Kept.{was_here, IsKept}
-use Rattle.rv_kept.proofs.Keeping.{stood_before, tailed_before}
-use Rattle.rv_known.specs.Known.{IsOwing}
+use Rattle.rv_rows.specs.Kinds.{MovesRightly}
+use Rattle.rv_watch.specs.declared.kept.Kept.{Kept}
+use Rattle.rv_watch.specs.Kept.{was_here, IsKept}
+use Rattle.rv_watch.proofs.Keeping.{stood_before, tailed_before}
+use Rattle.rv_rows.specs.Known.{IsOwing}
 use Rattle.rv_watch.specs.Parts.{so_far}
 use Rattle.rv_watch.proofs.Tests.{differ, not_true, get_first, taken_below}
 use Rattle.rv_watch.proofs.Cells.{low_place}

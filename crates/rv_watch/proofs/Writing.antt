@@ -5,14 +5,14 @@ use Rattle.rv_asks.specs.declared.asks.Asks.{Asks}
 use Rattle.rv_seq.specs.declared.commit.Commit.{Commit}
 use Rattle.rv_seq.specs.declared.answer.StepAnswer.{StepAnswer}
 use Rattle.rv_seq.specs.declared.answer.StepAnswer.TheVariants.{Done, Stopped}
-use Rattle.rv_steps.specs.declared.step.Step.{Step}
-use Rattle.rv_steps.specs.Steps.{step_at}
+use Rattle.rv_past.specs.declared.step.Step.{Step}
+use Rattle.rv_past.specs.Steps.{step_at}
 use Rattle.rv_trace.specs.declared.row.Row.{Row}
 use Rattle.rv_trace.specs.Trace.{place, retirements, is_retired}
 use Rattle.rv_lawful.specs.Settings.{Setting}
-use Rattle.rv_known.specs.Known.{IsOwing}
-use Rattle.rv_made.specs.declared.due.Due.{Due}
-use Rattle.rv_made.specs.Making.{IsWriting}
+use Rattle.rv_rows.specs.Known.{IsOwing}
+use Rattle.rv_past.specs.declared.due.Due.{Due}
+use Rattle.rv_past.specs.Making.{IsWriting}
 use Rattle.rv_owing.specs.Owing.{AreDueBehind, PlacedLaw}
 use Rattle.rv_watch.specs.Parts.{IsDueStep}
 

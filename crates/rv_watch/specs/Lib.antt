@@ -1,2 +1,11 @@
 pub mod Watched
 pub mod Parts
+pub mod Kept
+pub mod Seen
+pub mod Places
+pub mod Seeing
+pub mod Audited
+pub mod Faults
+pub mod AuditLaws
+pub mod Printed
+pub mod Fit

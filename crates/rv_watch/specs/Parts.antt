@@ -6,11 +6,11 @@ use Rattle.rv_trace.specs.declared.row.Cell.{Cell}
 use Rattle.rv_trace.specs.declared.row.Row.{Row}
 use Rattle.rv_lawful.specs.Settings.{Setting}
 use Rattle.rv_lawful.specs.LawfulTrace.{IsWordOf}
-use Rattle.rv_kinds.specs.Kinds.{upper}
-use Rattle.rv_kept.specs.Kept.{was_here}
-use Rattle.rv_made.specs.declared.due.Due.{Due}
+use Rattle.rv_rows.specs.Kinds.{upper}
+use Rattle.rv_watch.specs.Kept.{was_here}
+use Rattle.rv_past.specs.declared.due.Due.{Due}
 use Rattle.rv_owing.specs.Owing.{into_unit}
-use Rattle.rv_steps.specs.declared.step.Step.{Step}
+use Rattle.rv_past.specs.declared.step.Step.{Step}
 
 -- what a row retires into a unit, where this is its step and so many are retired before
 abbrev pub entering_by : Due → ℕ → Option (ℕ × Commit) → Option (ℕ × ℕ × ℕ × Asks)

@@ -11,12 +11,12 @@ use Rattle.rv_trace.specs.declared.row.Row.{Row}
 use Rattle.rv_trace.specs.Trace.{newest, retirements}
 use Rattle.rv_lawful.specs.Settings.{Setting}
 use Rattle.rv_lawful.specs.LawfulTrace.{Lawful}
-use Rattle.rv_gone.specs.Recorded.{AreRecorded}
-use Rattle.rv_fit.specs.Fit.{plain_setting}
-use Rattle.rv_made.specs.declared.due.Due.{Due}
-use Rattle.rv_kept.specs.Kept.{IsKept}
-use Rattle.rv_seen.specs.Seen.{AreSeen}
-use Rattle.rv_steps.specs.Steps.{AreSteps}
+use Rattle.rv_rows.specs.Recorded.{AreRecorded}
+use Rattle.rv_watch.specs.Fit.{plain_setting}
+use Rattle.rv_past.specs.declared.due.Due.{Due}
+use Rattle.rv_watch.specs.Kept.{IsKept}
+use Rattle.rv_watch.specs.Seen.{AreSeen}
+use Rattle.rv_past.specs.Steps.{AreSteps}
 use Rattle.rv_owing.specs.Owing.{IsOwed}
 use Rattle.rv_past.specs.Past.{IsPast}
 use Rattle.rv_watch.specs.declared.against.Against.{Against}

@@ -1,18 +1,16 @@
 ghost use Rattle.std.specs.Prelude.{◌≡◌, ◌<◌, length, Some, slice_get};
 ghost use Rattle.ix_extension.specs.WellFormed.{IsWellFormed};
 ghost use Rattle.rv_asks.specs.Asks.{IsAskingOf};
-ghost use Rattle.rv_made.specs.Due.{IsDue};
-ghost use Rattle.rv_steps.specs.Steps.{AreSteps};
+ghost use Rattle.rv_past.specs.Due.{IsDue};
+ghost use Rattle.rv_past.specs.Steps.{AreSteps};
 ghost use Rattle.rv_watch.specs.Watched.{setting_of, tree_of, asks_by};
 
 use ix_plan::Design;
 use ix_tree::Extension;
 use rv_asks::{Asking, Asks, asks_of};
 use rv_core::Shape;
-use rv_effect::decode_in;
-use rv_made::Due;
-use rv_seq::StepAnswer;
-use rv_steps::{Step, Steps};
+use rv_past::{Due, Step, Steps};
+use rv_seq::{StepAnswer, decode_in};
 use rv_waits::Waits;
 
 /// What a trace is judged against.

@@ -11,29 +11,27 @@ ghost use Rattle.rv_lawful.specs.Settings.{Setting, Stands as StandsIn};
 ghost use Rattle.rv_lawful.specs.Outstanding.{units_after};
 ghost use Rattle.rv_lawful.specs.LawfulTrace.{IsInForm};
 ghost use Rattle.rv_rows.specs.Facts.{IsPlain, AreGoingOn, MovesAbove};
-ghost use Rattle.rv_kinds.specs.Kinds.{MovesRightly, unit_marked};
-ghost use Rattle.rv_kept.specs.Kept.{was_here};
-ghost use Rattle.rv_known.specs.Known.{IsReady, IsKnown, asks_of, stop_in as specified_stop_in};
-ghost use Rattle.rv_made.specs.Due.{IsDue};
+ghost use Rattle.rv_rows.specs.Kinds.{MovesRightly, unit_marked};
+ghost use Rattle.rv_watch.specs.Kept.{was_here};
+ghost use Rattle.rv_rows.specs.Known.{IsReady, IsKnown, asks_of, stop_in as specified_stop_in};
+ghost use Rattle.rv_past.specs.Due.{IsDue};
 ghost use Rattle.rv_owing.specs.Owing.{IsOwed};
-ghost use Rattle.rv_seen.specs.Seen.{AreSeen};
+ghost use Rattle.rv_watch.specs.Seen.{AreSeen};
 ghost use Rattle.rv_watch.specs.declared.against.Against.{Against as AgainstValue};
 ghost use Rattle.rv_watch.specs.Watched.{setting_of, tree_of, IsFitting, IsWatched, AsksOfRetired};
 ghost use Rattle.rv_watch.specs.Parts.{so_far as specified_so_far, TellsPort};
 
 use crate::against::{Against, step_at};
+use crate::fit::settings_fit;
+use crate::seeing::spawns;
 use crate::watch::{Watch, place_at, row_written};
 use ix_eval::Scratch;
 use rv_asks::Asks;
-use rv_fit::settings_fit;
-use rv_known::Known;
-use rv_made::Due;
 use rv_owing::owing_facts;
-use rv_rows::row_facts;
-use rv_seen::spawns;
+use rv_past::{Due, Step};
+use rv_rows::{Known, row_facts};
 use rv_seq::{StepAnswer, Stop};
 use rv_sight::sight_laws;
-use rv_steps::Step;
 use rv_trace::{Cell, Row};
 
 /// What is known before a row is looked at.

@@ -17,7 +17,7 @@ use Rattle.rv_pipe.specs.Machines.{shown_over}
 use Rattle.rv_pipe.proofs.Reaching.{inputs_same}
 use Rattle.rv_ports.specs.Drives.{drives_of}
 use Rattle.rv_ports.specs.Driven.{AreDriven}
-use Rattle.rv_served.specs.Lives.{PromiseLaw}
+use Rattle.rv_machine.specs.Lives.{PromiseLaw}
 use Rattle.rv_wave.specs.Sent.{IsEnded}
 use Rattle.rv_wave.specs.Waves.{IsDesignWave, WaveLaw}
 use Rattle.rv_wave.proofs.Reached.{long_over}

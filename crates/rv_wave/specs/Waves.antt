@@ -12,7 +12,7 @@ use Rattle.rv_nets.specs.NetsLaw.{HaveRun, port_rows}
 use Rattle.rv_pipe.specs.Machines.{shown_over}
 use Rattle.rv_ports.specs.Drives.{drives_of}
 use Rattle.rv_ports.specs.Driven.{AreDriven}
-use Rattle.rv_served.specs.Promise.{AllPromised}
+use Rattle.rv_machine.specs.Promise.{AllPromised}
 
 -- the dump of rows of the machine, as many as the cycles, or fewer where the last one has a stop: in each row the ports show what a run of each module's net does, whose inputs are what the rows drive
 pub record IsDesignWave (d : Design) (image waits : List ℕ) (cycles : ℕ) (text : List ℕ) : Type 0 where

@@ -1,10 +1,7 @@
-use Rattle.std.proofs.Common.{refl, subst, inl, inr, [], ◌∷◌}
+use Rattle.std.proofs.Common.{refl, inl, inr, [], ◌∷◌}
 use Rattle.ix_extension.specs.Extensions.{view_extension}
-use Rattle.ix_schedules.specs.declared.text.TextErr.TheVariants as T
-use Rattle.ix_words.specs.declared.status.Status.TheVariants.{Extension, NoSchedule}
 use Rattle.ix_words.specs.declared.command.Command.TheVariants.{Bench}
 use Rattle.ix_words.specs.Readings.{number_read}
-use Rattle.ix_tool.specs.CommandOutput.{Writes}
 use Rattle.ix_tool.proofs.Answering.{bench_answered, behaviour_answered}
 use Rattle.ix_tool.proofs.benching.bench_extension.Goals as goal
 
@@ -23,14 +20,10 @@ returns-in-Ok g c = elim c.bench_design.ensures [
       done.2
 ]
 
-pub returns-in-TooManyOps : goal.returns-in-TooManyOps
-returns-in-TooManyOps g c =
-    behaviour_answered (view_extension c.args.extension) c.args.sheet (g.S.Sink.written c.args.sink.now) (g.S.Sink.written c.finish.new.sink) (g.S.Sink.faults c.args.sink.now) (g.S.Sink.faults c.finish.new.sink) c.finish.result Bench
-    (number_read c.args.number ∷ number_read c.args.count ∷ []) tt (T.TooManyOps c.in-TooManyOps.line) Extension c.in-TooManyOps.line c.in-TooManyOps.ensures (refl, refl)
-    (subst (λ t. Writes Extension t (g.S.Sink.written c.args.sink.now) (g.S.Sink.written c.finish.new.sink) (g.S.Sink.faults c.args.sink.now) (g.S.Sink.faults c.finish.new.sink) c.finish.result) c.as_slice.ensures c.finish.ensures)
-
-pub returns-in-NoSchedule : goal.returns-in-NoSchedule
-returns-in-NoSchedule g c =
-    behaviour_answered (view_extension c.args.extension) c.args.sheet (g.S.Sink.written c.args.sink.now) (g.S.Sink.written c.finish-in-NoSchedule.new.sink) (g.S.Sink.faults c.args.sink.now) (g.S.Sink.faults c.finish-in-NoSchedule.new.sink) c.finish-in-NoSchedule.result Bench
-    (number_read c.args.number ∷ number_read c.args.count ∷ []) tt (T.NoSchedule c.in-NoSchedule.text) NoSchedule c.in-NoSchedule.text c.in-NoSchedule.ensures (refl, refl)
-    (subst (λ t. Writes NoSchedule t (g.S.Sink.written c.args.sink.now) (g.S.Sink.written c.finish-in-NoSchedule.new.sink) (g.S.Sink.faults c.args.sink.now) (g.S.Sink.faults c.finish-in-NoSchedule.new.sink) c.finish-in-NoSchedule.result) c.as_slice-in-NoSchedule.ensures c.finish-in-NoSchedule.ensures)
+pub returns-in-Err : goal.returns-in-Err
+returns-in-Err g c = elim c.refuse.ensures [
+  | inl memory ↦ inl memory
+  | inr told ↦
+      behaviour_answered (view_extension c.args.extension) c.args.sheet (g.S.Sink.written c.args.sink.now) (g.S.Sink.written c.refuse.new.sink) (g.S.Sink.faults c.args.sink.now) (g.S.Sink.faults c.refuse.new.sink) c.refuse.result
+      Bench (number_read c.args.number ∷ number_read c.args.count ∷ []) tt c.refusal_text.result told.0 told.1 c.refusal_text.ensures told.2 told.3
+]

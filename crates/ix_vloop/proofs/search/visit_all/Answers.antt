@@ -1,7 +1,7 @@
 use Rattle.std.proofs.Common.{◌≡◌, ◌+◌, ◌∷◌, [], ◌++◌, get_or, take, sym, subst, List, ℕ}
 use Rattle.std.proofs.lemmas.List.{take_more}
 use Rattle.ix_vloop.specs.Searches.{Visits}
-use Rattle.ix_vloop.proofs.Searching.{visits_more}
+use Rattle.ix_vloop.proofs.Looking.{visits_more}
 use Rattle.ix_vloop.proofs.search.visit_all.Goals as goal
 
 pub loop-cell-preserved : goal.loop-cell-preserved

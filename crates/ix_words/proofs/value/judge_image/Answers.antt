@@ -6,5 +6,5 @@ use Rattle.ix_words.proofs.value.judge_image.Goals as goal
 
 pub returns-in-Err-At : goal.returns-in-Err-At
 returns-in-Err-At c =
-    judged_err Image c.args.bytes.now (image_line c.in-Err-At.number) c.image_refusal.result
-    (c.in-Err-At.number, rw c.in-Err-At.field-0-is at c.in-Err-At.ensures.refused, refl) c.image_refusal.ensures
+    judged_err Image c.args.bytes.now (image_line c.in-Err-At.number) c.numbered_refusal.result
+    (c.in-Err-At.number, rw c.in-Err-At.field-0-is at c.in-Err-At.ensures.refused, refl) c.numbered_refusal.ensures

@@ -6,5 +6,5 @@ use Rattle.ix_words.proofs.value.judge_waits.Goals as goal
 
 pub returns-in-Err-At : goal.returns-in-Err-At
 returns-in-Err-At c =
-    judged_err Waits c.args.bytes.now (waits_line c.in-Err-At.number) c.waits_refusal.result
-    (c.in-Err-At.number, rw c.in-Err-At.field-0-is at c.in-Err-At.ensures.refused, refl) c.waits_refusal.ensures
+    judged_err Waits c.args.bytes.now (waits_line c.in-Err-At.number) c.numbered_refusal.result
+    (c.in-Err-At.number, rw c.in-Err-At.field-0-is at c.in-Err-At.ensures.refused, refl) c.numbered_refusal.ensures

@@ -15,7 +15,7 @@ returns-in-Err-clause-refused c =
     let places = found c.args.labels.now in
     failed own places c.args.lines.now c.loop-i.i no_line (omega (arith, c.loop-i-test.true)) c.in-Ok.verdict c.loop-i.image
     (assembled_from own places 0 0 (map (λ (x : Bor (List ℕ)). x.now) c.args.lines.now)) c.in-Err.error
-    (c.in-Ok.ensures ∙ ap (λ (k : ℕ). line_verdict own places c.loop-i.i k (get_or c.args.lines.now c.loop-i.i no_line).now) c.len.ensures.value)
+    (c.in-Ok.ensures ∙ ap (λ (k : ℕ). line_verdict own places c.loop-i.i k (get_or c.args.lines.now c.loop-i.i no_line).now) c.len-at.ensures.value)
     c.in-Err.ensures.refused c.loop-i.invariant.rest
 
 pub loop-i-preserved : goal.loop-i-preserved
@@ -25,6 +25,6 @@ loop-i-preserved c =
     record {
       rest = taken own places c.args.lines.now c.loop-i.i no_line (omega (arith, c.loop-i-test.true)) c.in-Ok.verdict c.loop-i.image c.take_line.new.image
           (assembled_from own places 0 0 (map (λ (x : Bor (List ℕ)). x.now) c.args.lines.now))
-          (c.in-Ok.ensures ∙ ap (λ (k : ℕ). line_verdict own places c.loop-i.i k (get_or c.args.lines.now c.loop-i.i no_line).now) c.len.ensures.value)
+          (c.in-Ok.ensures ∙ ap (λ (k : ℕ). line_verdict own places c.loop-i.i k (get_or c.args.lines.now c.loop-i.i no_line).now) c.len-at.ensures.value)
           c.in-Ok-take_line.ensures.taken c.loop-i.invariant.rest;
     }

@@ -1,5 +1,5 @@
 use Rattle.std.proofs.Common.{subst, IfOk, IfErr}
-use Rattle.rv_faults.specs.AuditLaws.{IsRight}
+use Rattle.rv_watch.specs.AuditLaws.{IsRight}
 use Rattle.rv_audit.specs.Refused.{TellsFault}
 use Rattle.rv_audit.proofs.auditing.audit_text.Goals as goal
 

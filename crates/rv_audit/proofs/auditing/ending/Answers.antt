@@ -5,8 +5,8 @@ use Rattle.rv_ending.specs.Differing.{TellsDiffering}
 use Rattle.rv_ending.specs.Owed.{owed_pairs}
 use Rattle.std.proofs.lemmas.List.{length-drop}
 use Rattle.ix_extension.specs.Extensions.{view_extension}
-use Rattle.rv_printed.specs.Printed.{widths_of}
-use Rattle.rv_faults.specs.Faults.{rows_behind}
+use Rattle.rv_watch.specs.Printed.{widths_of}
+use Rattle.rv_watch.specs.Faults.{rows_behind}
 use Rattle.rv_watch.specs.Watched.{setting_of, tree_of}
 use Rattle.rv_audit.specs.Refused.{rows_shown}
 use Rattle.rv_audit.proofs.Numbers.{state_small}

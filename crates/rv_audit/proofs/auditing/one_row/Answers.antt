@@ -2,8 +2,8 @@ use Rattle.std.proofs.Common.{◌≡◌, sym, ap, subst, suc, [], length, take, 
 use Rattle.std.specs.Prelude.{slice_get}
 use Rattle.ix_extension.specs.Extensions.{view_extension}
 use Rattle.rv_shown.specs.Shown.{shown_in}
-use Rattle.rv_printed.specs.Printed.{widths_of}
-use Rattle.rv_faults.specs.Faults.{rows_behind, IsReadAs}
+use Rattle.rv_watch.specs.Printed.{widths_of}
+use Rattle.rv_watch.specs.Faults.{rows_behind, IsReadAs}
 use Rattle.rv_watch.specs.Watched.{setting_of}
 use Rattle.rv_audit.specs.Judged.{Judges}
 use Rattle.rv_audit.specs.Refused.{IsFault, rows_shown}

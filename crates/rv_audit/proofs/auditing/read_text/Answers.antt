@@ -1,7 +1,7 @@
 use Rattle.std.proofs.Common.{◌∙◌, sym, ap, subst, ℕ, ◌≤◌, List, [], length, All, arith}
 use Rattle.std.proofs.lemmas.List.{length-map}
 use Rattle.ix_extension.specs.Extensions.{view_extension}
-use Rattle.rv_printed.specs.Printed.{width_of}
+use Rattle.rv_watch.specs.Printed.{width_of}
 use Rattle.rv_audit.proofs.Ending.{narrow}
 use Rattle.rv_audit.proofs.auditing.read_text.Goals as goal
 

@@ -1,5 +1,5 @@
 use Rattle.std.proofs.Common.{◌≡◌, ◌++◌, map, drop}
-use Rattle.rv_printed.specs.Printed.{width_of}
+use Rattle.rv_watch.specs.Printed.{width_of}
 use Rattle.rv_audit.proofs.auditing.widths.Given as goal
 
 abbrev pub invariant-loop-register : goal.invariant-loop-register

@@ -2,9 +2,9 @@ use Rattle.std.proofs.Common.{sym, ap, subst, refl}
 use Rattle.rv_trace.specs.declared.row.Row.{Row}
 use Rattle.rv_trace.specs.Trace.{newest}
 use Rattle.rv_lawful.specs.LawfulTrace.{IsInForm}
-use Rattle.rv_kinds.specs.Kinds.{MovesRightly}
+use Rattle.rv_rows.specs.Kinds.{MovesRightly}
 use Rattle.rv_shown.specs.Shown.{shown_in}
-use Rattle.rv_seen.specs.Seen.{AreSeen}
+use Rattle.rv_watch.specs.Seen.{AreSeen}
 use Rattle.rv_watch.specs.Watched.{setting_of}
 use Rattle.rv_audit.proofs.Told.{never, no_stop, some_stop, is_stop, fit_of, on_of}
 use Rattle.rv_audit.proofs.Forms.{form_of, moves_above}

@@ -3,7 +3,7 @@ use Rattle.rv_trace.specs.declared.row.Row.{Row}
 use Rattle.rv_trace.specs.TraceText.{retired_text, written_text}
 use Rattle.rv_lawful.specs.LawfulTrace.{WritesUnit}
 use Rattle.rv_shown.specs.Shown.{shown_in}
-use Rattle.rv_kinds.specs.Made.{row_of}
+use Rattle.rv_rows.specs.Made.{row_of}
 use Rattle.rv_watch.specs.Watched.{setting_of}
 use Rattle.rv_audit.specs.Judged.{retires_step, writes_step}
 use Rattle.rv_audit.proofs.Told.{never, fit_of, owing_of, granted_of}

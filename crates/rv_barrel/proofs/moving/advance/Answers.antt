@@ -1,6 +1,7 @@
 use Rattle.std.proofs.Common.{◌≡◌, ◌∙◌, ◌+◌, ◌-◌, ap, subst, take, drop, length, get_or, arith}
-use Rattle.std.specs.Prelude.{None}
+use Rattle.std.specs.Prelude.{None, Option, slice_set}
 use Rattle.std.proofs.lemmas.List.{length-set}
+use Rattle.rv_barrel.specs.declared.cell.InFlight.{InFlight}
 use Rattle.rv_barrel.specs.Cells.{Slots}
 use Rattle.rv_barrel.specs.Moving.{going, advanced}
 use Rattle.rv_barrel.proofs.Going.{advanced_more, front_more, advanced_first}
@@ -30,4 +31,4 @@ returns c =
     let old = c.args.slots.now in
     let e : c.loop-stage.stage ≡ 1 = omega (arith, c.loop-stage-test.false, c.loop-stage.invariant.least) in
     let back : drop 1 now ≡ advanced gone 1 (going gone 0 (get_or old 0 None)) (drop 1 old) = subst (λ m. drop m now ≡ advanced gone m (going gone (m - 1) (get_or old (m - 1) None)) (drop m old)) e c.loop-stage.invariant.done in
-    advanced_first gone now old c.requires c.loop-stage.invariant.long back
+    ap (λ (t : Option InFlight). slice_set now 0 t) c.free_slot.ensures ∙ advanced_first gone now old c.requires c.loop-stage.invariant.long back

@@ -1,12 +1,12 @@
 use Rattle.std.proofs.Common.{sym, subst}
 use Rattle.std.specs.Prelude.{Option, Some}
 use Rattle.ix_extension.specs.Extensions.{view_extension}
-use Rattle.rv_effect.specs.WordEffects.{AreWide}
+use Rattle.rv_seq.specs.WordEffects.{AreWide}
 use Rattle.rv_seq.specs.declared.arch.Arch.{Arch}
 use Rattle.rv_seq.specs.declared.answer.StepAnswer.{StepAnswer}
 use Rattle.rv_seq.specs.Sound.{IsSound, IsSoundCommit}
 use Rattle.rv_seq.proofs.Wide.{wide_applied}
-use Rattle.rv_steps.specs.declared.step.Step.{Step}
+use Rattle.rv_past.specs.declared.step.Step.{Step}
 use Rattle.rv_barrel.specs.declared.cell.InFlight.{InFlight}
 use Rattle.rv_barrel.specs.Moving.{IsSoundSlot, IsSoundStep}
 use Rattle.rv_barrel.proofs.moving.go_on.Goals as goal

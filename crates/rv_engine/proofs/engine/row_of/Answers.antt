@@ -6,7 +6,7 @@ use Rattle.rv_seq.specs.Interrupts.{is_enabled}
 use Rattle.rv_engine.specs.Settings.{setting, pending_by, interrupted_by}
 use Rattle.ix_bits.specs.declared.number.Bits.{Bits}
 use Rattle.ix_extension.specs.Extensions.{view_extension}
-use Rattle.rv_effect.specs.WordEffects.{AreWide}
+use Rattle.rv_seq.specs.WordEffects.{AreWide}
 use Rattle.rv_unit.specs.Timed.{CanEnter}
 use Rattle.rv_holds.specs.declared.token.Token.{Token}
 use Rattle.rv_holds.specs.Tokens.{Slots}
@@ -48,8 +48,7 @@ cycle-requires c =
     let some : 0 < length slots = let e = c.flush-left.auto.slots in omega (arith, e, long, a) in
     let seen : AreFitting d slots = subst (λ (z : Slots). AreFitting d z) (sym (c.flush-left.ensures.slots ∙ ap (λ (o : Option Turn). cleared (struck o) c.prepare-next.new.slots) (c.turn_in-turn.ensures.turn c.is_interrupted-interrupted.result c.enters-entered.ensures))) (cleared_fitting d (struck turn) before c.prepare-next.ensures.fitting) in
     let opened : IsLastOpen o slots = subst (λ (z : Slots). IsLastOpen o z) (sym (c.flush-left.ensures.slots ∙ ap (λ (o : Option Turn). cleared (struck o) c.prepare-next.new.slots) (c.turn_in-turn.ensures.turn c.is_interrupted-interrupted.result c.enters-entered.ensures))) (cleared_open o (struck turn) before few c.prepare-next.ensures.open) in
-    let enter : c.entering_in.result ≡ entering_of (leaving None slots) = c.entering_in.ensures ∙ ap (λ (s : Option Token). entering_of s) c.last-2.ensures in
-    subst (λ e. CanEnter o.lasts o.entries (unit_entered e)) (sym enter) (leaving_open d o c.requires.owing.lasts None slots some seen opened)
+    subst (λ (s : Option Token). CanEnter o.lasts o.entries (unit_entered (entering_of s))) (sym c.last-2.ensures) (leaving_open d o c.requires.owing.lasts None slots some seen opened)
 
 pub returns-clause-future : goal.returns-clause-future
 returns-clause-future c =
@@ -60,12 +59,12 @@ returns-clause-future c =
     let slots = c.flush-left.new.slots in
     let seen : AreFitting d slots =
     subst (λ (z : Slots). AreFitting d z) (sym (c.flush-left.ensures.slots ∙ ap (λ (o : Option Turn). cleared (struck o) c.prepare-next.new.slots) (c.turn_in-turn.ensures.turn c.is_interrupted-interrupted.result c.enters-entered.ensures))) (cleared_fitting d (struck turn) c.prepare-next.new.slots c.prepare-next.ensures.fitting) in
-    let wide : IfSome c.paying-paying.result (IsWideOwed x) = subst (λ (w : Option Owed). IfSome w (IsWideOwed x)) (sym c.paying-paying.ensures) (paying_wide x o.lasts o.entries o.entries o.owed c.requires.owed) in
-    let paid = paid_file_wide x c.paying-paying.result c.args.future.now wide c.requires.future in
-    let late = late_file_wide d (leaving None slots) (file_paid c.paying-paying.result c.args.future.now) (leaving_fitting d None slots tt seen) paid in
+    let wide : IfSome (option_copied c.paying-paying.result) (IsWideOwed x) = subst (λ (w : Option Owed). IfSome w (IsWideOwed x)) (sym c.paying-paying.ensures) (paying_wide x o.lasts o.entries o.entries o.owed c.requires.owed) in
+    let paid = paid_file_wide x (option_copied c.paying-paying.result) c.args.future.now wide c.requires.future in
+    let late = late_file_wide d (leaving None slots) (file_paid (option_copied c.paying-paying.result) c.args.future.now) (leaving_fitting d None slots tt seen) paid in
     let first = going_fitting d (first_slot (drop d.sheet.shape.ex slots)) (first_fitting d (drop d.sheet.shape.ex slots) (drop_fitting d d.sheet.shape.ex slots seen)) in
     subst (λ (file : List Bits). AreWide x file) (sym c.write.ensures.future)
-    (early_file_wide d (going (first_slot (drop d.sheet.shape.ex slots))) (file_late (leaving None slots) (file_paid c.paying-paying.result c.args.future.now)) first late)
+    (early_file_wide d (going (first_slot (drop d.sheet.shape.ex slots))) (file_late (leaving None slots) (file_paid (option_copied c.paying-paying.result) c.args.future.now)) first late)
 
 pub returns-clause-fitting : goal.returns-clause-fitting
 returns-clause-fitting c =
@@ -84,8 +83,7 @@ returns-clause-owed c =
     let slots = c.flush-left.new.slots in
     let seen : AreFitting d slots =
     subst (λ (z : Slots). AreFitting d z) (sym (c.flush-left.ensures.slots ∙ ap (λ (o : Option Turn). cleared (struck o) c.prepare-next.new.slots) (c.turn_in-turn.ensures.turn c.is_interrupted-interrupted.result c.enters-entered.ensures))) (cleared_fitting d (struck turn) c.prepare-next.new.slots c.prepare-next.ensures.fitting) in
-    let enter : c.entering_in.result ≡ entering_of (leaving None slots) = c.entering_in.ensures ∙ ap (λ (s : Option Token). entering_of s) c.last-2.ensures in
-    let after : c.cycle.new.self ≡ outstanding_after o (entering_of (leaving None slots)) = c.cycle.ensures ∙ ap (λ e. outstanding_after o e) enter in
+    let after : c.cycle.new.self ≡ outstanding_after o (entering_of (leaving None slots)) = c.cycle.ensures ∙ ap (λ (s : Option Token). outstanding_after o (entering_of s)) c.last-2.ensures in
     subst (λ (v : Outstanding). AreWideOwed x v.owed) (sym after) (after_wide d o (leaving None slots) (leaving_fitting d None slots tt seen) c.requires.owed)
 
 pub returns-clause-shown : goal.returns-clause-shown
@@ -100,7 +98,7 @@ returns-clause-shown c =
     let m = machine_with c.args.front.now c.args.future.now c.args.arch.now o c.args.slots.now in
     let before = c.prepare-next.new.slots in
     let told : i ≡ interrupted_by s m = c.is_interrupted-interrupted.ensures ∙ ap (λ b. b && is_enabled c.args.arch.now.trap) c.is_pending-pending.ensures in
-    c.show-shown.ensures
+    λ is. c.show.ensures is
     ∙ shown_same k c.args.arch.now c.args.future.now o (outstanding_of d o.entries o.owed) (struck c.turn_in-turn.result) (struck (turn_with k i fetch before)) before before
     c.requires.owing.lasts refl (ap (λ (t : Option Turn). struck t) (c.turn_in-turn.ensures.turn i c.enters-entered.ensures)) refl
     ∙ ap (λ (l : Slots). shown_with k c.args.arch.now c.args.future.now (outstanding_of d o.entries o.owed) (struck (turn_with k i fetch l)) l) (c.prepare-next.ensures.slots lines told)
@@ -112,7 +110,7 @@ take_interrupt-taken-requires c = record {
       let d = c.args.design.now in
       let i = interrupted_at d.sheet.shape c.is_interrupted-interrupted.result c.prepare-next.new.slots (sym c.enters-entered.ensures ∙ e) in
       let on = second_holds c.is_pending-pending.result (is_enabled c.args.arch.now.trap) (sym c.is_interrupted-interrupted.ensures ∙ i) in
-      subst (λ (s : Arch). is_enabled s.trap ≡ true) (sym c.write.ensures.arch) (enabled_after (view_extension d.extension) c.paying-paying.result (native_of (leaving None c.flush-left.new.slots)) c.args.arch.now on);
+      subst (λ (s : Arch). is_enabled s.trap ≡ true) (sym c.write.ensures.arch) (enabled_after (view_extension d.extension) (option_copied c.paying-paying.result) (native_of (leaving None c.flush-left.new.slots)) c.args.arch.now on);
 }
 
 pub returns-clause-after : goal.returns-clause-after

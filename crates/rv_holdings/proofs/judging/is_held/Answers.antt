@@ -1,6 +1,6 @@
 use Rattle.std.specs.Prelude.{Bool, is_some, get_or, None}
 use Rattle.std.proofs.Common.{sym, ap, subst, ◌∙◌}
-use Rattle.rv_known.specs.Known.{IsHeld}
+use Rattle.rv_rows.specs.Known.{IsHeld}
 use Rattle.rv_holdings.specs.Expected.{own_at}
 use Rattle.rv_holdings.proofs.Whole.{judged, held}
 use Rattle.rv_holdings.proofs.judging.is_held.Goals as goal

@@ -1,7 +1,7 @@
 use Rattle.std.proofs.Common.{length}
 use Rattle.ix_extension.specs.Extensions.{view_extension}
 use Rattle.ix_mean.specs.Given.{inputs_of}
-use Rattle.rv_effect.specs.Memory.{peeked}
+use Rattle.rv_seq.specs.Memory.{peeked}
 use Rattle.rv_seq.proofs.Soundness.{sound_return}
 use Rattle.rv_seq.proofs.step.go_back.Goals as goal
 

@@ -1,6 +1,6 @@
 use Rattle.std.proofs.Common.{◌≡◌, ◌∙◌, sym, ap, subst, true}
 use Rattle.ix_extension.specs.Extensions.{view_extension}
-use Rattle.rv_effect.specs.WordEffects.{AreWide}
+use Rattle.rv_seq.specs.WordEffects.{AreWide}
 use Rattle.rv_seq.specs.declared.arch.Arch.{Arch}
 use Rattle.rv_seq.specs.declared.answer.StepAnswer.{StepAnswer}
 use Rattle.rv_seq.specs.Interrupts.{resumed}

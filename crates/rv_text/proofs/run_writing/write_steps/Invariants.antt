@@ -1,7 +1,7 @@
 use Rattle.std.proofs.Common.{◌-◌, ◌≤◌}
 use Rattle.ix_extension.specs.Extensions.{view_extension}
 use Rattle.ix_eval.specs.Scratches.{IsScratchOf}
-use Rattle.rv_effect.specs.WordEffects.{AreWide}
+use Rattle.rv_seq.specs.WordEffects.{AreWide}
 use Rattle.rv_text.specs.RunText.{lines_from}
 use Rattle.rv_text.specs.Telling.{Carries}
 use Rattle.rv_text.proofs.run_writing.write_steps.Given as goal

@@ -2,8 +2,8 @@ use Rattle.std.proofs.Common.{◌≡◌, ◌∙◌, sym, ap, subst, ℕ, suc, �
 use Rattle.std.specs.Prelude.{slice_get}
 use Rattle.std.proofs.lemmas.Option.{same_Some}
 use Rattle.ix_plan.specs.Units.{frozen_with}
-use Rattle.rv_steps.specs.declared.step.Step.{Step}
-use Rattle.rv_steps.specs.Steps.{step_at}
+use Rattle.rv_past.specs.declared.step.Step.{Step}
+use Rattle.rv_past.specs.Steps.{step_at}
 use Rattle.rv_trace.specs.declared.row.Cell.{Cell}
 use Rattle.rv_trace.specs.Trace.{place}
 use Rattle.rv_waits.specs.Waits.{wait_at}
@@ -11,8 +11,8 @@ use Rattle.rv_lawful.specs.Settings.{Stands}
 use Rattle.rv_lawful.specs.Outstanding.{units_after}
 use Rattle.rv_lawful.specs.LawfulTrace.{plain_fetch}
 use Rattle.rv_rows.specs.Facts.{AreGoingOn}
-use Rattle.rv_kinds.specs.Kinds.{unit_marked}
-use Rattle.rv_known.specs.Known.{stop_in}
+use Rattle.rv_rows.specs.Kinds.{unit_marked}
+use Rattle.rv_rows.specs.Known.{stop_in}
 use Rattle.rv_watch.specs.Watched.{setting_of, tree_of}
 use Rattle.rv_watch.proofs.Steps.{step_is}
 use Rattle.rv_watch.proofs.Cells.{moves_above}

@@ -1,6 +1,6 @@
 use Rattle.std.proofs.Common.{◌≡◌, length}
 use Rattle.ix_eval.specs.Scratches.{IsScratchOf}
-use Rattle.rv_steps.specs.Steps.{AreSteps}
+use Rattle.rv_past.specs.Steps.{AreSteps}
 use Rattle.rv_watch.specs.Watched.{tree_of}
 use Rattle.rv_watch.proofs.watch.first_steps.Given as goal
 

@@ -1,19 +1,27 @@
-use Rattle.std.proofs.Common.{sym, subst, List}
+use Rattle.std.proofs.Common.{sym, subst, ap, List, ◌≡◌, IfOk}
 use Rattle.ix_net.specs.declared.netlist.Port.{Port}
 use Rattle.ix_verilog.specs.Subset.{with_line}
 use Rattle.ix_verilog.specs.Lines.{output}
 use Rattle.ix_vform.specs.declared.role.Role.TheVariants.{Assigned}
 use Rattle.ix_vform.specs.Kept.{IsKept}
-use Rattle.ix_vform.proofs.Keeping.{done, found_more, role_output}
+use Rattle.ix_vform.proofs.Keeping.{both, found_more, role_output}
 use Rattle.ix_vform.proofs.opened.Opened.with_output.Goals as goal
 
-pub invariant_of-result : goal.invariant_of-result
-invariant_of-result c =
+pub rebuilt-requires : goal.rebuilt-requires
+rebuilt-requires c =
     let s = c.self.inside.source in
     let p = c.args.declared in
-    let P : List Port → Type 0 = λ z. IsKept (record s { outputs = z }) c.declare-told.new.roles c.self.inside.assigned c.self.inside.updated in
-    subst P (sym (done c.push-put.result c.in-Ok-Ok.field-0-1 c.in-Ok-Ok.is-1 c.push-put.ensures.ok)) (record {
-      found = found_more s (with_line s (output p)) c.self.inside.roles c.declare-told.new.roles p Assigned c.as_str.result.now c.as_str.ensures.text (done c.declare-told.result c.in-Ok-Ok.field-0-0 c.in-Ok-Ok.is-0 c.declare-told.ensures) c.self.invariant.found (role_output s p);
+    let m = c.self.inside.marks in
+    let P : List Port → Type 0 = λ z. IsKept (record s { outputs = z }) c.declare-told.new.roles m.assigned m.updated in
+    both c.declare-told.result c.push-put.result c.declare-told.ensures c.push-put.ensures.ok
+    (λ d e. subst P (sym e) (record {
+      found = found_more s (with_line s (output p)) m.roles c.declare-told.new.roles p Assigned c.as_str.result.now c.as_str.ensures.text d c.self.invariant.found (role_output s p);
       driven = c.self.invariant.driven;
       changed = c.self.invariant.changed;
-    })
+    }))
+
+pub returns : goal.returns
+returns c =
+    let s = c.self.inside.source in
+    subst (λ z. IfOk c.rebuilt.result (λ o. o ≡ with_line z (output c.args.declared))) c.self.view_is
+    (c.rebuilt.ensures (with_line s (output c.args.declared)) (both c.declare-told.result c.push-put.result c.declare-told.ensures c.push-put.ensures.ok (λ d e. ap (λ (z : List Port). record s { outputs = z }) e)))

@@ -1,11 +1,23 @@
-use Rattle.ix_vform.proofs.Keeping.{changed_more, done}
+use Rattle.std.proofs.Common.{ap, List, ◌≡◌, subst, IfOk}
+use Rattle.ix_verilog.specs.declared.source.Update.{Update}
+use Rattle.ix_verilog.specs.Subset.{with_line}
+use Rattle.ix_verilog.specs.Lines.{update}
+use Rattle.ix_vform.proofs.Keeping.{both, changed_more}
 use Rattle.ix_vform.proofs.opened.Opened.with_update.Goals as goal
 
-pub invariant_of-result : goal.invariant_of-result
-invariant_of-result c =
+pub rebuilt-requires : goal.rebuilt-requires
+rebuilt-requires c =
     let s = c.self.inside.source in
-    record {
+    let m = c.self.inside.marks in
+    both c.mark-told.result c.push-put.result c.mark-told.ensures c.push-put.ensures.ok
+    (λ d e. record {
       found = c.self.invariant.found;
       driven = c.self.invariant.driven;
-      changed = changed_more c.self.inside.updated c.mark-told.new.names s.updates c.push-put.new.self c.args.updated c.as_str.result.now c.as_str.ensures.text (done c.push-put.result c.in-Ok-Ok.field-0-1 c.in-Ok-Ok.is-1 c.push-put.ensures.ok) (done c.mark-told.result c.in-Ok-Ok.field-0-0 c.in-Ok-Ok.is-0 c.mark-told.ensures) c.self.invariant.changed;
-    }
+      changed = changed_more m.updated c.mark-told.new.names s.updates c.push-put.new.self c.args.updated c.as_str.result.now c.as_str.ensures.text e d c.self.invariant.changed;
+    })
+
+pub returns : goal.returns
+returns c =
+    let s = c.self.inside.source in
+    subst (λ z. IfOk c.rebuilt.result (λ o. o ≡ with_line z (update c.args.updated))) c.self.view_is
+    (c.rebuilt.ensures (with_line s (update c.args.updated)) (both c.mark-told.result c.push-put.result c.mark-told.ensures c.push-put.ensures.ok (λ d e. ap (λ (z : List Update). record s { updates = z }) e)))

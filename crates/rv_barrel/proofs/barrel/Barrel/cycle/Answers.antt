@@ -17,14 +17,14 @@ invariant_of-self c =
       few = omega (arith, made, cycles, c.requires.spare);
       fits = i.fits;
       asked = i.asked;
-      ready = c.row_of-2.ensures.scratch;
-      one = kept_more (view_extension d.extension) (hart_setting d c.self.inside.first.now) 0 n c.row_of.new.side c.row_of.ensures.side;
-      other = kept_more (view_extension d.extension) (hart_setting d c.self.inside.second.now) 1 n c.row_of-2.new.side c.row_of-2.ensures.side;
+      ready = c.row_of-b.ensures.scratch;
+      one = kept_more (view_extension d.extension) (hart_setting d c.self.inside.first.now) 0 n c.row_of-a.new.side c.row_of-a.ensures.side;
+      other = kept_more (view_extension d.extension) (hart_setting d c.self.inside.second.now) 1 n c.row_of-b.new.side c.row_of-b.ensures.side;
     }
 
 pub returns-clause-row : goal.returns-clause-row
 returns-clause-row c =
-    rw (← c.self.view_is) (row_there c.self.inside.design.now c.self.inside.first.now c.self.inside.second.now c.self.inside.made c.joined.ensures c.row_of.ensures.cells c.row_of.ensures.part c.row_of-2.ensures.cells c.row_of-2.ensures.part)
+    rw (← c.self.view_is) (row_there c.self.inside.design.now c.self.inside.first.now c.self.inside.second.now c.self.inside.made c.joined-row.ensures c.row_of-a.ensures.cells c.row_of-a.ensures.part c.row_of-b.ensures.cells c.row_of-b.ensures.part)
 
 pub returns-clause-prefix : goal.returns-clause-prefix
 returns-clause-prefix c =

@@ -4,7 +4,7 @@ use Rattle.ix_plan.specs.Units.{Slots, has_some}
 use Rattle.rv_unit.specs.Entries.{last_time, is_number}
 use Rattle.rv_unit.specs.Slots.{serial_at, unit_named}
 use Rattle.rv_lawful.specs.Outstanding.{units_after}
-use Rattle.rv_kinds.specs.Kinds.{unit_marked}
+use Rattle.rv_rows.specs.Kinds.{unit_marked}
 use Rattle.rv_owing.proofs.Finishing.{marked_is, frozen_is, frozen_none, stands, frozen_but}
 use Rattle.rv_owing.proofs.owing.Owing.frozen.Goals as goal
 

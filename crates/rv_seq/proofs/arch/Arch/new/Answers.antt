@@ -2,7 +2,7 @@ use Rattle.std.proofs.Common.{◌≡◌, ◌∙◌, sym, ap, subst, List}
 use Rattle.ix_bits.specs.declared.number.Bits.{Bits}
 use Rattle.ix_tree.specs.declared.extension.Register.{Register}
 use Rattle.ix_extension.specs.Extensions.{view_extension}
-use Rattle.rv_effect.specs.WordEffects.{AreWide}
+use Rattle.rv_seq.specs.WordEffects.{AreWide}
 use Rattle.rv_seq.specs.States.{initials}
 use Rattle.rv_seq.proofs.Wide.{wide_first}
 use Rattle.rv_seq.proofs.arch.Arch.new.Goals as goal

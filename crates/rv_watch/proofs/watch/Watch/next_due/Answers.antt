@@ -1,5 +1,5 @@
 use Rattle.std.proofs.Common.{subst, arith}
-use Rattle.rv_made.specs.Due.{IsDue}
+use Rattle.rv_past.specs.Due.{IsDue}
 use Rattle.rv_watch.specs.Watched.{setting_of}
 use Rattle.rv_watch.proofs.Retired.{made_asks}
 use Rattle.rv_watch.proofs.watch.Watch.next_due.Goals as goal

@@ -1,0 +1,6 @@
+//! Laws of the constants of texts.
+#![tactic(auto)]
+
+mod laws;
+
+pub use laws::constant_laws;

@@ -1,4 +1,0 @@
-pub mod Decoding
-pub mod Memory
-pub mod BaseEffects
-pub mod WordEffects

@@ -1,5 +1,0 @@
-mod Tests
-mod Places
-mod Coming
-mod Leaving
-mod Past

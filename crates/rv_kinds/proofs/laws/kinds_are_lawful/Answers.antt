@@ -1,5 +1,0 @@
-use Rattle.rv_kinds.proofs.Lawful.{kinds_law}
-use Rattle.rv_kinds.proofs.laws.kinds_are_lawful.Goals as goal
-
-pub returns : goal.returns
-returns c = kinds_law c.row_facts.ensures

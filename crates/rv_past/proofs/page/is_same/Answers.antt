@@ -1,0 +1,8 @@
+use Rattle.std.proofs.lemmas.Slice.Eq.{slice_eq-Decides}
+use Rattle.std.proofs.lemmas.Bool.Decides.{Decides-eqb}
+use Rattle.rv_past.proofs.page.is_same.Goals as goal
+
+pub returns : goal.returns
+returns c =
+    let d = slice_eq-Decides Decides-eqb c.args.one.now c.args.other.now c.eq.result c.eq.ensures in
+    record { to = d.0; from = d.1 }

@@ -1,9 +1,0 @@
-mod Tests
-mod Entries
-mod Lowered
-mod Placed
-mod Counting
-mod Asking
-mod Marking
-mod Adding
-mod SeenMore
