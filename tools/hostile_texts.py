@@ -1,13 +1,14 @@
 #!/usr/bin/env python3
 """Runs each command of the program on hostile texts: hostile_texts.py PROGRAM [--kind KIND ..]
-[--command WORD ..] [--text NAME].
+[--command WORD ..] [--text NAME] [--deep].
 
 A hostile text has at most 1,048,576 bytes and is the deepest, longest or widest of its kind in some
 direction. Each command that reads that kind is run on it. It must end by itself, with a status of
 the table of refusals, with nothing on standard output but the line of a refusal, nothing but visible
 characters on standard error, and within the bars on processor time and memory. Texts that multiply
 are read again in 500,000 KB of memory, where the answer is the same or Memory, and the deepest ones
-with a stack of 256 KB, where it is the same.
+with a stack of 256 KB, where it is the same. `--deep` tries these alone, and names for each that fails
+the least of some greater stacks in which it is answered.
 
 The kinds are extension, sheet, image, waits, lines, source, trace, report, module, file and long. Each
 failure is a line; the last lines are a table of what each command took at most, and `N passed, M
@@ -43,6 +44,8 @@ MOST_SECONDS = 20
 MOST_MEGABYTES = 3_000
 TIGHT_BYTES = 500_000 * 1_024
 SMALL_STACK = 256 * 1_024
+# The stacks that are tried where the small one is too small, in KB.
+GREATER_STACKS = [320, 384, 448, 512, 640, 768, 1_024, 2_048, 4_096, 8_192]
 
 # For each kind of text the commands that read it, in which `@` is the text.
 COMMANDS = {
@@ -152,6 +155,20 @@ def run(words, room, memory=MOST_MEGABYTES * 1_000_000, stack=None, source=None,
     )
 
 
+def stack_faults(words, room, ended, source=None):
+    """What is wrong with a run on the small stack: it does not end as on another."""
+
+    def is_same(again):
+        return (again.status, again.total) == (ended.status, ended.total)
+
+    again = run(words, room, stack=SMALL_STACK, source=source)
+    if is_same(again):
+        return []
+    fit = next((it for it in GREATER_STACKS if is_same(run(words, room, stack=it * 1_024, source=source))), None)
+    least = f"needs at most {fit} KB" if fit else "no greater one is enough"
+    return [f"ends with {again.status} on a stack of 256 KB, and {ended.status} on another: {least}"]
+
+
 # What an ended run is judged by
 
 
@@ -250,15 +267,13 @@ def try_text(program, room, kind, text, command, tally, due):
         silent = again.status == MEMORY and not again.length
         tally.judge(name, [] if same or silent else [f"ends with {again.status} in 500,000 KB, and {ended.status} with more"])
     if text.deep:
-        again = run(words, room, stack=SMALL_STACK)
-        same = (again.status, again.total) == (ended.status, ended.total)
-        tally.judge(name, [] if same else [f"ends with {again.status} on a stack of 256 KB, and {ended.status} on another"])
+        tally.judge(name, stack_faults(words, room, ended))
 
 
 def try_texts(program, room, wanted, tally):
     for kind, texts in TEXTS.items():
         for text in texts:
-            commands = [it for it in COMMANDS[kind] if wanted(kind, text.name, it)]
+            commands = [it for it in COMMANDS[kind] if wanted(kind, text.name, it, text.deep)]
             if not commands:
                 continue
             whole = text.make()
@@ -272,7 +287,7 @@ def try_texts(program, room, wanted, tally):
 def try_modules(program, room, wanted, tally):
     """Has the Verilog reader read modules, by the program of its cases."""
     for text in others.MODULES:
-        if not wanted("module", text.name, "read"):
+        if not wanted("module", text.name, "read", text.deep):
             continue
         (room / "text").write_bytes(b"read\n" + text.make())
         ended = run([program], room, source=room / "text")
@@ -282,9 +297,7 @@ def try_modules(program, room, wanted, tally):
         tally.judge(f"read of the module `{text.name}`", faults)
         tally.measure("read", f"module: {text.name}", ended)
         if text.deep:
-            again = run([program], room, stack=SMALL_STACK, source=room / "text")
-            same = (again.status, again.total) == (ended.status, ended.total)
-            tally.judge(f"read of the module `{text.name}`", [] if same else [f"ends with {again.status} on a stack of 256 KB"])
+            tally.judge(f"read of the module `{text.name}`", stack_faults([program], room, ended, room / "text"))
 
 
 def try_files(program, room, wanted, tally):
@@ -327,12 +340,14 @@ def main():
     parser.add_argument("--kind", nargs="+", help="only texts of these kinds")
     parser.add_argument("--command", nargs="+", help="only commands whose first word is one of these")
     parser.add_argument("--text", help="only texts whose name has this")
+    parser.add_argument("--deep", action="store_true", help="only the deepest texts of each kind")
     parser.add_argument("--modules", help="the program verilog_cases, which reads modules")
     options = parser.parse_args()
 
-    def wanted(kind, text, command):
+    def wanted(kind, text, command, deep=False):
         return (
-            (not options.kind or kind in options.kind)
+            (deep or not options.deep)
+            and (not options.kind or kind in options.kind)
             and (not options.command or command.split(" ", 1)[0] in options.command)
             and (not options.text or options.text in text)
         )

@@ -1,11 +1,15 @@
 // A plain cycle-by-cycle pipeline of RV32I, without proofs: the peer of `ixt run`. Build it with `rustc --edition 2021 -O`. It
-// takes the words of both forms of `run`, of which the longer one must have an extension without sections; of a datasheet it reads the
-// core alone.
+// takes the words of both forms of `run`, of which the longer one must have an extension without sections, or that of the dot product
+// of `examples`, which is here by hand and on a core where it does not wait (`five.toml`); of a datasheet it reads the core alone.
 //
 //     pipeline_peer run IMAGE CYCLES
 //     pipeline_peer run EXT SHEET IMAGE WAITS CYCLES
 use std::io::{self, BufWriter, Write};
 use std::process::exit;
+use std::sync::atomic::{AtomicBool, Ordering};
+
+/// Whether the dot product is an instruction.
+static HAS_DOT_PRODUCT: AtomicBool = AtomicBool::new(false);
 
 const BASE: u32 = 0x8000_0000;
 const SIZE: u32 = 0x10_0000;
@@ -94,6 +98,7 @@ fn is_legal(word: u32) -> bool {
             _ => true,
         },
         0x33 => f7 == 0 || f7 == 32 && (f3 == 0 || f3 == 5),
+        0x0b => f3 == 0 && f7 == 0 && HAS_DOT_PRODUCT.load(Ordering::Relaxed),
         _ => word == 0x73 || word == 0x10_0073,
     }
 }
@@ -105,7 +110,7 @@ fn decode(word: u32) -> Decoded {
         0x37 | 0x17 | 0x6f => (true, false, false),
         0x67 | 0x03 | 0x13 => (true, true, false),
         0x63 | 0x23 => (false, true, true),
-        0x33 => (true, true, true),
+        0x33 | 0x0b => (true, true, true),
         _ => (false, false, false),
     };
     let only = |is: bool, register: usize| if is && is_legal { register } else { 0 };
@@ -130,6 +135,11 @@ fn computed(f3: u32, is_other: bool, a: u32, b: u32) -> u32 {
         6 => a | b,
         _ => a & b,
     }
+}
+
+fn dot_product(a: u32, b: u32) -> u32 {
+    let products = (0..4).map(|k| i32::from((a >> (8 * k)) as i8) * i32::from((b >> (8 * k)) as i8));
+    products.sum::<i32>() as u32
 }
 
 fn is_taken(f3: u32, a: u32, b: u32) -> bool {
@@ -173,6 +183,7 @@ fn outcome(at: u32, word: u32, a: u32, b: u32) -> Outcome {
         0x23 => o.address = a.wrapping_add(store_offset),
         0x13 => o.value = computed(f3, f3 == 5 && word >> 30 & 1 == 1, a, immediate),
         0x33 => o.value = computed(f3, word >> 30 & 1 == 1, a, b),
+        0x0b => o.value = dot_product(a, b),
         0x73 => o.stop = Some(if word == 0x73 { "Ecall" } else { "Ebreak" }),
         _ => {}
     }
@@ -537,8 +548,10 @@ fn main() {
             let cycles = cycles_of(cycles);
             (shape_of("\"three\""), image_of(&file(image)), Vec::new(), cycles)
         }
-        ["run", _, sheet, image, waits, cycles] => {
+        ["run", extension, sheet, image, waits, cycles] => {
             let cycles = cycles_of(cycles);
+            let text = file(extension);
+            HAS_DOT_PRODUCT.store(String::from_utf8_lossy(&text).contains("dotp"), Ordering::Relaxed);
             let shape = shape_of(&String::from_utf8_lossy(&file(sheet)));
             (shape, image_of(&file(image)), waits_of(&file(waits)), cycles)
         }

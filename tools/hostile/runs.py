@@ -3,7 +3,7 @@ from pathlib import Path
 from typing import Callable, NamedTuple
 
 from hostile import extensions
-from hostile.texts import MOST
+from hostile.texts import MOST, filled
 
 EXAMPLES = Path(__file__).resolve().parents[2] / "examples"
 
@@ -76,6 +76,20 @@ def spawning():
     return extensions.state(b"", extensions.instructions(8, lambda n: b"spawn X[rd]=(unsigned<32>)(X[rs1]+X[rs2]%s);" % (b"+1" * n)))
 
 
+def bit_fields(statements):
+    """An instruction with 25 fields of one bit, whose long names differ in the last bytes alone, and a
+    behaviour of so many statements."""
+    names = [b"f" * 62 + b"%02d" % n for n in range(25)]
+    encoding = b"::".join(b"%s[0:0]" % it for it in names)
+    body = b"unsigned<32> x=0;" + b"x=(unsigned<32>)(x+1);" * statements
+    return b"InstructionSet A extends RV32I { instructions { i { encoding: %s::7'b0001011; behavior: { %s } } } }" % (encoding, body)
+
+
+def bit_lines(most=MOST):
+    """Lines with 25 operands each."""
+    return filled(b"", b"i " + b",".join([b"1"] * 25) + b"\n", most=most)
+
+
 LONG = [
     Run("a loop of stores, a word further each time", "run image 200000", {"image": STORES}, 10),
     Run("the same with an extension", "run all.core_desc three.toml image waits 200000", {"image": STORES, "all.core_desc": example("wide-add.core_desc"), **NO_WAITS}, 10),
@@ -99,5 +113,7 @@ LONG = [
     Run("a trace of stores", "audit all.core_desc three.toml image waits made.trace", {"all.core_desc": example("wide-add.core_desc"), "image": STORES, **NO_WAITS}, 3, "run all.core_desc three.toml image waits 10000"),
     Run("a trace of 8 units", "audit all.core_desc three.toml image waits made.trace", {"all.core_desc": spawning, "image": words_of_all(8), **NO_WAITS}, 3, "run all.core_desc three.toml image waits 9000"),
     Run("a trace of 64 behaviours", "audit all.core_desc five.toml image waits made.trace", {"all.core_desc": many_behaviours, "image": words_of_all(64), **NO_WAITS}, 5, "run all.core_desc five.toml image waits 9000"),
+    Run("lines of 25 operands", "asm all.core_desc source", {"all.core_desc": lambda: bit_fields(1), "source": bit_lines}, 1),
+    Run("lines of 25 operands of a behaviour of 16,300 statements", "asm all.core_desc source", {"all.core_desc": lambda: bit_fields(16_300), "source": bit_lines}, 3),
     Run("a report of 24 behaviours", "certify made.trace", {"all.core_desc": lambda: many_behaviours(24)}, 3, "schedule all.core_desc five.toml"),
 ]

@@ -1,3 +1,5 @@
+mod NativeWindows
+mod PlainStanding
 mod Answering
 mod Handlers
 mod SheetValues

@@ -9,7 +9,7 @@ use Rattle.ix_words.specs.declared.command.RunForm.TheVariants.{Rows, Interrupte
 use Rattle.ix_words.specs.declared.command.FileKind.{FileKind}
 use Rattle.ix_words.specs.declared.command.Slot.{Slot}
 use Rattle.ix_words.specs.declared.command.Slot.TheVariants.{Number, File}
-use Rattle.rv_plain.specs.Plain.{IsPlain}
+use Rattle.ix_tool.specs.PlainDesign.{IsPlain}
 use Rattle.rv_trace.specs.declared.row.Row.{Row}
 use Rattle.rv_trace.specs.Trace.{newest}
 use Rattle.rv_engine.specs.Settings.{setting}

@@ -1,2 +1,3 @@
+pub mod PlainDesign
 pub mod CommandOutput
 pub mod BarrelOutput

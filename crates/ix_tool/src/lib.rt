@@ -5,6 +5,7 @@ pub mod assembling;
 mod auditing;
 mod benching;
 pub mod building;
+mod plain;
 mod running;
 mod scheduling;
 mod sweeping;

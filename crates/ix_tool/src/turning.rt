@@ -31,7 +31,7 @@ use ix_sheet::Sheet;
 use ix_tree::Extension;
 use ix_words::status::Status;
 use ix_words::value::Value;
-use rv_barrel::Barrel;
+use rv_barrel::{Barrel, quiet_row};
 use rv_barrel_text::{write_ends, write_row};
 use rv_core::Shape;
 use rv_isa::Image;
@@ -75,11 +75,12 @@ fn write_rows<S: Sink>(
     ensures fault { OnErr result (Rose (S.faults sink.old) (S.faults sink.new)) }
     ensures never_fell { S.faults sink.old ≤ S.faults sink.new }
 {
+    let mut row = quiet_row();
     for number in 0..cycles {
         if barrel.is_done() {
             return Ok(());
         }
-        let row = barrel.cycle();
+        barrel.cycle_into(&mut row);
         match write_row(number, shape, &row, out, sink) {
             Ok(()) => {}
             Err(error) => return Err(error),

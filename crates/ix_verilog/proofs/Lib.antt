@@ -1,6 +1,8 @@
+pub mod Decimals
 pub mod Digits
 pub mod Fronts
 pub mod HexLemmas
+pub mod Named
 pub mod OneLine
 pub mod OneNet
 pub mod OneReading

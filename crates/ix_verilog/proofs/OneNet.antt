@@ -30,11 +30,11 @@ use Rattle.ix_verilog.specs.Subset.{IsNetOf, Denotes, LeavesAt, declared, assign
 use Rattle.ix_verilog.proofs.OneReading.{written_once, written_stays}
 use Rattle.ix_verilog.proofs.Pairs.{contains_mapped, all_of, pairs_head, pairs_tail, head_case}
 use Rattle.ix_verilog.specs.Words.{Word, is_digit}
-use Rattle.ix_verilog.specs.Lines.{form_words, hex, hex_upto, hex_digit, is_hex_digit, AreDigits, IsNumber}
+use Rattle.ix_verilog.specs.Lines.{form_words, right_words, right_of, hex, hex_upto, hex_digit, is_hex_digit, AreDigits, IsNumber}
 use Rattle.ix_verilog.proofs.Digits.{decimal_is_number, hex_are_digits}
 use Rattle.ix_verilog.proofs.Fronts.{fronts}
 use Rattle.ix_verilog.proofs.HexLemmas.{hex_small, hex_large}
-use Rattle.ix_verilog.proofs.OneLine.{apart, name_differs}
+use Rattle.ix_verilog.proofs.OneLine.{apart, shape_of}
 
 -- ---- hexadecimal digits
 snoc : {X : Type 0} (xs ys : List X) (a b : X) → xs ++ a ∷ [] ≡ ys ++ b ∷ [] → (xs ≡ ys) × (a ≡ b)
@@ -134,26 +134,6 @@ literal_same d e h =
     bits_are d e (hex_same 31 d.raw e.raw (raw_small d) (raw_small e) x) w
 
 -- ---- right sides
-abbrev pub begins_number : Word → Bool
-begins_number [] = false
-begins_number (b ∷ bs) = is_digit b
-
-abbrev sign_shape : Word → ℕ
-sign_shape o =
-    if bytes_eq o (codes "+") then 2 else if bytes_eq o (codes "-") then 3 else if bytes_eq o (codes "*") then 4 else if bytes_eq o (codes "&") then 5
-    else if bytes_eq o (codes "|") then 6 else if bytes_eq o (codes "^") then 7 else if bytes_eq o (codes "==") then 9 else 10
-
--- which right side the words are
-abbrev shape : List Word → ℕ
-shape [] = 15
-shape (w ∷ []) = if begins_number w then 0 else 1
-shape (a ∷ b ∷ []) = 8
-shape (a ∷ o ∷ b ∷ []) = sign_shape o
-shape (a ∷ b ∷ c ∷ d ∷ []) = 15
-shape (a ∷ b ∷ c ∷ d ∷ e ∷ []) = if bytes_eq a (codes "{") then 12 else 14
-shape (a ∷ b ∷ c ∷ d ∷ e ∷ f ∷ []) = 13
-shape (a ∷ b ∷ c ∷ d ∷ e ∷ f ∷ g ∷ ws) = 11
-
 abbrev form_shape : Form → ℕ
 form_shape (Hex d) = 0
 form_shape (Copy a) = 1
@@ -171,48 +151,22 @@ form_shape (Join a b) = 12
 form_shape (Range a hi lo) = 13
 form_shape (Choose c a b) = 14
 
--- the operands are names
-abbrev pub AreNamed : List Word → Type 0
-AreNamed [] = Unit {0}
-AreNamed (n ∷ ns) = IsName n × AreNamed ns
-
-number_begins : (w r : Word) → IsNumber w → begins_number (w ++ r) ≡ true
-number_begins [] r h = absurd h
-number_begins (b ∷ w) r h = h.0
-
-letter_no_digit : (b : ℕ) → is_letter b ≡ true → is_digit b ≡ false
-letter_no_digit b e = false_from_ne_true (is_digit b) (λ f. (let l = leb-true 48 b (and_parts (nat_le 48 b) (nat_le b 57) f).0 in let g = leb-true b 57 (and_parts (nat_le 48 b) (nat_le b 57) f).1 in
-    elim (or_cases ((nat_le 65 b && nat_le b 90) || (nat_le 97 b && nat_le b 122)) (nat_eq b 95) e) [
-      | inl h ↦ elim (or_cases (nat_le 65 b && nat_le b 90) (nat_le 97 b && nat_le b 122) h) [
-        | inl i ↦ (let k = leb-true 65 b (and_parts (nat_le 65 b) (nat_le b 90) i).0 in omega (arith, g, k))
-        | inr i ↦ (let k = leb-true 97 b (and_parts (nat_le 97 b) (nat_le b 122) i).0 in omega (arith, g, k))
-      ]
-      | inr h ↦ (let k = eqb-true b 95 h in omega (arith, g, k))
-    ]))
-
-name_begins : (n : Word) → IsName n → begins_number n ≡ false
-name_begins [] h = absurd h.starts
-name_begins (b ∷ n) h = letter_no_digit b h.starts
-
-no_brace : (n : Word) → IsName n → bytes_eq n (codes "{") ≡ false
-no_brace n h = false_from_ne_true (bytes_eq n (codes "{")) (λ t. name_differs n 123 refl h ((bytes_eq-Decides n (codes "{")).0 t))
-
-shape_is : (f : Form) → AreNamed (operands f) → shape (form_words f) ≡ form_shape f
-shape_is (Hex d) h = (let e : begins_number (decimal d.width ++ (codes "'h" ++ hex d.raw)) ≡ true = number_begins (decimal d.width) (codes "'h" ++ hex d.raw) (decimal_is_number d.width (omega (arith, d.most_width))) in rw e refl)
-shape_is (Copy a) h = (let e = name_begins a h.0 in rw e refl)
-shape_is (Add a b) h = refl
-shape_is (Sub a b) h = refl
-shape_is (Mul a b) h = refl
-shape_is (And a b) h = refl
-shape_is (Or a b) h = refl
-shape_is (Xor a b) h = refl
-shape_is (Not a) h = refl
-shape_is (Eq a b) h = refl
-shape_is (Lt a b) h = refl
-shape_is (LtSigned a b) h = refl
-shape_is (Join a b) h = refl
-shape_is (Range a hi lo) h = refl
-shape_is (Choose c a b) h = (let e = no_brace c h.0 in rw e refl)
+shape_is : (f : Form) → shape_of (right_of f) ≡ form_shape f
+shape_is (Hex d) = refl
+shape_is (Copy a) = refl
+shape_is (Add a b) = refl
+shape_is (Sub a b) = refl
+shape_is (Mul a b) = refl
+shape_is (And a b) = refl
+shape_is (Or a b) = refl
+shape_is (Xor a b) = refl
+shape_is (Not a) = refl
+shape_is (Eq a b) = refl
+shape_is (Lt a b) = refl
+shape_is (LtSigned a b) = refl
+shape_is (Join a b) = refl
+shape_is (Range a hi lo) = refl
+shape_is (Choose c a b) = refl
 
 -- the numbers of a range are small
 abbrev pub IsSmall : Form → Type 0
@@ -283,8 +237,9 @@ same_form (Range a h l) (Range b i m) s t o e = range_same a b h l i m s t e
 same_form (Choose a b c) (Choose d e f) s t o h = choice_same a b c d e f h
 same_form f g s t o h = absurd (apart (form_shape f) (form_shape g) refl o)
 
-pub one_form : (f g : Form) → AreNamed (operands f) → AreNamed (operands g) → IsSmall f → IsSmall g → form_words f ≡ form_words g → f ≡ g
-one_form f g n m s t e = same_form f g s t (sym (shape_is f n) ∙ ap shape e ∙ shape_is g m) e
+-- a right side is written for one operation
+pub one_form : (f g : Form) → IsSmall f → IsSmall g → right_of f ≡ right_of g → f ≡ g
+one_form f g s t e = same_form f g s t (sym (shape_is f) ∙ ap shape_of e ∙ shape_is g) (ap right_words e)
 
 -- ---- names and numbers of a valid net
 port_of : (net : Net) → (n : Word) (w : ℕ) → width_of (signals net) n ≡ Some w → (p : Port) × Contains (signals net) p × (p.name ≡ n) × (w ≡ p.width)
@@ -294,15 +249,8 @@ port_of net n w e =
     let same : w ≡ (get_or (signals net) k.0 d).width = same_Some w (get_or (signals net) k.0 d).width (sym e ∙ width_at_place (signals net) n k.0 d k.1) in
     (get_or (signals net) k.0 d, Contains-get_or (signals net) k.0 d (place_within (signals net) n k.0 k.1), name_at_place (signals net) n k.0 d k.1, same)
 
-wide_named : (net : Net) → IsValid net → (n : Word) (w : ℕ) → width_of (signals net) n ≡ Some w → IsName n
-wide_named net v n w e = (let p = port_of net n w e in subst IsName p.2 (All-contains (λ (q : Port). IsName q.name) (signals net) p.0 v.named p.1))
-
 most_width : (net : Net) → IsValid net → (n : Word) (w : ℕ) → width_of (signals net) n ≡ Some w → w ≤ 128
 most_width net v n w e = (let p = port_of net n w e in let f : IsWidth p.0.width = All-contains (λ (q : Port). IsWidth q.width) (signals net) p.0 v.widths p.1 in omega (arith, f.most, p.3))
-
-named_all : (net : Net) → IsValid net → (ns : List Word) → AllByRecursion (HasWidth (width_of (signals net))) ns → AreNamed ns
-named_all net v [] h = tt
-named_all net v (n ∷ ns) h = (wide_named net v n h.0.0 h.0.1, named_all net v ns h.1)
 
 pub small_form : (net : Net) → IsValid net → (f : Form) (w : ℕ) → Fits (width_of (signals net)) w f → IsSmall f
 small_form net v (Hex d) w h = tt
@@ -337,7 +285,6 @@ port_once (r ∷ ps) h p q c d e = elim (head_case r ps p c) [
 
 record IsFine (ports : List Port) (c : Cell) : Type 0 where
   pub declared_so : Contains ports (cell_port c)
-  pub named : AreNamed (operands c.form)
   pub small : IsSmall c.form
 
 cell_same : (c d : Cell) → c.target ≡ d.target → c.width ≡ d.width → c.form ≡ d.form → c ≡ d
@@ -355,7 +302,7 @@ no_cons : {X : Type 0} (x : X) (xs : List X) → x ∷ xs ≡ [] → ⊥
 no_cons x xs e = cc
 
 cells_same : (ports : List Port) → AllPairs (λ x y. x ≢ y) (names ports) → (cs ds : List Cell) → All (IsFine ports) cs → All (IsFine ports) ds
-    → map (λ (c : Cell). c.target) cs ≡ map (λ (c : Cell). c.target) ds → map (λ (c : Cell). form_words c.form) cs ≡ map (λ (c : Cell). form_words c.form) ds → cs ≡ ds
+    → map (λ (c : Cell). c.target) cs ≡ map (λ (c : Cell). c.target) ds → map (λ (c : Cell). right_of c.form) cs ≡ map (λ (c : Cell). right_of c.form) ds → cs ≡ ds
 cells_same ports h [] [] f g e i = refl
 cells_same ports h [] (d ∷ ds) f g e i = absurd (no_cons d.target (map (λ (c : Cell). c.target) ds) (sym e))
 cells_same ports h (c ∷ cs) [] f g e i = absurd (no_cons c.target (map (λ (x : Cell). x.target) cs) e)
@@ -363,12 +310,12 @@ cells_same ports h (c ∷ cs) (d ∷ ds) f g e i =
     let a : IsFine ports c = All-head (IsFine ports) c cs f in
     let b : IsFine ports d = All-head (IsFine ports) d ds g in
     let t : c.target ≡ d.target = heads c.target d.target (map (λ (x : Cell). x.target) cs) (map (λ (x : Cell). x.target) ds) e in
-    let w : form_words c.form ≡ form_words d.form = heads (form_words c.form) (form_words d.form) (map (λ (x : Cell). form_words x.form) cs) (map (λ (x : Cell). form_words x.form) ds) i in
+    let w : right_of c.form ≡ right_of d.form = heads (right_of c.form) (right_of d.form) (map (λ (x : Cell). right_of x.form) cs) (map (λ (x : Cell). right_of x.form) ds) i in
     let p : cell_port c ≡ cell_port d = port_once ports h (cell_port c) (cell_port d) a.declared_so b.declared_so t in
-    let s : c ≡ d = cell_same c d t (ap (λ (z : Port). z.width) p) (one_form c.form d.form a.named b.named a.small b.small w) in
+    let s : c ≡ d = cell_same c d t (ap (λ (z : Port). z.width) p) (one_form c.form d.form a.small b.small w) in
     let r = cells_same ports h cs ds (All-tail (IsFine ports) c cs f) (All-tail (IsFine ports) d ds g)
     (tails c.target d.target (map (λ (x : Cell). x.target) cs) (map (λ (x : Cell). x.target) ds) e)
-    (tails (form_words c.form) (form_words d.form) (map (λ (x : Cell). form_words x.form) cs) (map (λ (x : Cell). form_words x.form) ds) i) in
+    (tails (right_of c.form) (right_of d.form) (map (λ (x : Cell). right_of x.form) cs) (map (λ (x : Cell). right_of x.form) ds) i) in
     ap (λ z. z ∷ cs) s ∙ ap (λ z. d ∷ z) r
 
 abbrev to_update : Bank → Update
@@ -398,7 +345,6 @@ cells_fine s net n =
     let a : Contains (assigned s) (cell_port c) = All-contains (λ (d : Cell). Contains (assigned s) (cell_port d)) net.cells c n.cell_widths h in
     record {
       declared_so = Contains-append_left (s.inputs ++ assigned s) s.registers (cell_port c) (Contains-append_right s.inputs (assigned s) (cell_port c) a);
-      named = named_all net n.valid (operands c.form) (fits_operands (width_of (signals net)) c.width c.form f);
       small = small_form net n.valid c.form c.width f;
     }))
 

@@ -5,9 +5,36 @@ use Rattle.std.specs.List.{list_all}
 use Rattle.ix_net.specs.declared.netlist.Port.{Port}
 use Rattle.ix_net.specs.declared.netlist.Form.{Form}
 use Rattle.ix_net.specs.declared.netlist.Form.TheVariants.{Hex, Copy, Add, Sub, Mul, And, Or, Xor, Not, Eq, Lt, LtSigned, Join, Range, Choose}
+use Rattle.ix_verilog.specs.declared.right.Sign.{Sign}
+use Rattle.ix_verilog.specs.declared.right.Sign.TheVariants as sign
+use Rattle.ix_verilog.specs.declared.right.Sign.TheVariants.{Plus, Minus, Times, Equal, Less}
+use Rattle.ix_verilog.specs.declared.right.RightSide.{RightSide}
+use Rattle.ix_verilog.specs.declared.right.RightSide.TheVariants as side
 use Rattle.ix_verilog.specs.declared.source.Assign.{Assign}
 use Rattle.ix_verilog.specs.declared.source.Update.{Update}
 use Rattle.ix_verilog.specs.Words.{Word, is_in, is_digit}
+
+-- the word that a sign is
+abbrev pub sign_word : Sign → Word
+sign_word Plus = codes "+"
+sign_word Minus = codes "-"
+sign_word Times = codes "*"
+sign_word sign.And = codes "&"
+sign_word sign.Or = codes "|"
+sign_word sign.Xor = codes "^"
+sign_word Equal = codes "=="
+sign_word Less = codes "<"
+
+-- the words of a right side
+abbrev pub right_words : RightSide → List Word
+right_words (side.Literal w) = w ∷ []
+right_words (side.Copy a) = a ∷ []
+right_words (side.Both s a b) = a ∷ sign_word s ∷ b ∷ []
+right_words (side.Turned a) = codes "~" ∷ a ∷ []
+right_words (side.Signed a b) = codes "$signed" ∷ codes "(" ∷ a ∷ codes ")" ∷ codes "<" ∷ codes "$signed" ∷ codes "(" ∷ b ∷ codes ")" ∷ []
+right_words (side.Joined a b) = codes "{" ∷ a ∷ codes "," ∷ b ∷ codes "}" ∷ []
+right_words (side.Range a h l) = a ∷ codes "[" ∷ h ∷ codes ":" ∷ l ∷ codes "]" ∷ []
+right_words (side.Choice c a b) = c ∷ codes "?" ∷ a ∷ codes ":" ∷ b ∷ []
 
 pub data Line : Type 0 where
   -- `module name(clk`, `, port`, `); input clk;`
@@ -38,7 +65,7 @@ line_words (input p) = port_words (codes "input") p
 line_words (output p) = port_words (codes "output") p
 line_words (wire p) = port_words (codes "wire") p
 line_words (register p) = port_words (codes "reg") p
-line_words (assign a) = codes "assign" ∷ a.target ∷ codes "=" ∷ (a.right ++ codes ";" ∷ [])
+line_words (assign a) = codes "assign" ∷ a.target ∷ codes "=" ∷ (right_words a.right ++ codes ";" ∷ [])
 line_words always = codes "always" ∷ codes "@" ∷ codes "(" ∷ codes "posedge" ∷ codes "clk" ∷ codes ")" ∷ codes "begin" ∷ []
 line_words (update u) = codes "if" ∷ codes "(" ∷ u.enable ∷ codes ")" ∷ u.target ∷ codes "<=" ∷ u.source ∷ codes ";" ∷ []
 line_words done = codes "end" ∷ []
@@ -58,23 +85,27 @@ abbrev pub hex : ℕ → Word
 hex x = hex_upto 32 x
 
 -- ---- right sides
--- the words of a right side
+-- the right side that is written for an operation
+abbrev pub right_of : Form → RightSide
+right_of (Hex d) = side.Literal (decimal d.width ++ (codes "'h" ++ hex d.raw))
+right_of (Copy a) = side.Copy a
+right_of (Add a b) = side.Both Plus a b
+right_of (Sub a b) = side.Both Minus a b
+right_of (Mul a b) = side.Both Times a b
+right_of (And a b) = side.Both sign.And a b
+right_of (Or a b) = side.Both sign.Or a b
+right_of (Xor a b) = side.Both sign.Xor a b
+right_of (Not a) = side.Turned a
+right_of (Eq a b) = side.Both Equal a b
+right_of (Lt a b) = side.Both Less a b
+right_of (LtSigned a b) = side.Signed a b
+right_of (Join a b) = side.Joined a b
+right_of (Range a hi lo) = side.Range a (decimal hi) (decimal lo)
+right_of (Choose c a b) = side.Choice c a b
+
+-- its words
 abbrev pub form_words : Form → List Word
-form_words (Hex d) = (decimal d.width ++ (codes "'h" ++ hex d.raw)) ∷ []
-form_words (Copy a) = a ∷ []
-form_words (Add a b) = a ∷ codes "+" ∷ b ∷ []
-form_words (Sub a b) = a ∷ codes "-" ∷ b ∷ []
-form_words (Mul a b) = a ∷ codes "*" ∷ b ∷ []
-form_words (And a b) = a ∷ codes "&" ∷ b ∷ []
-form_words (Or a b) = a ∷ codes "|" ∷ b ∷ []
-form_words (Xor a b) = a ∷ codes "^" ∷ b ∷ []
-form_words (Not a) = codes "~" ∷ a ∷ []
-form_words (Eq a b) = a ∷ codes "==" ∷ b ∷ []
-form_words (Lt a b) = a ∷ codes "<" ∷ b ∷ []
-form_words (LtSigned a b) = codes "$signed" ∷ codes "(" ∷ a ∷ codes ")" ∷ codes "<" ∷ codes "$signed" ∷ codes "(" ∷ b ∷ codes ")" ∷ []
-form_words (Join a b) = codes "{" ∷ a ∷ codes "," ∷ b ∷ codes "}" ∷ []
-form_words (Range a hi lo) = a ∷ codes "[" ∷ decimal hi ∷ codes ":" ∷ decimal lo ∷ codes "]" ∷ []
-form_words (Choose c a b) = c ∷ codes "?" ∷ a ∷ codes ":" ∷ b ∷ []
+form_words form = right_words (right_of form)
 
 -- a hexadecimal digit in lower case
 abbrev pub is_hex_digit : ℕ → Bool
@@ -100,14 +131,13 @@ pub record IsLiteral (word : Word) : Type 0 where
 abbrev pub operators : List Word
 operators = codes "+" ∷ codes "-" ∷ codes "*" ∷ codes "&" ∷ codes "|" ∷ codes "^" ∷ codes "==" ∷ codes "<" ∷ []
 
--- the words are a right side over such names, whatever its numbers are
-pub data IsRight (N : Word → Type 0) : List Word → Type 0 where
-  literal : (w : Word) → IsLiteral w → IsRight N (w ∷ [])
-  copy : (a : Word) → N a → IsRight N (a ∷ [])
-  both : (a o b : Word) → N a → Contains operators o → N b → IsRight N (a ∷ o ∷ b ∷ [])
-  turned : (a : Word) → N a → IsRight N (codes "~" ∷ a ∷ [])
-  signed : (a b : Word) → N a → N b
-      → IsRight N (codes "$signed" ∷ codes "(" ∷ a ∷ codes ")" ∷ codes "<" ∷ codes "$signed" ∷ codes "(" ∷ b ∷ codes ")" ∷ [])
-  joined : (a b : Word) → N a → N b → IsRight N (codes "{" ∷ a ∷ codes "," ∷ b ∷ codes "}" ∷ [])
-  range : (a h l : Word) → N a → IsNumber h → IsNumber l → IsRight N (a ∷ codes "[" ∷ h ∷ codes ":" ∷ l ∷ codes "]" ∷ [])
-  choice : (c a b : Word) → N c → N a → N b → IsRight N (c ∷ codes "?" ∷ a ∷ codes ":" ∷ b ∷ [])
+-- the right side is over such names, whatever its numbers are
+abbrev pub IsRight : (Word → Type 0) → RightSide → Type 0
+IsRight N (side.Literal w) = IsLiteral w
+IsRight N (side.Copy a) = N a
+IsRight N (side.Both s a b) = N a × N b
+IsRight N (side.Turned a) = N a
+IsRight N (side.Signed a b) = N a × N b
+IsRight N (side.Joined a b) = N a × N b
+IsRight N (side.Range a h l) = N a × IsNumber h × IsNumber l
+IsRight N (side.Choice c a b) = N c × N a × N b

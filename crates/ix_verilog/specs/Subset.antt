@@ -16,7 +16,7 @@ use Rattle.ix_verilog.specs.declared.source.Stage.{Stage}
 use Rattle.ix_verilog.specs.declared.source.Stage.TheVariants.{Ports, Lines, Clocked, Ended}
 use Rattle.ix_verilog.specs.declared.token.Token.{Token}
 use Rattle.ix_verilog.specs.Words.{Word, Spells, words_of}
-use Rattle.ix_verilog.specs.Lines.{Line, head, port, heading, input, output, wire, register, assign, always, update, done, finish, line_words, form_words, IsRight}
+use Rattle.ix_verilog.specs.Lines.{Line, head, port, heading, input, output, wire, register, assign, always, update, done, finish, line_words, right_of, IsRight}
 
 -- ---- what a module has declared
 abbrev pub assigned : Source → List Port
@@ -180,7 +180,7 @@ pub record IsNetOf (s : Source) (net : Net) : Type 0 where
   pub inputs : net.inputs ≡ s.inputs
   pub outputs : net.outputs ≡ s.outputs
   pub targets : map (λ (c : Cell). c.target) net.cells ≡ map (λ (a : Assign). a.target) s.assigns
-  pub rights : map (λ (c : Cell). form_words c.form) net.cells ≡ map (λ (a : Assign). a.right) s.assigns
+  pub rights : map (λ (c : Cell). right_of c.form) net.cells ≡ map (λ (a : Assign). a.right) s.assigns
   pub cell_widths : All (λ (c : Cell). Contains (assigned s) (cell_port c)) net.cells
   pub updates : map (λ (b : Bank). record { enable = b.enable; target = b.target; source = b.source }) net.banks ≡ s.updates
   pub bank_widths : All (λ (b : Bank). Contains s.registers (bank_port b)) net.banks

@@ -2,9 +2,13 @@
 #![tactic(auto)]
 
 mod laws;
+mod right;
 mod source;
 mod token;
+mod word;
 
 pub use laws::subset_laws;
+pub use right::{RightSide, Sign};
 pub use source::{Assign, Source, Stage, Update};
 pub use token::Token;
+pub use word::{decimal_in, is_digit, leading_digits, name_in, place_in};

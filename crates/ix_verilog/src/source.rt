@@ -1,3 +1,4 @@
+use crate::right::RightSide;
 use ix_bits::{List, Name};
 use ix_net::Port;
 
@@ -33,8 +34,7 @@ pub struct Source {
 #[derive(Debug, Drop)]
 pub struct Assign {
     pub target: Name,
-    /// The words of the right side.
-    pub right: List<List<u8>>,
+    pub right: RightSide,
 }
 
 /// A line `if (enable) target <= source;`.

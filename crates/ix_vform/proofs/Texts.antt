@@ -1,56 +1,27 @@
 -- Words as names, numbers and literals.
-use Rattle.std.proofs.Common.{◌≡◌, ℕ, ◌+◌, ◌-◌, ◌<◌, ◌≤◌, ◌^◌, [], ◌∷◌, ◌++◌, take, drop, Bool, true, false, refl, ap, sym, ◌∙◌, subst, arith}
-use Rattle.std.specs.Prelude.{codes, All, IsTrue, ◌↔◌, ◌||◌, IsUtf8, Result, Ok}
+use Rattle.std.proofs.Common.{◌≡◌, ℕ, ◌+◌, ◌-◌, ◌≤◌, [], ◌∷◌, ◌++◌, take, drop, Bool, true, false, refl, ap, sym, ◌∙◌, subst, arith, Option, Some, None}
+use Rattle.std.specs.Prelude.{codes, IsTrue, ◌↔◌, MatchOption}
 use Rattle.std.specs.List.{list_all}
 use Rattle.std.specs.Fmt.{decimal}
-use Rattle.std.specs.Str.{IsAscii}
-use Rattle.std.specs.Str.Parse.{ParsesUnsigned}
 use Rattle.std.proofs.lemmas.Bool.{and_from, true≢false}
-use Rattle.std.proofs.lemmas.Bool.Decides.{nat_tests}
-use Rattle.std.proofs.lemmas.Fmt.{IsAscii-decimal, parse-decimal}
 use Rattle.std.proofs.lemmas.List.{append_cancel_left, take-append-drop}
-use Rattle.std.proofs.lemmas.List.Elements.{All-head, All-tail}
-use Rattle.std.proofs.lemmas.Str.{IsUtf8-from_ascii}
-use Rattle.std.proofs.lemmas.Str.Ascii.{IsAscii-nil, IsAscii-cons}
-use Rattle.ix_net.specs.Name.{IsName, is_letter, is_mark}
 use Rattle.ix_verilog.specs.Words.{Word, Stops, is_digit}
 use Rattle.ix_verilog.specs.Lines.{IsNumber, IsLiteral}
 use Rattle.ix_verilog.proofs.Fronts.{fronts}
 use Rattle.ix_vline.specs.Slots.{IsHighest}
 use Rattle.ix_vform.specs.Based.{IsBased}
 
--- ---- names are text
-name_byte_small : (b : ℕ) → (is_letter b || is_mark b) ≡ true → b < 128
-name_byte_small b e = grind (arith, nat_tests)
-
-name_ascii : (n : Word) → All (λ b. IsTrue (is_letter b || is_mark b)) n → IsAscii n
-name_ascii [] h = IsAscii-nil
-name_ascii (b ∷ n) h =
-    IsAscii-cons b n (name_byte_small b (All-head (λ x. IsTrue (is_letter x || is_mark x)) b n h)) (name_ascii n (All-tail (λ x. IsTrue (is_letter x || is_mark x)) b n h))
-
-pub name_utf8 : (n : Word) → IsName n → IsUtf8 n
-name_utf8 n h = IsUtf8-from_ascii n (name_ascii n h.plain)
-
 -- ---- the number of the highest bit
-small : (w : Word) (h : IsHighest w) → h.0 - 1 < 2 ^ 8
-small w h = omega (arith, h.1.most)
-
-small_wide : (w : Word) (h : IsHighest w) → h.0 - 1 < 2 ^ 64
-small_wide w h = omega (arith, h.1.most)
-
-pub highest_utf8 : (w : Word) → IsHighest w → IsUtf8 w
-highest_utf8 w h = subst IsUtf8 (sym h.2) (IsUtf8-from_ascii (decimal (h.0 - 1)) (IsAscii-decimal (h.0 - 1) (small_wide w h)))
-
-pub highest_read : {E : Type 0} (w text : Word) (r : Result ℕ E) (h : IsHighest w) → text ≡ w → ParsesUnsigned 8 10 text r → r ≡ Ok (h.0 - 1)
-highest_read w text r h e p = parse-decimal 8 (h.0 - 1) text r (small w h) (small_wide w h) (e ∙ h.2) p
-
-pub highest_same : {E : Type 0} (n m : ℕ) (r : Result ℕ E) → r ≡ Ok n → r ≡ Ok m → m ≡ n
-highest_same n m r a b = cc
-
 pub highest_from : (w : Word) (n : ℕ) → n ≤ 127 → w ≡ decimal n → IsHighest w
 highest_from w n l e =
     let m : n ≡ n + 1 - 1 = omega arith in
     (n + 1, record { some = omega arith; most = omega (arith, l) }, e ∙ ap decimal m)
+
+-- the place of a bit is the number of the highest one of a width
+pub highest_answer : (w : Word) (o : Option ℕ) → MatchOption o ((n : ℕ) → n ≤ 127 → decimal n ≡ w → ⊥) (λ n. (n ≤ 127) × (decimal n ≡ w))
+    → MatchOption o (IsHighest w → ⊥) (λ n. (n ≤ 127) × (w ≡ decimal n))
+highest_answer w None h = λ t. h (t.0 - 1) (omega (arith, t.1.most)) (sym t.2)
+highest_answer w (Some n) h = (h.0, sym h.1)
 
 -- ---- literals
 digits_all : (w : Word) → IsNumber w → list_all is_digit w ≡ true

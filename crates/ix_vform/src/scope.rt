@@ -6,8 +6,8 @@ ghost use Rattle.ix_vform.specs.Roles.{IsRole};
 use crate::opened::Opened;
 use crate::role::Role;
 use ix_bits::{Memory, Name};
-use ix_net::{Port, is_name};
-use ix_verilog::{Assign, Source, Stage, Update};
+use ix_net::Port;
+use ix_verilog::{Assign, Source, Stage, Update, name_in};
 use std::alloc::Global;
 use std::marker::Model;
 
@@ -199,16 +199,6 @@ impl Scope {
         if let Some(opened) = self.module.take() {
             self.put(opened.at_stage(stage));
         }
-    }
-}
-
-/// The word as a text, where it is a name.
-fn name_in(word: &[u8]) -> Option<&str>
-    ensures { MatchOption result (IsName word.now → ⊥) (λ text. (text.now ≡ word.now) × IsName word.now) }
-{
-    match str::from_utf8(word) {
-        Ok(text) => { if is_name(text) { Some(text) } else { None } }
-        Err(_) => None,
     }
 }
 

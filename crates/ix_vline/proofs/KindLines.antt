@@ -1,9 +1,12 @@
 -- What fits the slots of a kind is a line that may stand.
-use Rattle.std.proofs.Common.{◌≡◌, ℕ, ◌-◌, ◌+◌, List, [], ◌∷◌, ◌++◌, length, take, drop, refl, ap, sym, ◌∙◌, subst, inl, inr, Option, Some, None, arith}
-use Rattle.std.specs.Prelude.{codes, decimal}
-use Rattle.std.proofs.Math.Seq.{take-append_seam}
-use Rattle.std.proofs.lemmas.List.{length-append}
+use Rattle.std.proofs.Common.{◌≡◌, ◌-◌, List, [], ◌∷◌, ◌++◌, refl, ap, sym, ◌∙◌, subst, inl, inr, Option, Some, None}
+use Rattle.std.specs.Prelude.{codes, decimal, Contains}
+use Rattle.std.proofs.lemmas.List.Elements.{All-contains, All-from_recursion}
 use Rattle.ix_net.specs.declared.netlist.Port.{Port as DeclaredPort}
+use Rattle.ix_verilog.specs.declared.right.Sign.{Sign}
+use Rattle.ix_verilog.specs.declared.right.Sign.TheVariants.{Plus, Minus, Times, And, Or, Xor, Equal, Less}
+use Rattle.ix_verilog.specs.declared.right.RightSide.{RightSide}
+use Rattle.ix_verilog.specs.declared.right.RightSide.TheVariants as side
 use Rattle.ix_verilog.specs.declared.source.Source.{Source}
 use Rattle.ix_verilog.specs.declared.source.Assign.{Assign as Assignment}
 use Rattle.ix_verilog.specs.declared.source.Update.{Update as Change}
@@ -11,7 +14,7 @@ use Rattle.ix_verilog.specs.declared.source.Stage.{Stage}
 use Rattle.ix_verilog.specs.declared.source.Stage.TheVariants.{Lines}
 use Rattle.ix_verilog.specs.Words.{Word}
 use Rattle.ix_verilog.specs.Lines as line
-use Rattle.ix_verilog.specs.Lines.{Line, line_words, port_words, IsRight, literal, copy, both, turned, signed, joined, range, choice}
+use Rattle.ix_verilog.specs.Lines.{Line, line_words, port_words, right_words, sign_word, operators, IsRight}
 use Rattle.ix_verilog.specs.Subset.{MayStand, MayStandIn, IsShortName, IsNext, IsOperand, IsTarget, IsRegister}
 use Rattle.ix_vline.specs.declared.kind.Kind.{Kind}
 use Rattle.ix_vline.specs.declared.kind.Kind.TheVariants.{Head, Port, Heading, Input, Output, Wire, Register, Assign, Always, Update, Done, Finish}
@@ -22,7 +25,7 @@ use Rattle.ix_vline.specs.declared.kind.Slot.TheVariants as slot
 use Rattle.ix_vline.specs.Slots.{Takes, slots, right_slots, declaring, first_word, MayStartIn}
 use Rattle.ix_vline.specs.Reached.{Fits}
 use Rattle.ix_vline.specs.Laws.{Stands}
-use Rattle.ix_vline.specs.Picked.{nth, IsDeclaredBy}
+use Rattle.ix_vline.specs.Picked.{nth, IsDeclaredBy, IsSideOf}
 use Rattle.ix_vline.proofs.Fitting.{join, picks_are}
 
 -- the line may stand, and has these words
@@ -81,62 +84,81 @@ register_line s ws p f d =
     (subst (λ (t : Stage). MayStandIn s t (line.register p)) (sym f.3.1.0) (f.3.1.1, (n, d.wide), f.3.1.2), declared_words s Register slot.Fresh ws f p d)
 
 -- ---- assignments
--- the words are a right side and the end of the line
-record RightOf (s : Source) (ws : List Word) : Type 0 where
-  pub right : List Word
-  pub is : IsRight (IsOperand s) right
-  pub are : ws ≡ right ++ codes ";" ∷ []
+-- the right side and the words of it and of the end of the line
+record SideLine (s : Source) (rest : List Word) (r : RightSide) : Type 0 where
+  pub is : IsRight (IsOperand s) r
+  pub are : rest ≡ right_words r ++ codes ";" ∷ []
 
-right_of : (s : Source) (k : Right) (ws : List Word) → Fits (Some s) (right_slots k) ws → RightOf s ws
-right_of s right.Literal ws f = record { right = f.0 ∷ []; is = literal f.0 f.3; are = picks_are (Some s) (right_slots right.Literal) ws f ∙ join refl (join f.4.3 refl) }
-right_of s right.Copy ws f = record { right = f.0 ∷ []; is = copy f.0 f.3; are = picks_are (Some s) (right_slots right.Copy) ws f ∙ join refl (join f.4.3 refl) }
-right_of s right.Both ws f = record {
-  right = f.0 ∷ f.4.0 ∷ f.4.4.0 ∷ [];
-  is = both f.0 f.4.0 f.4.4.0 f.3 f.4.3 f.4.4.3;
-  are = picks_are (Some s) (right_slots right.Both) ws f ∙ join refl (join refl (join refl (join f.4.4.4.3 refl)));
-}
-right_of s right.Turned ws f = record {
-  right = codes "~" ∷ f.4.0 ∷ [];
-  is = turned f.4.0 f.4.3;
-  are = picks_are (Some s) (right_slots right.Turned) ws f ∙ join f.3 (join refl (join f.4.4.3 refl));
-}
-right_of s right.Signed ws f = record {
-  right = codes "$signed" ∷ codes "(" ∷ f.4.4.0 ∷ codes ")" ∷ codes "<" ∷ codes "$signed" ∷ codes "(" ∷ f.4.4.4.4.4.4.4.0 ∷ codes ")" ∷ [];
-  is = signed f.4.4.0 f.4.4.4.4.4.4.4.0 f.4.4.3 f.4.4.4.4.4.4.4.3;
-  are = picks_are (Some s) (right_slots right.Signed) ws f ∙ join f.3 (join f.4.3 (join refl (join f.4.4.4.3 (join f.4.4.4.4.3 (join f.4.4.4.4.4.3 (join f.4.4.4.4.4.4.3 (join refl (join f.4.4.4.4.4.4.4.4.3 (join f.4.4.4.4.4.4.4.4.4.3 refl)))))))));
-}
-right_of s right.Joined ws f = record {
-  right = codes "{" ∷ f.4.0 ∷ codes "," ∷ f.4.4.4.0 ∷ codes "}" ∷ [];
-  is = joined f.4.0 f.4.4.4.0 f.4.3 f.4.4.4.3;
-  are = picks_are (Some s) (right_slots right.Joined) ws f ∙ join f.3 (join refl (join f.4.4.3 (join refl (join f.4.4.4.4.3 (join f.4.4.4.4.4.3 refl)))));
-}
-right_of s right.Range ws f = record {
-  right = f.0 ∷ codes "[" ∷ f.4.4.0 ∷ codes ":" ∷ f.4.4.4.4.0 ∷ codes "]" ∷ [];
-  is = range f.0 f.4.4.0 f.4.4.4.4.0 f.3 f.4.4.3 f.4.4.4.4.3;
-  are = picks_are (Some s) (right_slots right.Range) ws f ∙ join refl (join f.4.3 (join refl (join f.4.4.4.3 (join refl (join f.4.4.4.4.4.3 (join f.4.4.4.4.4.4.3 refl))))));
-}
-right_of s right.Choice ws f = record {
-  right = f.0 ∷ codes "?" ∷ f.4.4.0 ∷ codes ":" ∷ f.4.4.4.4.0 ∷ [];
-  is = choice f.0 f.4.4.0 f.4.4.4.4.0 f.3 f.4.4.3 f.4.4.4.4.3;
-  are = picks_are (Some s) (right_slots right.Choice) ws f ∙ join refl (join f.4.3 (join refl (join f.4.4.4.3 (join refl (join f.4.4.4.4.4.3 refl)))));
-}
+-- the sign that a word is
+sign_from : (o : Word) → Contains operators o → (s : Sign) × (sign_word s ≡ o)
+sign_from o c =
+    All-contains (λ (z : Word). (s : Sign) × (sign_word s ≡ z)) operators o
+    (All-from_recursion (λ (z : Word). (s : Sign) × (sign_word s ≡ z)) operators ((Plus, refl), ((Minus, refl), ((Times, refl), ((And, refl), ((Or, refl), ((Xor, refl), ((Equal, refl), ((Less, refl), tt))))))))) c
 
--- the words of the right side, which stands before the end of the line
-right_words : (a b c : Word) (ws r : List Word) → ws ≡ a ∷ b ∷ c ∷ (r ++ codes ";" ∷ []) → take (length ws - 4) (drop 3 ws) ≡ r
-right_words a b c ws r e =
-    let n : length ws ≡ 4 + length r = ap length e ∙ (let k = length-append r (codes ";" ∷ []) in omega (arith, k)) in
-    let m : length ws - 4 ≡ length r = omega (arith, n) in
-    ap (λ (k : ℕ). take k (drop 3 ws)) m ∙ ap (λ (q : List Word). take (length r) (drop 3 q)) e ∙ take-append_seam r (codes ";" ∷ [])
+side_line : (s : Source) (k : Right) (ws : List Word) (r : RightSide) (f : Fits (Some s) (slots (Assign k)) ws) → IsSideOf k ws r → SideLine s f.4.4.1 r
+side_line s right.Literal ws r f h =
+    let g = f.4.4.4 in
+    let e = picks_are (Some s) (slots (Assign right.Literal)) ws f in
+    let q : side.Literal g.0 ≡ r = ap (λ (z : List Word). side.Literal (nth 3 z)) (sym e) ∙ sym h in
+    subst (SideLine s f.4.4.1) q (record { is = g.3; are = picks_are (Some s) (right_slots right.Literal) f.4.4.1 g ∙ join refl (join g.4.3 refl) })
+side_line s right.Copy ws r f h =
+    let g = f.4.4.4 in
+    let e = picks_are (Some s) (slots (Assign right.Copy)) ws f in
+    let q : side.Copy g.0 ≡ r = ap (λ (z : List Word). side.Copy (nth 3 z)) (sym e) ∙ sym h in
+    subst (SideLine s f.4.4.1) q (record { is = g.3; are = picks_are (Some s) (right_slots right.Copy) f.4.4.1 g ∙ join refl (join g.4.3 refl) })
+side_line s right.Both ws r f h =
+    let g = f.4.4.4 in
+    let e = picks_are (Some s) (slots (Assign right.Both)) ws f in
+    let q : side.Both h.0 g.0 g.4.4.0 ≡ r = ap (λ (z : List Word). side.Both h.0 (nth 3 z) (nth 5 z)) (sym e) ∙ sym h.2 in
+    let o : g.4.0 ≡ sign_word h.0 = sym (ap (nth 4) e) ∙ sym h.1 in
+    subst (SideLine s f.4.4.1) q (record { is = (g.3, g.4.4.3); are = picks_are (Some s) (right_slots right.Both) f.4.4.1 g ∙ join refl (join o (join refl (join g.4.4.4.3 refl))) })
+side_line s right.Turned ws r f h =
+    let g = f.4.4.4 in
+    let e = picks_are (Some s) (slots (Assign right.Turned)) ws f in
+    let q : side.Turned g.4.0 ≡ r = ap (λ (z : List Word). side.Turned (nth 4 z)) (sym e) ∙ sym h in
+    subst (SideLine s f.4.4.1) q (record { is = g.4.3; are = picks_are (Some s) (right_slots right.Turned) f.4.4.1 g ∙ join g.3 (join refl (join g.4.4.3 refl)) })
+side_line s right.Signed ws r f h =
+    let g = f.4.4.4 in
+    let e = picks_are (Some s) (slots (Assign right.Signed)) ws f in
+    let q : side.Signed g.4.4.0 g.4.4.4.4.4.4.4.0 ≡ r = ap (λ (z : List Word). side.Signed (nth 5 z) (nth 10 z)) (sym e) ∙ sym h in
+    subst (SideLine s f.4.4.1) q (record { is = (g.4.4.3, g.4.4.4.4.4.4.4.3); are = picks_are (Some s) (right_slots right.Signed) f.4.4.1 g ∙ join g.3 (join g.4.3 (join refl (join g.4.4.4.3 (join g.4.4.4.4.3 (join g.4.4.4.4.4.3 (join g.4.4.4.4.4.4.3 (join refl (join g.4.4.4.4.4.4.4.4.3 (join g.4.4.4.4.4.4.4.4.4.3 refl))))))))) })
+side_line s right.Joined ws r f h =
+    let g = f.4.4.4 in
+    let e = picks_are (Some s) (slots (Assign right.Joined)) ws f in
+    let q : side.Joined g.4.0 g.4.4.4.0 ≡ r = ap (λ (z : List Word). side.Joined (nth 4 z) (nth 6 z)) (sym e) ∙ sym h in
+    subst (SideLine s f.4.4.1) q (record { is = (g.4.3, g.4.4.4.3); are = picks_are (Some s) (right_slots right.Joined) f.4.4.1 g ∙ join g.3 (join refl (join g.4.4.3 (join refl (join g.4.4.4.4.3 (join g.4.4.4.4.4.3 refl))))) })
+side_line s right.Range ws r f h =
+    let g = f.4.4.4 in
+    let e = picks_are (Some s) (slots (Assign right.Range)) ws f in
+    let q : side.Range g.0 g.4.4.0 g.4.4.4.4.0 ≡ r = ap (λ (z : List Word). side.Range (nth 3 z) (nth 5 z) (nth 7 z)) (sym e) ∙ sym h in
+    subst (SideLine s f.4.4.1) q (record { is = (g.3, g.4.4.3, g.4.4.4.4.3); are = picks_are (Some s) (right_slots right.Range) f.4.4.1 g ∙ join refl (join g.4.3 (join refl (join g.4.4.4.3 (join refl (join g.4.4.4.4.4.3 (join g.4.4.4.4.4.4.3 refl)))))) })
+side_line s right.Choice ws r f h =
+    let g = f.4.4.4 in
+    let e = picks_are (Some s) (slots (Assign right.Choice)) ws f in
+    let q : side.Choice g.0 g.4.4.0 g.4.4.4.4.0 ≡ r = ap (λ (z : List Word). side.Choice (nth 3 z) (nth 5 z) (nth 7 z)) (sym e) ∙ sym h in
+    subst (SideLine s f.4.4.1) q (record { is = (g.3, g.4.4.3, g.4.4.4.4.3); are = picks_are (Some s) (right_slots right.Choice) f.4.4.1 g ∙ join refl (join g.4.3 (join refl (join g.4.4.4.3 (join refl (join g.4.4.4.4.4.3 refl))))) })
 
-pub assign_line : (s : Source) (k : Right) (ws : List Word) (a : Assignment) → Fits (Some s) (slots (Assign k)) ws → a.target ≡ nth 1 ws → a.right ≡ take (length ws - 4) (drop 3 ws) → IsHere (Some s) ws (line.assign a)
+pub assign_line : (s : Source) (k : Right) (ws : List Word) (a : Assignment) → Fits (Some s) (slots (Assign k)) ws → a.target ≡ nth 1 ws → IsSideOf k ws a.right → IsHere (Some s) ws (line.assign a)
 assign_line s k ws a f t r =
     let q : ws ≡ f.0 ∷ f.4.0 ∷ f.4.4.0 ∷ f.4.4.1 = f.2 ∙ ap (λ (z : List Word). f.0 ∷ z) (f.4.2 ∙ ap (λ (z : List Word). f.4.0 ∷ z) f.4.4.2) in
-    let o = right_of s k f.4.4.1 f.4.4.4 in
-    let e : ws ≡ f.0 ∷ f.4.0 ∷ f.4.4.0 ∷ (o.right ++ codes ";" ∷ []) = q ∙ ap (λ (z : List Word). f.0 ∷ f.4.0 ∷ f.4.4.0 ∷ z) o.are in
-    let g : o.right ≡ a.right = sym (right_words f.0 f.4.0 f.4.4.0 ws o.right e) ∙ sym r in
-    let n : f.4.0 ≡ a.target = sym (ap (nth 1) e) ∙ sym t in
-    let h : MayStandIn s Lines (line.assign a) = (f.3.1.1, subst (IsTarget s) n f.4.3, subst (IsRight (IsOperand s)) g o.is) in
-    (subst (λ (z : Stage). MayStandIn s z (line.assign a)) (sym f.3.1.0) h, e ∙ join f.3.0 (join n (join f.4.4.3 (ap (λ (z : List Word). z ++ codes ";" ∷ []) g))))
+    let o = side_line s k ws a.right f r in
+    let n : f.4.0 ≡ a.target = sym (ap (nth 1) q) ∙ sym t in
+    let h : MayStandIn s Lines (line.assign a) = (f.3.1.1, subst (IsTarget s) n f.4.3, o.is) in
+    (subst (λ (z : Stage). MayStandIn s z (line.assign a)) (sym f.3.1.0) h, q ∙ join f.3.0 (join n (join f.4.4.3 o.are)))
+
+-- the words of the line have a right side
+some_side : (s : Source) (k : Right) (ws : List Word) → Fits (Some s) (slots (Assign k)) ws → (r : RightSide) × IsSideOf k ws r
+some_side s right.Literal ws f = (side.Literal (nth 3 ws), refl)
+some_side s right.Copy ws f = (side.Copy (nth 3 ws), refl)
+some_side s right.Both ws f =
+    let e = picks_are (Some s) (slots (Assign right.Both)) ws f in
+    let o = sign_from f.4.4.4.4.0 f.4.4.4.4.3 in
+    (side.Both o.0 (nth 3 ws) (nth 5 ws), (o.0, o.1 ∙ sym (ap (nth 4) e), refl))
+some_side s right.Turned ws f = (side.Turned (nth 4 ws), refl)
+some_side s right.Signed ws f = (side.Signed (nth 5 ws) (nth 10 ws), refl)
+some_side s right.Joined ws f = (side.Joined (nth 4 ws) (nth 6 ws), refl)
+some_side s right.Range ws f = (side.Range (nth 3 ws) (nth 5 ws) (nth 7 ws), refl)
+some_side s right.Choice ws f = (side.Choice (nth 3 ws) (nth 5 ws) (nth 7 ws), refl)
 
 -- ---- registers and the end
 pub always_line : (s : Source) (ws : List Word) → Fits (Some s) (slots Always) ws → IsHere (Some s) ws line.always
@@ -189,8 +211,9 @@ stands_in s Output ws f = (let p = declares s Output slot.Next ws f in here (Som
 stands_in s Wire ws f = (let p = declares s Wire slot.Fresh ws f in here (Some s) ws (line.wire p.0) (wire_line s ws p.0 f p.1))
 stands_in s Register ws f = (let p = declares s Register slot.Fresh ws f in here (Some s) ws (line.register p.0) (register_line s ws p.0 f p.1))
 stands_in s (Assign k) ws f =
-    let a : Assignment = record { target = nth 1 ws; right = take (length ws - 4) (drop 3 ws) } in
-    here (Some s) ws (line.assign a) (assign_line s k ws a f refl refl)
+    let r = some_side s k ws f in
+    let a : Assignment = record { target = nth 1 ws; right = r.0 } in
+    here (Some s) ws (line.assign a) (assign_line s k ws a f refl r.1)
 stands_in s Always ws f = here (Some s) ws line.always (always_line s ws f)
 stands_in s Update ws f =
     let u : Change = record { enable = nth 2 ws; target = nth 4 ws; source = nth 6 ws } in

@@ -1,6 +1,11 @@
 -- Lines that may stand fit the slots of a kind.
-use Rattle.std.proofs.Common.{◌≡◌, ◌⊎◌, List, [], ◌∷◌, ◌++◌, refl, inl, inr, Option, Some, None}
+use Rattle.std.proofs.Common.{◌≡◌, ◌⊎◌, List, [], ◌∷◌, ◌++◌, refl, inl, inr, arith, Option, Some, None}
+use Rattle.std.specs.Prelude.{Contains}
 use Rattle.ix_net.specs.declared.netlist.Port.{Port as DeclaredPort}
+use Rattle.ix_verilog.specs.declared.right.Sign.{Sign}
+use Rattle.ix_verilog.specs.declared.right.Sign.TheVariants.{Plus, Minus, Times, And, Or, Xor, Equal, Less}
+use Rattle.ix_verilog.specs.declared.right.RightSide.{RightSide}
+use Rattle.ix_verilog.specs.declared.right.RightSide.TheVariants as side
 use Rattle.ix_verilog.specs.declared.source.Source.{Source}
 use Rattle.ix_verilog.specs.declared.source.Assign.{Assign as Assignment}
 use Rattle.ix_verilog.specs.declared.source.Update.{Update as Change}
@@ -8,7 +13,7 @@ use Rattle.ix_verilog.specs.declared.source.Stage.{Stage}
 use Rattle.ix_verilog.specs.declared.source.Stage.TheVariants.{Ports, Lines, Clocked, Ended}
 use Rattle.ix_verilog.specs.Words.{Word}
 use Rattle.ix_verilog.specs.Lines as line
-use Rattle.ix_verilog.specs.Lines.{Line, line_words, IsRight, literal, copy, both, turned, signed, joined, range, choice}
+use Rattle.ix_verilog.specs.Lines.{Line, line_words, right_words, sign_word, operators, IsRight}
 use Rattle.ix_verilog.specs.Subset.{MayStand, MayStandIn, IsShortName, IsOperand, IsDriven, HasPorts}
 use Rattle.ix_vline.specs.declared.kind.Kind.{Kind}
 use Rattle.ix_vline.specs.declared.kind.Kind.TheVariants.{Head, Port, Heading, Input, Output, Wire, Register, Assign, Always, Update, Done, Finish}
@@ -94,15 +99,25 @@ record FitsRight (s : Source) (ws : List Word) : Type 0 where
   pub kind : Right
   pub fits : Fits (Some s) (right_slots kind) (ws ++ (59 ∷ []) ∷ [])
 
-right_fits : (s : Source) (ws : List Word) → IsRight (IsOperand s) ws → FitsRight s ws
-right_fits s ws (literal w l) = record { kind = right.Literal; fits = (_, _, refl, l, (_, _, refl, refl, refl)) }
-right_fits s ws (copy a h) = record { kind = right.Copy; fits = (_, _, refl, h, (_, _, refl, refl, refl)) }
-right_fits s ws (both a o b h c k) = record { kind = right.Both; fits = (_, _, refl, h, (_, _, refl, c, (_, _, refl, k, (_, _, refl, refl, refl)))) }
-right_fits s ws (turned a h) = record { kind = right.Turned; fits = (_, _, refl, refl, (_, _, refl, h, (_, _, refl, refl, refl))) }
-right_fits s ws (signed a b h k) = record { kind = right.Signed; fits = (_, _, refl, refl, (_, _, refl, refl, (_, _, refl, h, (_, _, refl, refl, (_, _, refl, refl, (_, _, refl, refl, (_, _, refl, refl, (_, _, refl, k, (_, _, refl, refl, (_, _, refl, refl, refl)))))))))) }
-right_fits s ws (joined a b h k) = record { kind = right.Joined; fits = (_, _, refl, refl, (_, _, refl, h, (_, _, refl, refl, (_, _, refl, k, (_, _, refl, refl, (_, _, refl, refl, refl)))))) }
-right_fits s ws (range a h l i j k) = record { kind = right.Range; fits = (_, _, refl, i, (_, _, refl, refl, (_, _, refl, j, (_, _, refl, refl, (_, _, refl, k, (_, _, refl, refl, (_, _, refl, refl, refl))))))) }
-right_fits s ws (choice c a b h i j) = record { kind = right.Choice; fits = (_, _, refl, h, (_, _, refl, refl, (_, _, refl, i, (_, _, refl, refl, (_, _, refl, j, (_, _, refl, refl, refl)))))) }
+sign_operator : (s : Sign) → Contains operators (sign_word s)
+sign_operator Plus = (0, omega arith, refl)
+sign_operator Minus = (1, omega arith, refl)
+sign_operator Times = (2, omega arith, refl)
+sign_operator And = (3, omega arith, refl)
+sign_operator Or = (4, omega arith, refl)
+sign_operator Xor = (5, omega arith, refl)
+sign_operator Equal = (6, omega arith, refl)
+sign_operator Less = (7, omega arith, refl)
+
+right_fits : (s : Source) (r : RightSide) → IsRight (IsOperand s) r → FitsRight s (right_words r)
+right_fits s (side.Literal w) l = record { kind = right.Literal; fits = (_, _, refl, l, (_, _, refl, refl, refl)) }
+right_fits s (side.Copy a) h = record { kind = right.Copy; fits = (_, _, refl, h, (_, _, refl, refl, refl)) }
+right_fits s (side.Both o a b) h = record { kind = right.Both; fits = (_, _, refl, h.0, (_, _, refl, sign_operator o, (_, _, refl, h.1, (_, _, refl, refl, refl)))) }
+right_fits s (side.Turned a) h = record { kind = right.Turned; fits = (_, _, refl, refl, (_, _, refl, h, (_, _, refl, refl, refl))) }
+right_fits s (side.Signed a b) h = record { kind = right.Signed; fits = (_, _, refl, refl, (_, _, refl, refl, (_, _, refl, h.0, (_, _, refl, refl, (_, _, refl, refl, (_, _, refl, refl, (_, _, refl, refl, (_, _, refl, h.1, (_, _, refl, refl, (_, _, refl, refl, refl)))))))))) }
+right_fits s (side.Joined a b) h = record { kind = right.Joined; fits = (_, _, refl, refl, (_, _, refl, h.0, (_, _, refl, refl, (_, _, refl, h.1, (_, _, refl, refl, (_, _, refl, refl, refl)))))) }
+right_fits s (side.Range a h l) k = record { kind = right.Range; fits = (_, _, refl, k.0, (_, _, refl, refl, (_, _, refl, k.1, (_, _, refl, refl, (_, _, refl, k.2, (_, _, refl, refl, (_, _, refl, refl, refl))))))) }
+right_fits s (side.Choice c a b) h = record { kind = right.Choice; fits = (_, _, refl, h.0, (_, _, refl, refl, (_, _, refl, h.1, (_, _, refl, refl, (_, _, refl, h.2, (_, _, refl, refl, refl)))))) }
 
 -- a line fits a kind
 abbrev FitsKind : Option Source → Line → Type 0

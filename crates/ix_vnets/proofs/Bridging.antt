@@ -1,7 +1,6 @@
 -- Cells and banks by the map of widths are those of the module.
 use Rattle.std.proofs.Common.{◌≡◌, ◌≢◌, inl, inr, ℕ, ◌≤◌, List, [], ◌∷◌, ◌++◌, Option, Some, ap, sym, ◌∙◌, subst, arith}
 use Rattle.std.specs.Prelude.{Contains, All, AllPairs}
-use Rattle.std.specs.List.{AllByRecursion}
 use Rattle.std.proofs.lemmas.Option.{same_Some}
 use Rattle.std.proofs.lemmas.List.Elements.{All-contains, Contains-append_left, Contains-append_right}
 use Rattle.ix_net.specs.declared.netlist.Port.{Port}
@@ -10,21 +9,21 @@ use Rattle.ix_net.specs.declared.netlist.Bank.{Bank}
 use Rattle.ix_net.specs.declared.netlist.Form.{Form}
 use Rattle.ix_net.specs.declared.netlist.Form.TheVariants.{Hex, Copy, Add, Sub, Mul, And, Or, Xor, Not, Eq, Lt, LtSigned, Join, Range, Choose}
 use Rattle.ix_net.specs.Signals.{cell_port, bank_port}
-use Rattle.ix_net.specs.Forms.{operands, Fits}
+use Rattle.ix_net.specs.Forms.{Fits}
 use Rattle.ix_net.specs.Valid.{names}
 use Rattle.ix_net.specs.Declarations.{FormFits}
-use Rattle.ix_net.proofs.FormFits.{fits_from, operands_have, HasSome}
+use Rattle.ix_net.proofs.FormFits.{fits_from}
 use Rattle.ix_verilog.specs.declared.source.Source.{Source}
 use Rattle.ix_verilog.specs.declared.source.Assign.{Assign}
 use Rattle.ix_verilog.specs.declared.source.Update.{Update}
 use Rattle.ix_verilog.specs.Words.{Word}
-use Rattle.ix_verilog.specs.Subset.{assigned, declared, Names, IsShortName, MayDeclare}
+use Rattle.ix_verilog.specs.Subset.{assigned, declared, Names, MayDeclare}
 use Rattle.ix_verilog.proofs.Pairs.{pairs_head, pairs_tail, contains_mapped, head_case, mapped_back}
-use Rattle.ix_vonce.specs.Names.{AllOnce, said_in}
-use Rattle.ix_vright.specs.Forms.{IsFormOf, IsWithin}
-use Rattle.ix_vright.specs.Laws.{OneForm}
-use Rattle.ix_vwidth.specs.Widths.{Has}
-use Rattle.ix_vwidth.specs.Tables.{Map, found, AreApart, Holds}
+use Rattle.ix_vnets.specs.Names.{AllOnce, said_in}
+use Rattle.ix_vnets.specs.Forms.{IsFormOf, IsWithin}
+use Rattle.ix_vnets.proofs.One.{one_side}
+use Rattle.ix_vnets.specs.Widths.{Has}
+use Rattle.ix_vnets.specs.WidthTables.{Map, found, AreApart, Holds}
 use Rattle.ix_vnets.specs.Finished.{IsFinished}
 use Rattle.ix_vnets.specs.Nets.{IsCellOf, IsBankOf}
 use Rattle.ix_vnets.specs.Tables.{IsCellBy, IsBankBy, HasCell}
@@ -60,10 +59,6 @@ fits_to has width g w (LtSigned a b) h = (h.0, (h.1.0, g a h.1.0 h.1.1, g b h.1.
 fits_to has width g w (Join a b) h = (h.0, h.1, g a h.0 h.2, g b h.1 h.3, h.4)
 fits_to has width g w (Range a hi lo) h = (h.0, g a h.0 h.1, h.2, h.3, h.4)
 fits_to has width g w (Choose c a b) h = (g c 1 h.0, g a w h.1, g b w h.2)
-
-named_all : (ports : List Port) → All MayDeclare ports → (ns : List Word) → AllByRecursion (HasSome (Has ports)) ns → AllByRecursion IsShortName ns
-named_all ports h [] a = tt
-named_all ports h (n ∷ ns) a = (let p : Port = record { name = n; width = a.0.0 } in let m : MayDeclare p = All-contains MayDeclare ports p h a.0.1 in m.0, named_all ports h ns a.1)
 
 within : (ports : List Port) → All MayDeclare ports → (w : ℕ) (f : Form) → FormFits (Has ports) w f → IsWithin f
 within ports h w (Range a hi lo) f = (let m : MayDeclare (record { name = a; width = f.0 }) = All-contains MayDeclare ports (record { name = a; width = f.0 }) h f.1 in let k : f.0 ≤ 128 = m.1.most in (omega (arith, k, f.3), omega (arith, k, f.2, f.3)))
@@ -103,9 +98,9 @@ one_of ps qs apart sub n w c h =
     subst (Contains qs) same r.1
 
 -- no cell goes with a right side that does not fit
-pub no_cell : OneForm → (m : Map) (a : Assign) (right : List Word) (w : ℕ) (f : Form) → found m a.target ≡ Some w → right ≡ a.right → IsFormOf right f → (Fits (found m) w f → ⊥) → HasCell m a → ⊥
-no_cell one_side m a right w f e r i never h =
-    let form : f ≡ h.0.form = one_side a.right f h.0.form (subst (λ z. IsFormOf z f) r i) h.1.form in
+pub no_cell : (m : Map) (a : Assign) (w : ℕ) (f : Form) → found m a.target ≡ Some w → IsFormOf a.right f → (Fits (found m) w f → ⊥) → HasCell m a → ⊥
+no_cell m a w f e i never h =
+    let form : f ≡ h.0.form = one_side a.right f h.0.form i h.1.form in
     let wide : w ≡ h.0.width = same_Some w h.0.width (sym e ∙ h.1.wide) in
     never (subst (λ z. Fits (found m) z f) (sym wide) (subst (Fits (found m) h.0.width) (sym form) h.1.fits))
 
@@ -113,7 +108,6 @@ no_cell one_side m a right w f e r i never h =
 pub form_is : (s : Source) → IsFinished s → (a : Assign) (c : Cell) → IsCellOf s a c → IsFormOf a.right c.form
 form_is s fin a c h = record {
   is = h.right;
-  named = named_all (declared s) fin.declares (operands c.form) (operands_have (Has (declared s)) c.width c.form h.fits);
   within = within (declared s) fin.declares c.width c.form h.fits;
 }
 

@@ -21,11 +21,11 @@ use Rattle.ix_verilog.specs.declared.source.Source.{Source}
 use Rattle.ix_verilog.specs.declared.source.Assign.{Assign}
 use Rattle.ix_verilog.specs.declared.source.Update.{Update}
 use Rattle.ix_verilog.specs.Words.{Word}
-use Rattle.ix_verilog.specs.Lines.{form_words}
+use Rattle.ix_verilog.specs.Lines.{right_of}
 use Rattle.ix_verilog.specs.Subset.{assigned, declared, MayDeclare, IsNetOf}
 use Rattle.ix_verilog.proofs.Pairs.{contains_mapped, mapped_back, all_of, pairs_left, pairs_right, pairs_cross, pairs_append, pairs_cons, pairs_head, pairs_tail}
-use Rattle.ix_vonce.specs.Names.{AllOnce, said_in, targets, updated}
-use Rattle.ix_vwidth.specs.Widths.{Has}
+use Rattle.ix_vnets.specs.Names.{AllOnce, said_in, targets, updated}
+use Rattle.ix_vnets.specs.Widths.{Has}
 use Rattle.ix_vnets.specs.Finished.{IsFinished}
 use Rattle.ix_vnets.specs.Nets.{IsCellOf, IsBankOf, IsMadeOf}
 use Rattle.ix_vnets.proofs.Bridging.{port_once, fits_to, assigned_in, register_in, input_in}
@@ -216,7 +216,7 @@ module _ (s : Source) (net : Net) (fin : IsFinished s) (once : AllOnce (said_in 
     inputs = made.inputs;
     outputs = made.outputs;
     targets = cell_targets;
-    rights = zip_map (IsCellOf s) (λ (a : Assign). a.right) (λ (c : Cell). form_words c.form) s.assigns net.cells (λ a c h. h.right) made.cells;
+    rights = zip_map (IsCellOf s) (λ (a : Assign). a.right) (λ (c : Cell). right_of c.form) s.assigns net.cells (λ a c h. h.right) made.cells;
     cell_widths = cells_in;
     updates = zip_map (IsBankOf s) (λ (u : Update). u) to_update s.updates net.banks (λ u b h. h.is) made.banks ∙ map_same (λ (u : Update). u) s.updates (λ u. refl);
     bank_widths = banks_in;
@@ -238,7 +238,7 @@ record IsFit (s : Source) (c : Cell) : Type 0 where
   pub declared_so : Contains (assigned s) (cell_port c)
   pub fits : FormFits (Has (declared s)) c.width c.form
 
-cells_back : (s : Source) (aas : List Assign) (cs : List Cell) → map (λ (c : Cell). c.target) cs ≡ map (λ (a : Assign). a.target) aas → map (λ (c : Cell). form_words c.form) cs ≡ map (λ (a : Assign). a.right) aas → All (IsFit s) cs → AllZip (IsCellOf s) aas cs
+cells_back : (s : Source) (aas : List Assign) (cs : List Cell) → map (λ (c : Cell). c.target) cs ≡ map (λ (a : Assign). a.target) aas → map (λ (c : Cell). right_of c.form) cs ≡ map (λ (a : Assign). a.right) aas → All (IsFit s) cs → AllZip (IsCellOf s) aas cs
 cells_back s [] [] e f h = tt
 cells_back s [] (c ∷ cs) e f h = absurd (no_cons c.target (map (λ (x : Cell). x.target) cs) e)
 cells_back s (a ∷ aas) [] e f h = absurd (no_cons a.target (map (λ (x : Assign). x.target) aas) (sym e))
@@ -246,12 +246,12 @@ cells_back s (a ∷ aas) (c ∷ cs) e f h =
     let k : IsFit s c = All-head (IsFit s) c cs h in (
       record {
         target = heads c.target a.target (map (λ (x : Cell). x.target) cs) (map (λ (x : Assign). x.target) aas) e;
-        right = heads (form_words c.form) a.right (map (λ (x : Cell). form_words x.form) cs) (map (λ (x : Assign). x.right) aas) f;
+        right = heads (right_of c.form) a.right (map (λ (x : Cell). right_of x.form) cs) (map (λ (x : Assign). x.right) aas) f;
         declared_so = k.declared_so;
         fits = k.fits;
       },
       cells_back s aas cs (tails c.target a.target (map (λ (x : Cell). x.target) cs) (map (λ (x : Assign). x.target) aas) e)
-          (tails (form_words c.form) a.right (map (λ (x : Cell). form_words x.form) cs) (map (λ (x : Assign). x.right) aas) f) (All-tail (IsFit s) c cs h),
+          (tails (right_of c.form) a.right (map (λ (x : Cell). right_of x.form) cs) (map (λ (x : Assign). x.right) aas) f) (All-tail (IsFit s) c cs h),
     )
 
 record IsBankFit (s : Source) (b : Bank) : Type 0 where

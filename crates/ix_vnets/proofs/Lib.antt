@@ -1,3 +1,10 @@
+mod Hexes
+mod Literals
+mod Sides
+mod One
+mod Holding
+pub mod Saying
+pub mod Seen
 mod Listed
 mod Bridging
 mod Modules

@@ -10,8 +10,8 @@ use Rattle.ix_verilog.specs.declared.source.Source.{Source}
 use Rattle.ix_verilog.specs.Words.{Word}
 use Rattle.ix_verilog.specs.Subset.{declared}
 use Rattle.ix_verilog.proofs.Pairs.{head_case}
-use Rattle.ix_vonce.specs.Names.{AllOnce, said, said_in}
-use Rattle.ix_vwidth.specs.Tables.{Map, AreApart, Holds}
+use Rattle.ix_vnets.specs.Names.{AllOnce, said, said_in}
+use Rattle.ix_vnets.specs.WidthTables.{Map, AreApart, Holds}
 use Rattle.ix_vnets.specs.Finished.{IsFinished}
 use Rattle.ix_vnets.specs.Nets.{IsCellOf, IsBankOf, IsMadeOf}
 use Rattle.ix_vnets.specs.Drives.{assigning, updating, drives_in, drives, DriveFits, IsFirstNot, IsMisfit}

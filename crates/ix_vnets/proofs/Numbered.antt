@@ -11,12 +11,16 @@ use Rattle.ix_net.specs.declared.netlist.Port.{Port}
 use Rattle.ix_net.specs.Name.{IsName, is_mark}
 use Rattle.ix_net.specs.Valid.{IsWidth}
 use Rattle.ix_verilog.specs.declared.source.Source.{Source}
+use Rattle.ix_verilog.specs.declared.right.Sign.{Sign}
+use Rattle.ix_verilog.specs.declared.right.Sign.TheVariants.{Plus, Minus, Times, And, Or, Xor, Equal, Less}
+use Rattle.ix_verilog.specs.declared.right.RightSide.{RightSide}
+use Rattle.ix_verilog.specs.declared.right.RightSide.TheVariants as side
 use Rattle.ix_verilog.specs.declared.source.Stage.{Stage}
 use Rattle.ix_verilog.specs.declared.source.Stage.TheVariants.{Ports, Lines, Clocked, Ended}
 use Rattle.ix_verilog.specs.declared.source.Assign.{Assign}
 use Rattle.ix_verilog.specs.declared.source.Update.{Update}
 use Rattle.ix_verilog.specs.Words.{Word, is_digit}
-use Rattle.ix_verilog.specs.Lines.{Line, head, port, heading, input, output, wire, register, assign, always, update, done, finish, line_words, port_words, IsNumber, IsLiteral, operators, IsRight, literal, copy, both, turned, signed, joined, range, choice}
+use Rattle.ix_verilog.specs.Lines.{Line, head, port, heading, input, output, wire, register, assign, always, update, done, finish, line_words, port_words, right_words, sign_word, IsNumber, IsLiteral, IsRight}
 use Rattle.ix_verilog.specs.Subset.{State, start, Leads, MayStandIn, MayStand, after_in, with_line, IsOperand, AreModules, MayDeclare}
 use Rattle.ix_verilog.proofs.Digits.{decimal_is_number}
 use Rattle.ix_vnets.specs.Drives.{assigning, updating, drives_in, drives, is_drive}
@@ -52,21 +56,28 @@ literal_first (c ∷ width) rest v b d h e = (let k : c ≡ b = cc in true≢fal
 literal_word : (w : Word) → IsLiteral w → is_drive w ≡ false
 literal_word w l = not_drive w (λ e. literal_first l.width (codes "'h" ++ l.digits) (codes "ssign") 97 refl l.wide (sym l.is ∙ e)) (λ e. literal_first l.width (codes "'h" ++ l.digits) (codes "f") 105 refl l.wide (sym l.is ∙ e))
 
-operator : (o : Word) → Contains operators o → is_drive o ≡ false
-operator o c = All-contains (λ z. is_drive z ≡ false) operators o (All-from_recursion (λ z. is_drive z ≡ false) operators (refl, (refl, (refl, (refl, (refl, (refl, (refl, (refl, tt))))))))) c
+sign : (s : Sign) → is_drive (sign_word s) ≡ false
+sign Plus = refl
+sign Minus = refl
+sign Times = refl
+sign And = refl
+sign Or = refl
+sign Xor = refl
+sign Equal = refl
+sign Less = refl
 
 abbrev NoDrive : List Word → Type 0
 NoDrive ws = AllByRecursion (λ w. is_drive w ≡ false) ws
 
-right_side : (s : Source) (ws : List Word) → IsRight (IsOperand s) ws → NoDrive ws
-right_side s ws (literal w l) = (literal_word w l, tt)
-right_side s ws (copy a h) = (plain a h.named, tt)
-right_side s ws (both a o b h c k) = (plain a h.named, (operator o c, (plain b k.named, tt)))
-right_side s ws (turned a h) = (refl, (plain a h.named, tt))
-right_side s ws (signed a b h k) = (refl, (refl, (plain a h.named, (refl, (refl, (refl, (refl, (plain b k.named, (refl, tt)))))))))
-right_side s ws (joined a b h k) = (refl, (plain a h.named, (refl, (plain b k.named, (refl, tt)))))
-right_side s ws (range a h l i j k) = (plain a i.named, (refl, (number h j, (refl, (number l k, (refl, tt))))))
-right_side s ws (choice c a b h i j) = (plain c h.named, (refl, (plain a i.named, (refl, (plain b j.named, tt)))))
+right_side : (s : Source) (r : RightSide) → IsRight (IsOperand s) r → NoDrive (right_words r)
+right_side s (side.Literal w) l = (literal_word w l, tt)
+right_side s (side.Copy a) h = (plain a h.named, tt)
+right_side s (side.Both o a b) h = (plain a h.0.named, (sign o, (plain b h.1.named, tt)))
+right_side s (side.Turned a) h = (refl, (plain a h.named, tt))
+right_side s (side.Signed a b) h = (refl, (refl, (plain a h.0.named, (refl, (refl, (refl, (refl, (plain b h.1.named, (refl, tt)))))))))
+right_side s (side.Joined a b) h = (refl, (plain a h.0.named, (refl, (plain b h.1.named, (refl, tt)))))
+right_side s (side.Range a h l) k = (plain a k.0.named, (refl, (number h k.1, (refl, (number l k.2, (refl, tt))))))
+right_side s (side.Choice c a b) h = (plain c h.0.named, (refl, (plain a h.1.named, (refl, (plain b h.2.named, tt)))))
 
 -- ---- how many words of a list begin one
 abbrev pub drive_words : List Word → ℕ
@@ -95,8 +106,8 @@ size line = 0
 abbrev Counts : Line → Type 0
 Counts l = drive_words (line_words l) ≡ size l
 
-assign_counts : (s : Source) (a : Assign) → is_drive a.target ≡ false → NoDrive a.right → Counts (assign a)
-assign_counts s a t r = ap suc (none (a.target ∷ codes "=" ∷ (a.right ++ codes ";" ∷ [])) (t, (refl, join_none a.right (codes ";" ∷ []) r (refl, tt))))
+assign_counts : (s : Source) (a : Assign) → is_drive a.target ≡ false → NoDrive (right_words a.right) → Counts (assign a)
+assign_counts s a t r = ap suc (none (a.target ∷ codes "=" ∷ (right_words a.right ++ codes ";" ∷ [])) (t, (refl, join_none (right_words a.right) (codes ";" ∷ []) r (refl, tt))))
 
 update_counts : (u : Update) → is_drive u.enable ≡ false → is_drive u.target ≡ false → is_drive u.source ≡ false → Counts (update u)
 update_counts u e t r = ap suc (none (codes "(" ∷ u.enable ∷ codes ")" ∷ u.target ∷ codes "<=" ∷ u.source ∷ codes ";" ∷ []) (refl, (e, (refl, (t, (refl, (r, (refl, tt))))))))

@@ -11,10 +11,10 @@ use Rattle.ix_verilog.specs.declared.source.Source.{Source}
 use Rattle.ix_verilog.specs.declared.source.Assign.{Assign}
 use Rattle.ix_verilog.specs.declared.source.Update.{Update}
 use Rattle.ix_verilog.specs.Subset.{declared}
-use Rattle.ix_vonce.specs.Names.{AllOnce, said_in}
-use Rattle.ix_vright.specs.Laws.{OneForm}
+use Rattle.ix_vnets.specs.Names.{AllOnce, said_in}
 use Rattle.ix_vnets.specs.Finished.{IsFinished}
 use Rattle.ix_vnets.specs.Nets.{IsCellOf, IsBankOf, IsMadeOf}
+use Rattle.ix_vnets.proofs.One.{one_side}
 use Rattle.ix_vnets.proofs.Bridging.{port_once, assigned_in, register_in, apart_of, form_is}
 
 cell_same : (c d : Cell) → c.target ≡ d.target → c.width ≡ d.width → c.form ≡ d.form → c ≡ d
@@ -46,7 +46,7 @@ zip_same R (x ∷ xs) [] zs f h k = absurd h
 zip_same R (x ∷ xs) (y ∷ ys) [] f h k = absurd k
 zip_same R (x ∷ xs) (y ∷ ys) (z ∷ zs) f h k = ap (λ q. q ∷ ys) (f x y z h.0 k.0) ∙ ap (λ q. z ∷ q) (zip_same R xs ys zs f h.1 k.1)
 
-module _ (one : OneForm) (s : Source) (fin : IsFinished s) (once : AllOnce (said_in s)) where
+module _ (s : Source) (fin : IsFinished s) (once : AllOnce (said_in s)) where
   port_same : (p q : Port) → Contains (declared s) p → Contains (declared s) q → p.name ≡ q.name → p ≡ q
   port_same p q = port_once (declared s) (apart_of s once) p q
 
@@ -54,7 +54,7 @@ module _ (one : OneForm) (s : Source) (fin : IsFinished s) (once : AllOnce (said
   one_cell a c d h k =
       let t : c.target ≡ d.target = h.target ∙ sym k.target in
       let p : cell_port c ≡ cell_port d = port_same (cell_port c) (cell_port d) (assigned_in s (cell_port c) h.declared_so) (assigned_in s (cell_port d) k.declared_so) t in
-      cell_same c d t (ap (λ (x : Port). x.width) p) (one a.right c.form d.form (form_is s fin a c h) (form_is s fin a d k))
+      cell_same c d t (ap (λ (x : Port). x.width) p) (one_side a.right c.form d.form (form_is s fin a c h) (form_is s fin a d k))
 
   one_bank : (u : Update) (b d : Bank) → IsBankOf s u b → IsBankOf s u d → b ≡ d
   one_bank u b d h k =

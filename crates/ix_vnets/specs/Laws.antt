@@ -6,7 +6,7 @@ use Rattle.ix_net.specs.Valid.{DependsOn}
 use Rattle.ix_verilog.specs.declared.source.Source.{Source}
 use Rattle.ix_verilog.specs.Words.{Word}
 use Rattle.ix_verilog.specs.Subset.{AreModules, IsNetOf}
-use Rattle.ix_vonce.specs.Names.{AllOnce, said_in}
+use Rattle.ix_vnets.specs.Names.{AllOnce, said_in}
 use Rattle.ix_vnets.specs.Finished.{IsFinished}
 use Rattle.ix_vnets.specs.Nets.{IsMadeOf}
 use Rattle.ix_vnets.specs.Drives.{is_drive, drives, DriveFits, IsFirstNot, IsMisfit}

@@ -1,3 +1,10 @@
+pub mod Numbers
+pub mod Signs
+pub mod Forms
+pub mod Widths
+pub mod WidthTables
+pub mod Names
+pub mod Sets
 pub mod Nets
 pub mod Finished
 pub mod Drives

@@ -9,14 +9,14 @@ use Rattle.ix_net.specs.Declarations.{FormFits}
 use Rattle.ix_verilog.specs.declared.source.Source.{Source}
 use Rattle.ix_verilog.specs.declared.source.Assign.{Assign}
 use Rattle.ix_verilog.specs.declared.source.Update.{Update}
-use Rattle.ix_verilog.specs.Lines.{form_words}
+use Rattle.ix_verilog.specs.Lines.{right_of}
 use Rattle.ix_verilog.specs.Subset.{assigned, declared}
-use Rattle.ix_vwidth.specs.Widths.{Has}
+use Rattle.ix_vnets.specs.Widths.{Has}
 
 -- the cell is that of the line, whose widths agree
 pub record IsCellOf (s : Source) (a : Assign) (c : Cell) : Type 0 where
   pub target : c.target ≡ a.target
-  pub right : form_words c.form ≡ a.right
+  pub right : right_of c.form ≡ a.right
   pub declared_so : Contains (assigned s) (cell_port c)
   pub fits : FormFits (Has (declared s)) c.width c.form
 

@@ -5,8 +5,8 @@ use Rattle.ix_net.specs.declared.netlist.Bank.{Bank}
 use Rattle.ix_net.specs.Forms.{Fits}
 use Rattle.ix_verilog.specs.declared.source.Assign.{Assign}
 use Rattle.ix_verilog.specs.declared.source.Update.{Update}
-use Rattle.ix_vright.specs.Forms.{IsFormOf}
-use Rattle.ix_vwidth.specs.Tables.{Map, found}
+use Rattle.ix_vnets.specs.Forms.{IsFormOf}
+use Rattle.ix_vnets.specs.WidthTables.{Map, found}
 
 -- the cell of an `assign` line, where the map has the widths
 pub record IsCellBy (m : Map) (a : Assign) (c : Cell) : Type 0 where

@@ -1,7 +1,5 @@
 ghost use Rattle.ix_vnets.specs.Laws.{ModulesAreFinished, MadeIsNet, NetIsMade, OneIsMade, MisfitIsFirst, MadeFits, DrivesAreNumbered};
 
-use ix_vright::right_laws;
-
 /// Laws of modules and their nets. It does nothing: its contract is what it is for.
 pub fn nets_laws()
     ensures finished { ModulesAreFinished }
@@ -11,6 +9,4 @@ pub fn nets_laws()
     ensures misfit { MisfitIsFirst }
     ensures fits { MadeFits }
     ensures numbered { DrivesAreNumbered }
-{
-    right_laws();
-}
+{}

@@ -3,19 +3,14 @@ ghost use Rattle.std.specs.List.{AllZip};
 ghost use Rattle.ix_vnets.specs.Tables.{IsCellBy, IsBankBy, HasCell, HasBank};
 ghost use Rattle.ix_vnets.specs.Drives.{IsFirstNot};
 
-use ix_bits::{List, Memory, Name};
+use crate::fit::{fits, has};
+use crate::right::{copy, form_of};
+use crate::table::width_of;
+use ix_bits::{List, Memory};
 use ix_net::{Bank, Cell};
 use ix_verilog::{Assign, Update};
-use ix_vright::{form_of, right_laws};
-use ix_vwidth::{fits, has, width_of};
 use std::alloc::Global;
 use std::collections::BTreeMap;
-
-fn copy(alloc: Global, name: &Name) -> Result<Name, Memory>
-    ensures { IfOk result (λ copy. copy ≡ name.now) }
-{
-    Name::from_text(alloc, name.as_str())
-}
 
 /// The cell of an `assign` line; None where its widths disagree.
 fn cell_of(
@@ -28,12 +23,10 @@ fn cell_of(
     let Some(width) = width_of(widths, &assign.target) else {
         return Ok(None);
     };
-    let Some(form) = form_of(alloc, assign.right.as_slice())? else {
+    let Some(form) = form_of(alloc, &assign.right)? else {
         return Ok(None);
     };
     if !fits(widths, width, &form) {
-        drop(form);
-        right_laws();
         return Ok(None);
     }
     let target = copy(alloc, &assign.target)?;

@@ -1,16 +1,16 @@
 ghost use Rattle.std.specs.Prelude.{◌≡◌, [], All, IfOk, IfErr, MatchOption};
 ghost use Rattle.std.specs.List.{AllZip};
-ghost use Rattle.ix_vonce.specs.Names.{AllOnce, said, said_in};
+ghost use Rattle.ix_vnets.specs.Names.{AllOnce, said, said_in};
 ghost use Rattle.ix_vnets.specs.Finished.{IsFinished};
 ghost use Rattle.ix_vnets.specs.Nets.{IsCellOf, IsBankOf, IsMadeOf, Puts};
 ghost use Rattle.ix_vnets.specs.Drives.{IsFirstNot, DriveFits, drives_in, IsTold};
 
 use crate::error::NetErr;
 use crate::lines::{put_banks, put_cells};
+use crate::table::widths_of;
 use ix_bits::{List, Memory, Name};
 use ix_net::{Bank, Cell, Net, Port};
 use ix_verilog::Source;
-use ix_vwidth::widths_of;
 use std::alloc::Global;
 
 /// Copies of ports.

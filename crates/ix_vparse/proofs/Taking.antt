@@ -19,7 +19,7 @@ use Rattle.ix_vline.specs.declared.kind.Right.TheVariants as right
 use Rattle.ix_vline.specs.declared.kind.Slot.{Slot}
 use Rattle.ix_vline.specs.Slots.{slots, declaring, IsHighest}
 use Rattle.ix_vline.specs.Reached.{Fits}
-use Rattle.ix_vline.specs.Picked.{nth, IsDeclaredBy}
+use Rattle.ix_vline.specs.Picked.{nth, IsDeclaredBy, IsSideOf}
 use Rattle.ix_vline.proofs.Fitting.{picks_are, fits_length}
 use Rattle.ix_vline.proofs.KindLines.{head_line, port_line, heading_line, input_line, output_line, wire_line, register_line, assign_line, always_line, update_line, done_line, finish_line}
 use Rattle.ix_vform.specs.Added.{added}
@@ -74,7 +74,7 @@ took_register (Some s) ws p next f d k =
     let h = register_line s ws p f d in
     record { line = line.register p; may = h.0; are = h.1; leads = λ ms. ap (λ (z : Option Source). let r : State = record { modules = ms; open_module = z } in r) (sym k) }
 
-pub took_assign : (o : Option Source) (k : Right) (ws : List Word) (a : Assignment) (next : Option Source) → Fits o (slots (Assign k)) ws → a.target ≡ nth 1 ws → a.right ≡ take (length ws - 4) (drop 3 ws)
+pub took_assign : (o : Option Source) (k : Right) (ws : List Word) (a : Assignment) (next : Option Source) → Fits o (slots (Assign k)) ws → a.target ≡ nth 1 ws → IsSideOf k ws a.right
     → next ≡ added o (line.assign a) → Goes o ws next
 took_assign None k ws a next f t r e = absurd f.3.1
 took_assign (Some s) k ws a next f t r e =

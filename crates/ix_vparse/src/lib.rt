@@ -4,6 +4,7 @@
 mod error;
 mod line;
 mod modules;
+mod right;
 
 pub use error::ParseErr;
 pub use modules::modules_in;

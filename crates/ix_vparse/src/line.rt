@@ -2,9 +2,10 @@ ghost use Rattle.std.specs.Prelude.{◌≡◌, ◌≢◌, ◌≤◌, ◌-◌, �
 ghost use Rattle.ix_verilog.specs.Words.{words_of};
 ghost use Rattle.ix_vline.specs.Slots.{IsHighest, slots};
 ghost use Rattle.ix_vline.specs.Reached.{Fits};
-ghost use Rattle.ix_vline.specs.Picked.{nth, IsDeclaredBy};
+ghost use Rattle.ix_vline.specs.Picked.{nth, IsDeclaredBy, IsSideOf};
 ghost use Rattle.ix_vparse.specs.Taken.{Goes, Steps};
 
+use crate::right::right_at;
 use ix_bits::{List, Memory, Name};
 use ix_net::Port;
 use ix_verilog::{Assign, Source, Token, Update};
@@ -13,7 +14,7 @@ use ix_vline::{Kind, Right};
 use std::alloc::Global;
 
 /// The word at a place as a name.
-fn name_at(alloc: Global, tokens: &[Token], place: usize) -> Result<Name, Memory>
+pub(crate) fn name_at(alloc: Global, tokens: &[Token], place: usize) -> Result<Name, Memory>
     requires { place < length tokens.now }
     ensures { IfOk result (λ name. name ≡ nth place (words_of tokens.now)) }
 {
@@ -44,24 +45,12 @@ fn port_in(alloc: Global, tokens: &[Token]) -> Result<Port, Memory>
     }
 }
 
-/// Copies of the words.
-fn words_in(alloc: Global, tokens: &[Token]) -> Result<List<List<u8>>, Memory>
-    ensures { IfOk result (λ words. words ≡ words_of tokens.now) }
-{
-    let mut words = List::new(alloc);
-    for token in tokens {
-        let word = List::from_slice(alloc, token.word.as_slice())?;
-        words.push(word)?;
-    }
-    Ok(words)
-}
-
-fn assign_in(alloc: Global, tokens: &[Token]) -> Result<Assign, Memory>
-    requires { 5 ≤ length tokens.now }
+fn assign_in(alloc: Global, scope: &Scope, right: Right, tokens: &[Token]) -> Result<Assign, Memory>
+    requires { Fits scope.now (slots (Kind.Assign right)) (words_of tokens.now) }
     ensures target { IfOk result (λ a. a.target ≡ nth 1 (words_of tokens.now)) }
-    ensures right { IfOk result (λ a. a.right ≡ take (length (words_of tokens.now) - 4) (drop 3 (words_of tokens.now))) }
+    ensures right { IfOk result (λ a. IsSideOf right (words_of tokens.now) a.right) }
 {
-    let right = words_in(alloc, &tokens[3..tokens.len() - 1])?;
+    let right = right_at(alloc, scope, right, tokens)?;
     let target = name_at(alloc, tokens, 1)?;
     Ok(Assign { target, right })
 }
@@ -131,7 +120,7 @@ fn take_assign(
     requires { Fits scope.old (slots (Kind.Assign right)) (words_of tokens.now) }
     ensures { OnOk result (Goes scope.old (words_of tokens.now) scope.new) }
 {
-    let assign = assign_in(alloc, tokens)?;
+    let assign = assign_in(alloc, scope, right, tokens)?;
     scope.add_assign(assign)
 }
 

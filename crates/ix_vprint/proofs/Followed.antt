@@ -17,12 +17,13 @@ use Rattle.ix_verilog.specs.declared.source.Source.{Source}
 use Rattle.ix_verilog.specs.declared.source.Stage.{Stage}
 use Rattle.ix_verilog.specs.declared.source.Stage.TheVariants.{Ports, Lines, Clocked}
 use Rattle.ix_verilog.specs.Words.{Word}
-use Rattle.ix_verilog.specs.Lines.{Line, input, output, wire, register, form_words, IsRight, literal, copy, both, turned, signed, joined, range, choice, hex, operators}
+use Rattle.ix_verilog.specs.declared.right.RightSide.{RightSide}
+use Rattle.ix_verilog.specs.declared.right.RightSide.TheVariants as side
+use Rattle.ix_verilog.specs.Lines.{Line, input, output, wire, register, right_of, IsRight, hex}
 use Rattle.ix_verilog.specs.Subset.{State, Leads, after, IsShortName, MayDeclare, IsOperand}
 use Rattle.ix_verilog.proofs.Digits.{decimal_is_number, hex_are_digits}
 use Rattle.ix_verilog.proofs.OneNet.{IsSmall, raw_small}
 use Rattle.ix_vprint.proofs.Spelled.{assign_of, update_of, port_of}
-use Rattle.ix_net.proofs.NetLemmas.{contains_from_slice_get}
 use Rattle.ix_vprint.proofs.Sources.{Names}
 
 -- ---- one list of lines behind the other
@@ -105,25 +106,25 @@ abbrev pub IsOf : List Port → Word → Type 0
 IsOf ports n = IsName n × Names ports n
 
 -- a right side over other names
-right_map : (N M : Word → Type 0) → ((n : Word) → N n → M n) → (ws : List Word) → IsRight N ws → IsRight M ws
-right_map N M f ws (literal w l) = literal w l
-right_map N M f ws (copy a h) = copy a (f a h)
-right_map N M f ws (both a o b h k i) = both a o b (f a h) k (f b i)
-right_map N M f ws (turned a h) = turned a (f a h)
-right_map N M f ws (signed a b h i) = signed a b (f a h) (f b i)
-right_map N M f ws (joined a b h i) = joined a b (f a h) (f b i)
-right_map N M f ws (range a h l i j k) = range a h l (f a i) j k
-right_map N M f ws (choice c a b h i j) = choice c a b (f c h) (f a i) (f b j)
+right_map : (N M : Word → Type 0) → ((n : Word) → N n → M n) → (r : RightSide) → IsRight N r → IsRight M r
+right_map N M f (side.Literal w) l = l
+right_map N M f (side.Copy a) h = f a h
+right_map N M f (side.Both s a b) h = (f a h.0, f b h.1)
+right_map N M f (side.Turned a) h = f a h
+right_map N M f (side.Signed a b) h = (f a h.0, f b h.1)
+right_map N M f (side.Joined a b) h = (f a h.0, f b h.1)
+right_map N M f (side.Range a h l) k = (f a k.0, k.1, k.2)
+right_map N M f (side.Choice c a b) h = (f c h.0, f a h.1, f b h.2)
 
 -- the operands are declared, and the target is an output or a wire
 pub record MayAssign (ins outs wires regs : List Port) (c : Cell) : Type 0 where
   pub named : IsName c.target
   pub target : Names (outs ++ wires) c.target
   pub no_input : Names ins c.target → ⊥
-  pub right : IsRight (IsOf (ins ++ (outs ++ wires) ++ regs)) (form_words c.form)
+  pub right : IsRight (IsOf (ins ++ (outs ++ wires) ++ regs)) (right_of c.form)
 
 abbrev pub to_assign : Cell → Assign
-to_assign c = record { target = c.target; right = form_words c.form }
+to_assign c = record { target = c.target; right = right_of c.form }
 
 pub assigns_lead : (ms : List Source) (n : Word) (ports : List Word) (ins outs wires regs : List Port) (before : List Assign) (cs : List Cell) → length ports ≡ length ins + length outs
     → All (MayAssign ins outs wires regs) cs
@@ -132,7 +133,7 @@ assigns_lead ms n ports ins outs wires regs before [] e h = ap (λ z. opened ms 
 assigns_lead ms n ports ins outs wires regs before (c ∷ cs) e h =
     let P : List Assign → Type 0 = λ z. Leads (opened ms (source n ports ins outs wires regs (before ++ to_assign c ∷ []) [] Lines)) (map assign_of cs) (opened ms (source n ports ins outs wires regs z [] Lines)) in
     let m : MayAssign ins outs wires regs c = All-head (MayAssign ins outs wires regs) c cs h in (
-      (e, record { named = m.named; declared_so = m.target; no_input = m.no_input }, right_map (IsOf (ins ++ (outs ++ wires) ++ regs)) (IsOperand (source n ports ins outs wires regs before [] Lines)) (λ n h. record { named = h.0; declared_so = h.1 }) (form_words c.form) m.right),
+      (e, record { named = m.named; declared_so = m.target; no_input = m.no_input }, right_map (IsOf (ins ++ (outs ++ wires) ++ regs)) (IsOperand (source n ports ins outs wires regs before [] Lines)) (λ n h. record { named = h.0; declared_so = h.1 }) (right_of c.form) m.right),
       subst P (append_assoc before (to_assign c ∷ []) (map to_assign cs)) (assigns_lead ms n ports ins outs wires regs (before ++ to_assign c ∷ []) cs e (All-tail (MayAssign ins outs wires regs) c cs h)),
     )
 
@@ -166,24 +167,19 @@ pub named_all : (N : Word → Type 0) (ns : List Word) → All N ns → All3 N n
 named_all N [] h = tt
 named_all N (n ∷ ns) h = (All-head N n ns h, named_all N ns (All-tail N n ns h))
 
-operator_at : (k : ℕ) (o : Word) → slice_get operators k ≡ Some o → Contains operators o
-operator_at k o e = contains_from_slice_get operators k o e
-
-pub right_side : (N : Word → Type 0) (f : Form) → All3 N (operands f) → IsSmall f → IsRight N (form_words f)
-right_side N (Hex d) h s =
-    literal (decimal d.width ++ (codes "'h" ++ hex d.raw))
-    (record { width = decimal d.width; digits = hex d.raw; wide = decimal_is_number d.width (omega (arith, d.most_width)); are = hex_are_digits 31 d.raw (raw_small d); is = refl })
-right_side N (Copy a) h s = copy a h.0
-right_side N (Add a b) h s = both a (codes "+") b h.0 (operator_at 0 (codes "+") refl) h.1.0
-right_side N (Sub a b) h s = both a (codes "-") b h.0 (operator_at 1 (codes "-") refl) h.1.0
-right_side N (Mul a b) h s = both a (codes "*") b h.0 (operator_at 2 (codes "*") refl) h.1.0
-right_side N (And a b) h s = both a (codes "&") b h.0 (operator_at 3 (codes "&") refl) h.1.0
-right_side N (Or a b) h s = both a (codes "|") b h.0 (operator_at 4 (codes "|") refl) h.1.0
-right_side N (Xor a b) h s = both a (codes "^") b h.0 (operator_at 5 (codes "^") refl) h.1.0
-right_side N (Not a) h s = turned a h.0
-right_side N (Eq a b) h s = both a (codes "==") b h.0 (operator_at 6 (codes "==") refl) h.1.0
-right_side N (Lt a b) h s = both a (codes "<") b h.0 (operator_at 7 (codes "<") refl) h.1.0
-right_side N (LtSigned a b) h s = signed a b h.0 h.1.0
-right_side N (Join a b) h s = joined a b h.0 h.1.0
-right_side N (Range a hi lo) h s = range a (decimal hi) (decimal lo) h.0 (decimal_is_number hi s.0) (decimal_is_number lo s.1)
-right_side N (Choose c a b) h s = choice c a b h.0 h.1.0 h.1.1.0
+pub right_side : (N : Word → Type 0) (f : Form) → All3 N (operands f) → IsSmall f → IsRight N (right_of f)
+right_side N (Hex d) h s = record { width = decimal d.width; digits = hex d.raw; wide = decimal_is_number d.width (omega (arith, d.most_width)); are = hex_are_digits 31 d.raw (raw_small d); is = refl }
+right_side N (Copy a) h s = h.0
+right_side N (Add a b) h s = (h.0, h.1.0)
+right_side N (Sub a b) h s = (h.0, h.1.0)
+right_side N (Mul a b) h s = (h.0, h.1.0)
+right_side N (And a b) h s = (h.0, h.1.0)
+right_side N (Or a b) h s = (h.0, h.1.0)
+right_side N (Xor a b) h s = (h.0, h.1.0)
+right_side N (Not a) h s = h.0
+right_side N (Eq a b) h s = (h.0, h.1.0)
+right_side N (Lt a b) h s = (h.0, h.1.0)
+right_side N (LtSigned a b) h s = (h.0, h.1.0)
+right_side N (Join a b) h s = (h.0, h.1.0)
+right_side N (Range a hi lo) h s = (h.0, decimal_is_number hi s.0, decimal_is_number lo s.1)
+right_side N (Choose c a b) h s = (h.0, h.1.0, h.1.1.0)

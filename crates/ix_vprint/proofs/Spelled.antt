@@ -10,7 +10,7 @@ use Rattle.ix_net.specs.declared.netlist.Form.{Form}
 use Rattle.ix_net.specs.declared.netlist.Form.TheVariants.{Hex, Copy, Add, Sub, Mul, And, Or, Xor, Not, Eq, Lt, LtSigned, Join, Range, Choose}
 use Rattle.ix_net.specs.Forms.{operands}
 use Rattle.ix_verilog.specs.Words.{Word, form_of, single}
-use Rattle.ix_verilog.specs.Lines.{Line, port, assign, update, line_words, port_words, form_words, hex, IsNumber}
+use Rattle.ix_verilog.specs.Lines.{Line, port, assign, update, line_words, port_words, form_words, right_of, hex, IsNumber}
 use Rattle.ix_verilog.proofs.OneNet.{IsSmall, raw_small}
 use Rattle.ix_verilog.proofs.Digits.{decimal_is_number, hex_are_digits}
 use Rattle.ix_vprint.specs.Printed.{port_name, port_text, pair_text, form_text, cell_text, bank_text}
@@ -81,7 +81,7 @@ form_says (Choose c a b) r s =
 
 -- ---- lines
 abbrev pub assign_of : Cell → Line
-assign_of c = assign (record { target = c.target; right = form_words c.form })
+assign_of c = assign (record { target = c.target; right = right_of c.form })
 
 abbrev pub update_of : Bank → Line
 update_of b = update (record { enable = b.enable; target = b.target; source = b.source })

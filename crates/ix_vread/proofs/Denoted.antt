@@ -18,12 +18,12 @@ use Rattle.ix_verilog.specs.Subset.{IsNetOf, Denotes, IsWritten}
 use Rattle.ix_verilog.proofs.OneNet.{denoted_stays}
 use Rattle.ix_verilog.proofs.OneReading.{written_once}
 use Rattle.ix_verilog.proofs.Pairs.{head_case, pairs_left, pairs_right, pairs_tail, pairs_cross}
-use Rattle.ix_vonce.specs.Names.{AreOnce, AllOnce, FirstTwice, IsFirstTwice, said, said_in, targets, updated}
-use Rattle.ix_vonce.proofs.Seen.{once_both}
+use Rattle.ix_vnets.specs.Names.{AreOnce, AllOnce, FirstTwice, IsFirstTwice, said, said_in, targets, updated}
+use Rattle.ix_vnets.proofs.Seen.{once_both}
 use Rattle.ix_vread.specs.declared.error.VErr.{VErr}
 use Rattle.ix_vread.specs.declared.error.VErr.TheVariants.{At, Width, Loop, Twice, Memory}
 use Rattle.ix_vread.specs.Told.{IsTold}
-use Rattle.ix_vloop.specs.Loops.{AreDrivenOnce, IsLoopless, FirstLoop}
+use Rattle.ix_vread.specs.Loops.{AreDrivenOnce, IsLoopless, FirstLoop}
 use Rattle.ix_verilog.specs.Laws.{OneDenotation}
 use Rattle.ix_vread.specs.Laws.{DenotedIsNotRefused, IsRead}
 use Rattle.ix_vnets.specs.Finished.{IsFinished}

@@ -8,7 +8,7 @@ use Rattle.ix_verilog.specs.declared.source.Source.{Source}
 use Rattle.ix_verilog.specs.Words.{Form, IsPart, is_space_part, is_line_part, is_comment_part, is_open_part, is_name_part, is_number_part, is_pair_part, is_single_part, Spells, spells_none, spells_more, words_of}
 use Rattle.ix_verilog.specs.Subset.{AreModules, IsWritten, LeavesAt, place_of_token}
 use Rattle.ix_vparse.specs.Answers.{Leaves}
-use Rattle.ix_vonce.specs.Names.{AllOnce, said}
+use Rattle.ix_vnets.specs.Names.{AllOnce, said}
 use Rattle.ix_vread.specs.declared.error.VErr.{VErr}
 use Rattle.ix_vread.specs.declared.error.VErr.TheVariants.{At, Width, Loop, Twice, Memory}
 use Rattle.ix_vread.specs.Told.{IsTold, IsDoubled}

@@ -5,10 +5,10 @@ use Rattle.ix_net.specs.declared.netlist.Net.{Net}
 use Rattle.ix_verilog.specs.declared.source.Source.{Source}
 use Rattle.ix_verilog.specs.declared.token.Token.{Token}
 use Rattle.ix_verilog.specs.Subset.{IsWritten, LeavesAt}
-use Rattle.ix_vonce.specs.Names.{AllOnce, FirstTwice, said}
+use Rattle.ix_vnets.specs.Names.{AllOnce, FirstTwice, said}
 use Rattle.ix_vnets.specs.Nets.{IsMadeOf}
 use Rattle.ix_vnets.specs.Drives.{is_drive, DriveFits, drives, IsFirstNot}
-use Rattle.ix_vloop.specs.Loops.{FirstLoop}
+use Rattle.ix_vread.specs.Loops.{FirstLoop}
 use Rattle.ix_vread.specs.declared.error.VErr.{VErr}
 use Rattle.ix_vread.specs.declared.error.VErr.TheVariants.{At, Width, Loop, Twice, Memory}
 

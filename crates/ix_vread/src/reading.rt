@@ -3,21 +3,21 @@ ghost use Rattle.std.specs.List.{AllZip};
 ghost use Rattle.ix_net.specs.declared.netlist.Net.{Net as net_type};
 ghost use Rattle.ix_verilog.specs.Words.{Spells};
 ghost use Rattle.ix_verilog.specs.Subset.{IsWritten, Denotes};
-ghost use Rattle.ix_vonce.specs.Names.{AllOnce, said};
+ghost use Rattle.ix_vnets.specs.Names.{AllOnce, said};
 ghost use Rattle.ix_vnets.specs.Nets.{IsMadeOf};
 ghost use Rattle.ix_vnets.specs.Drives.{IsMisfit};
 ghost use Rattle.ix_vread.specs.Told.{IsTold};
 ghost use Rattle.ix_vread.specs.Laws.{IsRead};
 
 use crate::error::VErr;
+use crate::first::first_loop_in;
 use crate::laws::read_laws;
 use crate::place::{drive_place, line_at};
 use crate::sources::sources_of;
+use crate::words::words_in;
 use ix_bits::List;
 use ix_net::Net;
 use ix_verilog::{Source, Token, subset_laws};
-use ix_vlex::words_in;
-use ix_vloop::first_loop_in;
 use ix_vnets::{NetErr, nets_in, nets_laws};
 use std::alloc::Global;
 

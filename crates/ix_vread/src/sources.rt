@@ -1,14 +1,14 @@
 ghost use Rattle.std.specs.Prelude.{◌≡◌, ◌<◌, ◌^◌, [], length, IfOk, IfErr};
 ghost use Rattle.ix_verilog.specs.Words.{Spells};
 ghost use Rattle.ix_verilog.specs.Subset.{IsWritten, place_of_token};
-ghost use Rattle.ix_vonce.specs.Names.{AllOnce, said};
+ghost use Rattle.ix_vnets.specs.Names.{AllOnce, said};
 ghost use Rattle.ix_vread.specs.Told.{IsTold, IsDoubled};
 
 use crate::error::VErr;
+use crate::words::words_in;
 use ix_bits::List;
 use ix_verilog::{Source, Token};
-use ix_vlex::words_in;
-use ix_vonce::first_twice;
+use ix_vnets::first_twice;
 use ix_vparse::{ParseErr, modules_in};
 use std::alloc::Global;
 

@@ -4,10 +4,10 @@ use Rattle.std.specs.Prelude.{Ok, Err, nat_lt}
 use Rattle.std.proofs.lemmas.Bool.Decides.{nat_tests}
 use Rattle.std.proofs.lemmas.List.{append-nil}
 use Rattle.ix_extension.specs.Extensions.{InstructionTree}
-use Rattle.rv_asm_field.specs.declared.verdict.Verdict.{Verdict}
-use Rattle.rv_asm_line.specs.Labels.{Places}
-use Rattle.rv_asm_line.specs.Verdicts.{line_verdict}
-use Rattle.rv_asm_line.proofs.Noting.{line_at}
+use Rattle.rv_asm_text.specs.declared.verdict.Verdict.{Verdict}
+use Rattle.rv_asm.specs.Labels.{Places}
+use Rattle.rv_asm.specs.Verdicts.{line_verdict}
+use Rattle.rv_asm.proofs.Noting.{line_at}
 use Rattle.rv_asm.specs.declared.source.AsmErr.{AsmErr}
 use Rattle.rv_asm.specs.declared.source.AsmErr.TheVariants as E
 use Rattle.rv_asm.specs.Sources.{Assembly, prepended, with_word, after, assembled_from, IsErrOf}

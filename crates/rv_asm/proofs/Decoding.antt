@@ -1,11 +1,9 @@
 -- The words of base lines decode to their instructions.
-use Rattle.std.proofs.Common.{◌≡◌, ◌≢◌, ◌∙◌, sym, ap, refl, subst, ℕ, zero, suc, ◌*◌, ◌^◌, ◌%◌, ◌<◌, List, [], ◌∷◌, length, Bool, true, false, Option, Some, None, ◌==◌, pos, ◌-ℤ◌, ◌≤ℤ◌, ◌<ℤ◌, arith}
-use Rattle.std.specs.Prelude.{nat_le, nat_lt, unsigned_abs, if◌then◌else◌, option_map}
-use Rattle.std.specs.List.{position}
+use Rattle.std.proofs.Common.{◌≡◌, ◌≢◌, ◌∙◌, sym, ap, refl, subst, ℕ, zero, suc, ◌*◌, ◌^◌, ◌%◌, ◌<◌, List, [], ◌∷◌, length, Bool, true, false, Some, ◌==◌, pos, ◌-ℤ◌, ◌≤ℤ◌, ◌<ℤ◌, arith}
+use Rattle.std.specs.Prelude.{nat_le, nat_lt, unsigned_abs, if◌then◌else◌, Ok, Err}
 use Rattle.std.proofs.lemmas.Bool.{leb-true, ltb-true, eqb-true}
 use Rattle.std.proofs.lemmas.Int.{ints}
 use Rattle.ix_bits.specs.Types.{IsWithin}
-use Rattle.ix_tree.specs.Lexing.{same_bytes}
 use Rattle.ix_extension.specs.Extensions.{InstructionTree}
 use Rattle.rv_isa.specs.Table.{format_of}
 use Rattle.rv_isa.specs.Fields.{IsInRange, IsMultiple, HasFormat, fields_of}
@@ -16,19 +14,19 @@ use Rattle.rv_isa.specs.declared.table.Format.{Format}
 use Rattle.rv_isa.specs.declared.table.Format.TheVariants as T
 use Rattle.rv_isa.proofs.RoundLemmas.{decoded-encoded}
 use Rattle.rv_isa.proofs.RowLemmas.{IsInRange-fields_of}
-use Rattle.rv_asm_text.specs.declared.number.Number.{Number}
-use Rattle.rv_asm_text.specs.Lines.{instruction_of, name_of, operands_of, indexed_of}
-use Rattle.rv_asm_text.specs.Names.{register_names, register_at, register_of, mnemonic_of}
-use Rattle.rv_asm_text.specs.Numbers.{number_of}
-use Rattle.rv_asm_field.specs.declared.verdict.Verdict.{Verdict}
-use Rattle.rv_asm_field.specs.declared.verdict.Verdict.TheVariants as V
-use Rattle.rv_asm_line.specs.declared.form.Form.{Form}
-use Rattle.rv_asm_line.specs.declared.form.Form.TheVariants as F
-use Rattle.rv_asm_line.specs.declared.label.Target.{Target}
-use Rattle.rv_asm_line.specs.declared.label.Target.TheVariants as G
-use Rattle.rv_asm_line.specs.Forms.{form_of, row_of, zero_number, is_in_reach, base_of, base_verdict}
-use Rattle.rv_asm_line.specs.Labels.{Places, target_of, is_doubled}
-use Rattle.rv_asm_line.specs.Verdicts.{nth, taken, when, towards, access_verdict, load_verdict, number_verdict, all_of_memory, form_verdict, mnemonic_verdict, instruction_verdict, with_label, line_verdict}
+use Rattle.rv_asm_text.specs.Lines.{instruction_of, name_of, operands_of}
+use Rattle.rv_asm_text.specs.Names.{mnemonic_of}
+use Rattle.rv_asm_text.specs.declared.verdict.Verdict.{Verdict}
+use Rattle.rv_asm_text.specs.declared.verdict.Verdict.TheVariants as V
+use Rattle.rv_asm.specs.declared.form.Form.{Form}
+use Rattle.rv_asm.specs.declared.form.Form.TheVariants as F
+use Rattle.rv_asm.specs.declared.reading.Operands.{Operands}
+use Rattle.rv_asm.specs.declared.reading.Unread.TheVariants as U
+use Rattle.rv_asm.specs.Forms.{form_of, row_of, is_in_reach, base_of, base_verdict}
+use Rattle.rv_asm.specs.Labels.{Places, is_doubled}
+use Rattle.rv_asm.specs.Readings.{AreRegisters, Read, kinds_of, start_of, read_operands}
+use Rattle.rv_asm.specs.Verdicts.{word_of, said_of, form_verdict, mnemonic_verdict, instruction_verdict, with_label, line_verdict}
+use Rattle.rv_asm.proofs.Small.{read_small}
 use Rattle.rv_asm.specs.Laws.{IsInstructionOf, FieldsLaw, LineLaw}
 
 -- ---- numbers in reach
@@ -88,121 +86,50 @@ in_range T.Jump row rd rs1 rs2 b s e h d p q r =
     record { row = h; rd = d; rs1 = omega arith; rs2 = omega arith; format = rw e (refl, refl, within_21 b s a.1, even_is b s a.0) }
 in_range T.Fixed row rd rs1 rs2 b s e h d p q r = record { row = h; rd = omega arith; rs1 = omega arith; rs2 = omega arith; format = rw e (refl, refl, refl, refl) }
 
-word_of : (reach : Bool) (code word : ℕ) → (if reach then V.Word code else V.Reach) ≡ V.Word word → (reach ≡ true) × (code ≡ word)
-word_of true code word h = (refl, cc)
-word_of false code word h = absurd cc
+in_reach_word : (reach : Bool) (code word : ℕ) → (if reach then V.Word code else V.Reach) ≡ V.Word word → (reach ≡ true) × (code ≡ word)
+in_reach_word true code word h = (refl, cc)
+in_reach_word false code word h = absurd cc
 
 pub fields_law : FieldsLaw
 unfolding base_verdict
 fields_law row rd rs1 rs2 word n h d p q e =
     let b : Base = base_of (format_of row) row rd rs1 rs2 n in
-    let w = word_of (is_in_reach (format_of row) n) (encoded b) word e in
+    let w = in_reach_word (is_in_reach (format_of row) n) (encoded b) word e in
     ap decoded (sym w.1) ∙ decoded-encoded b (in_range (format_of row) row rd rs1 rs2 n.is_negative n.size refl h d p q w.0)
 
--- ---- registers
-place_below : (place : ℕ) → register_at place < 32
-place_below place = by_test (place == 64) where
-  by_test : (b : Bool) → (if b then 8 else place % 32) < 32
-  by_test true = omega arith
-  by_test false = omega arith
-
-some_below : (o : Option ℕ) (r : ℕ) → option_map register_at o ≡ Some r → r < 32
-some_below None r h = absurd cc
-some_below (Some place) r h = let e : register_at place ≡ r = cc in subst (λ (k : ℕ). k < 32) e (place_below place)
-
-register_below : (text : List ℕ) (r : ℕ) → register_of text ≡ Some r → r < 32
-unfolding register_of
-register_below text r h = some_below (position (λ name. same_bytes name text) register_names) r h
-
--- ---- forms, part by part
-when_word : (b : Bool) (v : Verdict) (word : ℕ) → when b v ≡ V.Word word → v ≡ V.Word word
-when_word true v word h = h
-when_word false v word h = absurd cc
-
-taken_word : {X : Type 0} (o : Option X) (next : X → Verdict) (word : ℕ) → taken o next ≡ V.Word word → (x : X) × (o ≡ Some x) × (next x ≡ V.Word word)
-taken_word None next word h = absurd cc
-taken_word (Some x) next word h = (x, refl, h)
-
-towards_word : (t : Target) (next : Number → Verdict) (word : ℕ) → towards t next ≡ V.Word word → (n : Number) × (next n ≡ V.Word word)
-towards_word G.Bad next word h = absurd cc
-towards_word G.Unknown next word h = absurd cc
-towards_word (G.By n) next word h = (n, h)
-
+-- ---- forms
 -- the word of a row with registers
-made : (row rd rs1 rs2 word : ℕ) (n : Number) → row < 40 → rd < 32 → rs1 < 32 → rs2 < 32 → base_verdict row rd rs1 rs2 n ≡ V.Word word → IsInstructionOf row word
-made row rd rs1 rs2 word n h d p q e = record { rd = rd; rs1 = rs1; rs2 = rs2; number = n; word_is = e; decodes = fields_law row rd rs1 rs2 word n h d p q e }
+made : (row word : ℕ) (o : Operands) → row < 40 → AreRegisters o → base_verdict row o.rd o.rs1 o.rs2 o.number ≡ V.Word word → IsInstructionOf row word
+made row word o h s e = record { rd = o.rd; rs1 = o.rs1; rs2 = o.rs2; number = o.number; word_is = e; decodes = fields_law row o.rd o.rs1 o.rs2 word o.number h s.rd s.rs1 s.rs2 e }
 
-small : 0 < 32
-small = omega arith
+operands_word : (f : Form) (row word : ℕ) (o : Operands) → row < 40 → f ≢ F.Word → AreRegisters o → word_of f row o ≡ V.Word word → IsInstructionOf row word
+unfolding word_of
+operands_word F.Registers row word o h u s e = made row word o h s e
+operands_word F.Number row word o h u s e = made row word o h s e
+operands_word F.Load row word o h u s e = made row word o h s e
+operands_word F.Store row word o h u s e = made row word o h s e
+operands_word F.Branch row word o h u s e = made row word o h s e
+operands_word F.Upper row word o h u s e = made row word o h s e
+operands_word F.Jump row word o h u s e = made row word o h s e
+operands_word F.JumpRegister row word o h u s e = made row word o h s e
+operands_word F.Fence row word o h u s e = made row word o h s e
+operands_word F.Bare row word o h u s e = made row word o h s e
+operands_word F.Move row word o h u s e = made row word o h s e
+operands_word F.Goto row word o h u s e = made row word o h s e
+operands_word F.Return row word o h u s e = made row word o h s e
+operands_word F.Word row word o h u s e = absurd (u refl)
 
-access_word : (next : ℕ → ℕ → Number → Verdict) (texts : List (List ℕ)) (word : ℕ) → access_verdict next texts ≡ V.Word word → (r : ℕ) × (s : ℕ) × (n : Number) × (r < 32) × (s < 32) × (next r s n ≡ V.Word word)
-access_word next texts word h =
-    let a = taken_word (register_of (nth texts 0)) (λ r. taken (indexed_of (nth texts 1)) (λ parts. taken (register_of parts.1) (λ s. taken (number_of parts.0) (λ n. next r s n)))) word (when_word (length texts == 2) (taken (register_of (nth texts 0)) (λ r. taken (indexed_of (nth texts 1)) (λ parts. taken (register_of parts.1) (λ s. taken (number_of parts.0) (λ n. next r s n))))) word h) in
-    let b = taken_word (indexed_of (nth texts 1)) (λ parts. taken (register_of parts.1) (λ s. taken (number_of parts.0) (λ n. next a.0 s n))) word a.2 in
-    let d = taken_word (register_of b.0.1) (λ s. taken (number_of b.0.0) (λ n. next a.0 s n)) word b.2 in
-    let e = taken_word (number_of b.0.0) (λ n. next a.0 d.0 n) word d.2 in
-    (a.0, d.0, e.0, register_below (nth texts 0) a.0 a.1, register_below b.0.1 d.0 d.1, e.2)
-
-load_word : (row : ℕ) (texts : List (List ℕ)) (word : ℕ) → row < 40 → load_verdict row texts ≡ V.Word word → IsInstructionOf row word
-load_word row texts word h e =
-    let a = access_word (λ rd rs1 n. base_verdict row rd rs1 0 n) texts word e in
-    made row a.0 a.1 0 word a.2 h a.3 a.4 small a.5
-
-number_word : (row : ℕ) (texts : List (List ℕ)) (word : ℕ) → row < 40 → number_verdict row texts ≡ V.Word word → IsInstructionOf row word
-number_word row texts word h e =
-    let v = when_word (length texts == 3) (taken (register_of (nth texts 0)) (λ rd. taken (register_of (nth texts 1)) (λ rs1. taken (number_of (nth texts 2)) (λ n. base_verdict row rd rs1 0 n)))) word e in
-    let a = taken_word (register_of (nth texts 0)) (λ rd. taken (register_of (nth texts 1)) (λ rs1. taken (number_of (nth texts 2)) (λ n. base_verdict row rd rs1 0 n))) word v in
-    let b = taken_word (register_of (nth texts 1)) (λ rs1. taken (number_of (nth texts 2)) (λ n. base_verdict row a.0 rs1 0 n)) word a.2 in
-    let d = taken_word (number_of (nth texts 2)) (λ n. base_verdict row a.0 b.0 0 n) word b.2 in
-    made row a.0 b.0 0 word d.0 h (register_below (nth texts 0) a.0 a.1) (register_below (nth texts 1) b.0 b.1) small d.2
-
-either_word : (b : Bool) (row : ℕ) (texts : List (List ℕ)) (word : ℕ) → row < 40 → (if b then load_verdict row texts else number_verdict row texts) ≡ V.Word word → IsInstructionOf row word
-either_word true row texts word h e = load_word row texts word h e
-either_word false row texts word h e = number_word row texts word h e
+-- where there is a word, operands were read
+read_word : (r : Read) (next : Operands → Verdict) (word : ℕ) → said_of next r ≡ V.Word word → (o : Operands) × (r ≡ Ok o) × (next o ≡ V.Word word)
+read_word (Ok o) next word h = (o, refl, h)
+read_word (Err U.Line) next word h = absurd cc
+read_word (Err U.Label) next word h = absurd cc
 
 form_word : (places : Places) (at : ℕ) (f : Form) (row : ℕ) (texts : List (List ℕ)) (word : ℕ) → row < 40 → f ≢ F.Word → form_verdict places at f row texts ≡ V.Word word → IsInstructionOf row word
 unfolding form_verdict
-form_word places at F.Registers row texts word h u e =
-    let v = when_word (length texts == 3) (taken (register_of (nth texts 0)) (λ rd. taken (register_of (nth texts 1)) (λ rs1. taken (register_of (nth texts 2)) (λ rs2. base_verdict row rd rs1 rs2 zero_number)))) word e in
-    let a = taken_word (register_of (nth texts 0)) (λ rd. taken (register_of (nth texts 1)) (λ rs1. taken (register_of (nth texts 2)) (λ rs2. base_verdict row rd rs1 rs2 zero_number))) word v in
-    let b = taken_word (register_of (nth texts 1)) (λ rs1. taken (register_of (nth texts 2)) (λ rs2. base_verdict row a.0 rs1 rs2 zero_number)) word a.2 in
-    let d = taken_word (register_of (nth texts 2)) (λ rs2. base_verdict row a.0 b.0 rs2 zero_number) word b.2 in
-    made row a.0 b.0 d.0 word zero_number h (register_below (nth texts 0) a.0 a.1) (register_below (nth texts 1) b.0 b.1) (register_below (nth texts 2) d.0 d.1) d.2
-form_word places at F.Number row texts word h u e = number_word row texts word h e
-form_word places at F.Load row texts word h u e = load_word row texts word h e
-form_word places at F.Store row texts word h u e =
-    let a = access_word (λ rs2 rs1 n. base_verdict row 0 rs1 rs2 n) texts word e in
-    made row 0 a.1 a.0 word a.2 h small a.4 a.3 a.5
-form_word places at F.Branch row texts word h u e =
-    let v = when_word (length texts == 3) (taken (register_of (nth texts 0)) (λ rs1. taken (register_of (nth texts 1)) (λ rs2. towards (target_of places at (nth texts 2)) (λ n. base_verdict row 0 rs1 rs2 n)))) word e in
-    let a = taken_word (register_of (nth texts 0)) (λ rs1. taken (register_of (nth texts 1)) (λ rs2. towards (target_of places at (nth texts 2)) (λ n. base_verdict row 0 rs1 rs2 n))) word v in
-    let b = taken_word (register_of (nth texts 1)) (λ rs2. towards (target_of places at (nth texts 2)) (λ n. base_verdict row 0 a.0 rs2 n)) word a.2 in
-    let d = towards_word (target_of places at (nth texts 2)) (λ n. base_verdict row 0 a.0 b.0 n) word b.2 in
-    made row 0 a.0 b.0 word d.0 h small (register_below (nth texts 0) a.0 a.1) (register_below (nth texts 1) b.0 b.1) d.1
-form_word places at F.Upper row texts word h u e =
-    let v = when_word (length texts == 2) (taken (register_of (nth texts 0)) (λ rd. taken (number_of (nth texts 1)) (λ n. base_verdict row rd 0 0 n))) word e in
-    let a = taken_word (register_of (nth texts 0)) (λ rd. taken (number_of (nth texts 1)) (λ n. base_verdict row rd 0 0 n)) word v in
-    let b = taken_word (number_of (nth texts 1)) (λ n. base_verdict row a.0 0 0 n) word a.2 in
-    made row a.0 0 0 word b.0 h (register_below (nth texts 0) a.0 a.1) small small b.2
-form_word places at F.Jump row texts word h u e =
-    let v = when_word (length texts == 2) (taken (register_of (nth texts 0)) (λ rd. towards (target_of places at (nth texts 1)) (λ n. base_verdict row rd 0 0 n))) word e in
-    let a = taken_word (register_of (nth texts 0)) (λ rd. towards (target_of places at (nth texts 1)) (λ n. base_verdict row rd 0 0 n)) word v in
-    let d = towards_word (target_of places at (nth texts 1)) (λ n. base_verdict row a.0 0 0 n) word a.2 in
-    made row a.0 0 0 word d.0 h (register_below (nth texts 0) a.0 a.1) small small d.1
-form_word places at F.JumpRegister row texts word h u e = either_word (length texts == 2) row texts word h e
-form_word places at F.Fence row texts word h u e = made row 0 0 0 word all_of_memory h small small small (when_word (length texts == 0) (base_verdict row 0 0 0 all_of_memory) word e)
-form_word places at F.Bare row texts word h u e = made row 0 0 0 word zero_number h small small small (when_word (length texts == 0) (base_verdict row 0 0 0 zero_number) word e)
-form_word places at F.Move row texts word h u e =
-    let v = when_word (length texts == 2) (taken (register_of (nth texts 0)) (λ rd. taken (register_of (nth texts 1)) (λ rs1. base_verdict row rd rs1 0 zero_number))) word e in
-    let a = taken_word (register_of (nth texts 0)) (λ rd. taken (register_of (nth texts 1)) (λ rs1. base_verdict row rd rs1 0 zero_number)) word v in
-    let b = taken_word (register_of (nth texts 1)) (λ rs1. base_verdict row a.0 rs1 0 zero_number) word a.2 in
-    made row a.0 b.0 0 word zero_number h (register_below (nth texts 0) a.0 a.1) (register_below (nth texts 1) b.0 b.1) small b.2
-form_word places at F.Goto row texts word h u e =
-    let v = when_word (length texts == 1) (towards (target_of places at (nth texts 0)) (λ n. base_verdict row 0 0 0 n)) word e in
-    let d = towards_word (target_of places at (nth texts 0)) (λ n. base_verdict row 0 0 0 n) word v in
-    made row 0 0 0 word d.0 h small small small d.1
-form_word places at F.Return row texts word h u e = made row 0 1 0 word zero_number h small (omega arith) small (when_word (length texts == 0) (base_verdict row 0 1 0 zero_number) word e)
-form_word places at F.Word row texts word h u e = absurd (u refl)
+form_word places at f row texts word h u e =
+    let a = read_word (read_operands places at (kinds_of f (length texts)) texts (start_of f)) (word_of f row) word e in
+    operands_word f row word a.0 h u (read_small places at f (kinds_of f (length texts)) texts (start_of f) a.0 refl a.1) a.2
 
 -- ---- lines
 row_below : (place : ℕ) → row_of place < 40

@@ -8,3 +8,6 @@ pub mod Results
 pub mod NumberLemmas
 pub mod WaitLemmas
 pub mod LineLemmas
+pub mod Eachwise
+pub mod Noting
+pub mod Small

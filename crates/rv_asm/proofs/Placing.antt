@@ -8,17 +8,21 @@ use Rattle.std.proofs.lemmas.List.Splits.{length-slice_split}
 use Rattle.ix_extension.specs.Extensions.{InstructionTree}
 use Rattle.rv_isa.specs.Images.{most_words}
 use Rattle.rv_asm_text.specs.Lines.{is_name, label_of, instruction_of, name_of, operands_of, lines_of}
-use Rattle.rv_asm_text.specs.Names.{register_of, mnemonic_of}
+use Rattle.rv_asm_text.specs.Names.{mnemonic_of}
 use Rattle.rv_asm_text.specs.Numbers.{number_of}
-use Rattle.rv_asm_field.specs.declared.verdict.Verdict.{Verdict}
-use Rattle.rv_asm_field.specs.declared.verdict.Verdict.TheVariants as V
-use Rattle.rv_asm_line.specs.declared.form.Form.{Form}
-use Rattle.rv_asm_line.specs.declared.form.Form.TheVariants as F
-use Rattle.rv_asm_line.specs.declared.label.Place.{Place}
-use Rattle.rv_asm_line.specs.declared.label.Target.{Target}
-use Rattle.rv_asm_line.specs.Forms.{form_of, row_of, base_verdict}
-use Rattle.rv_asm_line.specs.Labels.{Places, target_of, to_place, by_number, is_doubled, is_label_doubled, is_elsewhere}
-use Rattle.rv_asm_line.specs.Verdicts.{nth, taken, when, towards, form_verdict, mnemonic_verdict, instruction_verdict, with_label, line_verdict}
+use Rattle.rv_asm_text.specs.declared.verdict.Verdict.{Verdict}
+use Rattle.rv_asm_text.specs.declared.verdict.Verdict.TheVariants as V
+use Rattle.rv_asm.specs.declared.form.Form.{Form}
+use Rattle.rv_asm.specs.declared.label.Place.{Place}
+use Rattle.rv_asm.specs.declared.label.Target.{Target}
+use Rattle.rv_asm.specs.declared.reading.OperandKind.{OperandKind}
+use Rattle.rv_asm.specs.declared.reading.OperandKind.TheVariants as K
+use Rattle.rv_asm.specs.declared.reading.Operands.{Operands}
+use Rattle.rv_asm.specs.declared.reading.Unread.TheVariants as U
+use Rattle.rv_asm.specs.Forms.{form_of, row_of}
+use Rattle.rv_asm.specs.Labels.{Places, target_of, to_place, by_number, is_doubled, is_label_doubled, is_elsewhere}
+use Rattle.rv_asm.specs.Readings.{Read, behind, with_target, kinds_of, start_of, read_operand, read_each}
+use Rattle.rv_asm.specs.Verdicts.{word_of, said_of, form_verdict, mnemonic_verdict, instruction_verdict, with_label, line_verdict}
 use Rattle.rv_asm.specs.declared.source.AsmErr.{AsmErr}
 use Rattle.rv_asm.specs.declared.source.AsmErr.TheVariants as E
 use Rattle.rv_asm.specs.Sources.{Assembly, with_word, after, assembled_from, IsErrOf}
@@ -36,24 +40,29 @@ module _ (own : List InstructionTree) (p q : Places) (h : (n : List ℕ) → p n
   unfolding target_of
   target_same at text = ap (λ (o : Option Place). if is_name text then to_place at o else by_number (number_of text)) (h text)
 
+  operand_same : (at : ℕ) (kind : OperandKind) (text : List ℕ) (o : Operands) → read_operand p at kind text o ≡ read_operand q at kind text o
+  operand_same at K.Rd text o = refl
+  operand_same at K.Rs1 text o = refl
+  operand_same at K.Rs2 text o = refl
+  operand_same at K.Number text o = refl
+  operand_same at K.Target text o = ap (λ (t : Target). with_target t o) (target_same at text)
+  operand_same at K.Indexed text o = refl
+
+  behind_same : (r : Read) (f g : Operands → Read) → ((o : Operands) → f o ≡ g o) → behind r f ≡ behind r g
+  behind_same (Ok o) f g s = s o
+  behind_same (Err e) f g s = refl
+
+  each_same : (at : ℕ) (kinds : List OperandKind) (texts : List (List ℕ)) (o : Operands) → read_each p at kinds texts o ≡ read_each q at kinds texts o
+  each_same at [] texts o = refl
+  each_same at (k ∷ ks) [] o = refl
+  each_same at (k ∷ ks) (text ∷ texts) o =
+      ap (λ (r : Read). behind r (λ (s : Operands). read_each p at ks texts s)) (operand_same at k text o)
+      ∙ behind_same (read_operand q at k text o) (λ (s : Operands). read_each p at ks texts s) (λ (s : Operands). read_each q at ks texts s) (λ s. each_same at ks texts s)
+
   form_same : (f : Form) (at row : ℕ) (texts : List (List ℕ)) → form_verdict p at f row texts ≡ form_verdict q at f row texts
   unfolding form_verdict
-  form_same F.Registers at row texts = refl
-  form_same F.Number at row texts = refl
-  form_same F.Load at row texts = refl
-  form_same F.Store at row texts = refl
-  form_same F.Branch at row texts =
-      ap (λ (t : Target). when (length texts == 3) (taken (register_of (nth texts 0)) (λ rs1. taken (register_of (nth texts 1)) (λ rs2. towards t (λ n. base_verdict row 0 rs1 rs2 n))))) (target_same at (nth texts 2))
-  form_same F.Upper at row texts = refl
-  form_same F.Jump at row texts =
-      ap (λ (t : Target). when (length texts == 2) (taken (register_of (nth texts 0)) (λ rd. towards t (λ n. base_verdict row rd 0 0 n)))) (target_same at (nth texts 1))
-  form_same F.JumpRegister at row texts = refl
-  form_same F.Fence at row texts = refl
-  form_same F.Bare at row texts = refl
-  form_same F.Move at row texts = refl
-  form_same F.Goto at row texts = ap (λ (t : Target). when (length texts == 1) (towards t (λ n. base_verdict row 0 0 0 n))) (target_same at (nth texts 0))
-  form_same F.Return at row texts = refl
-  form_same F.Word at row texts = refl
+  form_same f at row texts =
+      ap (λ (r : Read). said_of (word_of f row) (if length texts == length (kinds_of f (length texts)) then r else Err U.Line)) (each_same at (kinds_of f (length texts)) texts (start_of f))
 
   mnemonic_same : (at : ℕ) (text : List ℕ) (o : Option ℕ) → mnemonic_verdict own p at text o ≡ mnemonic_verdict own q at text o
   mnemonic_same at text None = refl

@@ -8,9 +8,9 @@ use Rattle.std.proofs.Math.Nat.{pow-le-pow_right}
 use Rattle.rv_isa.specs.declared.table.Format.{Format}
 use Rattle.rv_isa.specs.declared.table.Format.TheVariants as T
 use Rattle.rv_asm_text.specs.Numbers.{most_size, digit_of, digits_size}
-use Rattle.rv_asm_field.specs.declared.verdict.Verdict.TheVariants as V
-use Rattle.rv_asm_field.specs.Filling.{pattern_in}
-use Rattle.rv_asm_line.specs.Forms.{is_in_reach, word_verdict}
+use Rattle.rv_asm_text.specs.declared.verdict.Verdict.TheVariants as V
+use Rattle.rv_asm_text.specs.Filling.{pattern_in}
+use Rattle.rv_asm.specs.Forms.{is_in_reach, word_verdict}
 use Rattle.rv_asm.specs.Laws.{digits_whole, capped, sized, SizeLaw}
 
 -- ---- digits

@@ -9,12 +9,12 @@ use Rattle.rv_asm_text.specs.Lines.{instruction_of, name_of}
 use Rattle.rv_asm_text.specs.Names.{mnemonic_of}
 use Rattle.rv_asm_text.specs.Numbers.{most_size, digit_of, size_of}
 use Rattle.rv_isa.specs.declared.table.Format.{Format}
-use Rattle.rv_asm_field.specs.Filling.{pattern_in}
-use Rattle.rv_asm_field.specs.declared.verdict.Verdict.TheVariants as V
-use Rattle.rv_asm_line.specs.declared.form.Form.TheVariants as F
-use Rattle.rv_asm_line.specs.Forms.{form_of, row_of, base_of, base_verdict, is_in_reach, word_verdict}
-use Rattle.rv_asm_line.specs.Labels.{Places}
-use Rattle.rv_asm_line.specs.Verdicts.{line_verdict}
+use Rattle.rv_asm_text.specs.Filling.{pattern_in}
+use Rattle.rv_asm_text.specs.declared.verdict.Verdict.TheVariants as V
+use Rattle.rv_asm.specs.declared.form.Form.TheVariants as F
+use Rattle.rv_asm.specs.Forms.{form_of, row_of, base_of, base_verdict, is_in_reach, word_verdict}
+use Rattle.rv_asm.specs.Labels.{Places}
+use Rattle.rv_asm.specs.Verdicts.{line_verdict}
 
 -- the word is that of an instruction of this row with some registers and a number in its range, and decodes to it
 pub record IsInstructionOf (row word : ℕ) : Type 0 where

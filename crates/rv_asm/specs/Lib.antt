@@ -1,6 +1,10 @@
+pub mod Forms
 pub mod ImageText
+pub mod Labels
 pub mod Laws
-pub mod Sources
-pub mod NumbersText
-pub mod WaitsText
 pub mod LinesText
+pub mod NumbersText
+pub mod Readings
+pub mod Sources
+pub mod Verdicts
+pub mod WaitsText

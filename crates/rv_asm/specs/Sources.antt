@@ -3,10 +3,10 @@ use Rattle.std.specs.Prelude.{◌≡◌, ℕ, ◌+◌, List, [], ◌∷◌, ◌+
 use Rattle.rv_isa.specs.Images.{most_words}
 use Rattle.ix_extension.specs.Extensions.{ExtensionTree, InstructionTree}
 use Rattle.rv_asm_text.specs.Lines.{lines_of}
-use Rattle.rv_asm_field.specs.declared.verdict.Verdict.{Verdict}
-use Rattle.rv_asm_field.specs.declared.verdict.Verdict.TheVariants as V
-use Rattle.rv_asm_line.specs.Labels.{Places, place_of}
-use Rattle.rv_asm_line.specs.Verdicts.{line_verdict}
+use Rattle.rv_asm_text.specs.declared.verdict.Verdict.{Verdict}
+use Rattle.rv_asm_text.specs.declared.verdict.Verdict.TheVariants as V
+use Rattle.rv_asm.specs.Labels.{Places, place_of}
+use Rattle.rv_asm.specs.Verdicts.{line_verdict}
 use Rattle.rv_asm.specs.declared.source.AsmErr.{AsmErr}
 use Rattle.rv_asm.specs.declared.source.AsmErr.TheVariants as E
 

@@ -2,11 +2,16 @@
 //! line, read from their texts.
 #![tactic(auto)]
 
+mod base;
+mod form;
 mod image_print;
 mod image_text;
+mod label;
 mod laws;
+mod line;
 mod lines_text;
 mod numbers_text;
+mod reading;
 mod source;
 mod waits_text;
 

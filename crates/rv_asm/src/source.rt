@@ -1,13 +1,13 @@
 ghost use Rattle.std.specs.Prelude.{◌≡◌, ℕ, ◌<◌, ◌≤◌, ◌^◌, List, length, map, Ok, IfOk, IfErr, OnOk, IsOkUnless};
 ghost use Rattle.ix_extension.specs.Extensions.{view_instruction, view_extension};
-ghost use Rattle.rv_asm_field.specs.Customs.{AreForms};
-ghost use Rattle.rv_asm_line.specs.Labels.{place_of, found};
+ghost use Rattle.rv_asm_text.specs.Customs.{AreForms};
+ghost use Rattle.rv_asm.specs.Labels.{place_of, found};
 ghost use Rattle.rv_asm.specs.Sources.{Assembly, prepended, after, assembled_from, Assembles, IsErrOf, IsRefusedAs};
 
+use crate::label::{Place, labels};
+use crate::line::line_verdict_of;
 use ix_tree::{Extension, Instruction};
-use rv_asm_field::{CustomForm, Verdict, custom_forms};
-use rv_asm_line::{Place, labels, line_verdict_of};
-use rv_asm_text::lines;
+use rv_asm_text::{CustomForm, Verdict, custom_forms, lines};
 use rv_isa::Image;
 use std::alloc::Global;
 use std::collections::BTreeMap;

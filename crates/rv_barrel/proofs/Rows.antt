@@ -1,5 +1,6 @@
 -- A row of both harts.
-use Rattle.std.proofs.Common.{◌≡◌, ◌∙◌, ap, subst, ℕ, suc, ◌+◌, List, [], ◌∷◌, get_or, Option, None, arith}
+use Rattle.std.proofs.Common.{◌≡◌, ◌∙◌, refl, ap, subst, ℕ, suc, ◌+◌, List, [], ◌∷◌, length, get_or, Option, None, arith}
+use Rattle.std.specs.Prelude.{slice_set}
 use Rattle.std.specs.Option.{option_or}
 use Rattle.ix_eval.specs.Tables.{table}
 use Rattle.ix_extension.specs.Extensions.{ExtensionTree}
@@ -33,3 +34,10 @@ row_there d a b n {cells} {one} {other} {first} {second} e o f t s =
 -- one row more, counted so
 pub kept_more : (x : ExtensionTree) (k : Setting) (h n : ℕ) (side : Side) → IsKept x k h (suc n) side → IsKept x k h (n + 1) side
 kept_more x k h n side kept = let up : suc n ≡ n + 1 = omega arith in subst (λ (m : ℕ). IsKept x k h m side) up kept
+
+-- both places of a list of two are put anew
+pub both_put : {A : Type 0} (ps : List A) (a b c d : A) → length ps ≡ 2 → slice_set (slice_set (slice_set (slice_set ps 0 a) 1 b) 0 c) 1 d ≡ c ∷ d ∷ []
+both_put [] a b c d e = absurd (omega (arith, e))
+both_put (p ∷ []) a b c d e = absurd (omega (arith, e))
+both_put (p ∷ q ∷ []) a b c d e = refl
+both_put (p ∷ q ∷ r ∷ ps) a b c d e = absurd (omega (arith, e))

@@ -1,6 +1,6 @@
 -- Why an instruction is turned, test by test.
-use Rattle.std.proofs.Common.{◌≡◌, ◌∙◌, refl, sym, ap, ℕ, List, Option, Some, None, Bool, true, false, arith}
-use Rattle.std.specs.Prelude.{option_map, get_or, if◌then◌else◌, ◌==◌}
+use Rattle.std.proofs.Common.{◌≡◌, ◌∙◌, refl, sym, ap, ℕ, List, [], ◌∷◌, Option, Some, None, Bool, true, false, arith}
+use Rattle.std.specs.Prelude.{find, option_map, get_or, if◌then◌else◌, ◌==◌}
 use Rattle.std.specs.Option.{option_or}
 use Rattle.std.proofs.lemmas.Bool.Decides.{nat_tests}
 use Rattle.rv_asks.specs.declared.asks.Asks.{Asks}
@@ -9,13 +9,14 @@ use Rattle.rv_harts.specs.declared.row.Turn.TheVariants as turns
 use Rattle.rv_harts.specs.Harts.{Fetched}
 use Rattle.rv_harts.specs.Turns.{eldest, board_of, operand_turn, custom_turn, late_turn, unit_of, unit_turn, drain_turn, reading_turn, executing_turn}
 use Rattle.rv_holds.proofs.Least.{count_is}
+use Rattle.rv_holds.proofs.Spawns.{no_target}
 use Rattle.rv_holds.specs.Holds.{least_from, register_at}
 use Rattle.rv_lawful.specs.LawfulTrace.{reads_of}
-use Rattle.rv_lawful.specs.Outstanding.{touches}
+use Rattle.rv_lawful.specs.Outstanding.{has_target, touches}
 use Rattle.rv_lawful.specs.Settings.{Setting}
 use Rattle.rv_barrel.specs.declared.turning.Wait.{Wait}
 use Rattle.rv_barrel.specs.declared.turning.Wait.TheVariants as waits
-use Rattle.rv_barrel.specs.declared.older.Wanted.TheVariants.{Destination, Target, LateCustom, Late, InUnit}
+use Rattle.rv_barrel.specs.declared.older.Wanted.TheVariants.{Destination, Target, Spawner, LateCustom, Late, InUnit}
 use Rattle.rv_barrel.specs.Older.{asked_so}
 use Rattle.rv_barrel.specs.Turning.{waited}
 
@@ -42,6 +43,20 @@ custom_so k c a un wr n r w is asks so e =
     e
     ∙ sym (if_true (get_or (k.asks c.word).customs n false) (eldest (asked_so k (LateCustom n)) un) (so ∙ ap (λ (b : Asks). get_or b.customs n false) asks))
     ∙ sym (ap (λ (v : Wait). waited v k c un wr n) is)
+
+none_found : (f g : Fetched → Bool) → ((d : Fetched) → f d ≡ false → g d ≡ false) → (cells : List Fetched) → eldest f cells ≡ None → eldest g cells ≡ None
+none_found f g less [] e = refl
+none_found f g less (d ∷ cells) e = by (none_found f g less cells) (f d) refl e where
+  by : (eldest f cells ≡ None → eldest g cells ≡ None) → (b : Bool) → f d ≡ b → option_map (λ (c : Fetched). c.serial) (if b then Some d else find f cells) ≡ None → eldest g (d ∷ cells) ≡ None
+  by later true is none = absurd cc
+  by later false is none = ap (λ (b : Bool). option_map (λ (c : Fetched). c.serial) (if b then Some d else find g cells)) (less d is) ∙ later none
+
+-- where no `spawn` body of these writes a register, none is waited for
+pub none_spawned : (k : Setting) (c : Fetched) (wr : List Fetched) → eldest (asked_so k Spawner) wr ≡ None → (n : ℕ) → board_of k c wr n ≡ None
+none_spawned k c wr none n = by (touches (k.asks c.word) (register_at n)) where
+  by : (b : Bool) → (if b then eldest (λ (d : Fetched). has_target (k.asks d.word) (register_at n)) wr else None) ≡ None
+  by true = none_found (asked_so k Spawner) (λ (d : Fetched). has_target (k.asks d.word) (register_at n)) (λ d e. no_target (k.asks d.word) n e) wr none
+  by false = refl
 
 -- RD
 

@@ -3,17 +3,19 @@ use Rattle.std.specs.Prelude.{ℕ, ◌<◌, List, filter, suc, get_or, Option, S
 use Rattle.rv_asks.specs.declared.asks.Asks.{Asks}
 use Rattle.rv_harts.specs.Harts.{Fetched}
 use Rattle.rv_holds.specs.Holds.{register_at}
+use Rattle.rv_holds.specs.Meets.{has_targets}
 use Rattle.rv_lawful.specs.Outstanding.{has_target}
 use Rattle.rv_lawful.specs.Settings.{Setting}
 use Rattle.rv_unit.specs.Entries.{is_number}
 use Rattle.rv_barrel.specs.declared.cell.InFlight.{InFlight}
 use Rattle.rv_barrel.specs.declared.older.Wanted.{Wanted}
-use Rattle.rv_barrel.specs.declared.older.Wanted.TheVariants.{Destination, Target, LateCustom, Late, InUnit, Any}
+use Rattle.rv_barrel.specs.declared.older.Wanted.TheVariants.{Destination, Target, Spawner, LateCustom, Late, InUnit, Any}
 
 -- there is such a register
 abbrev pub IsWanted : Wanted → Type 0
 IsWanted (Destination r) = Unit
 IsWanted (Target n) = n < 48
+IsWanted Spawner = Unit
 IsWanted (LateCustom r) = r < 16
 IsWanted Late = Unit
 IsWanted (InUnit u) = Unit
@@ -23,6 +25,7 @@ IsWanted Any = Unit
 abbrev pub meets : Wanted → Asks → Bool
 meets (Destination r) a = a.destination == r
 meets (Target n) a = has_target a (register_at n)
+meets Spawner a = has_targets a
 meets (LateCustom r) a = get_or a.late_customs r false
 meets Late a = a.late
 meets (InUnit u) a = is_number a.unit u

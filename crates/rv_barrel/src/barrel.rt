@@ -74,16 +74,34 @@ fn joined(a: &[Option<BarrelCell>; 5], b: &[Option<BarrelCell>; 5]) -> [Option<B
 }
 
 // A hart's part of a row in which nothing happens.
-fn quiet() -> HartPart
-    ensures retired { result.retired ≡ None }
-    ensures written { result.written ≡ None }
-{
+fn quiet() -> HartPart {
     HartPart {
         retired: None,
         written: None,
         flushed: [None; 5],
         redirect: None,
         stop: None,
+    }
+}
+
+/// A row in which nothing happens.
+pub fn quiet_row() -> BarrelRow {
+    BarrelRow {
+        cells: [None; 5],
+        parts: [quiet(); 2],
+    }
+}
+
+// Takes back what a hart's part of a row shows of a retirement and of outstanding writes: most parts show neither, and then nothing is written.
+fn clear(part: &mut HartPart)
+    ensures retired { part.new.retired ≡ None }
+    ensures written { part.new.written ≡ None }
+{
+    if part.retired.is_some() {
+        part.retired = None;
+    }
+    if part.written.is_some() {
+        part.written = None;
     }
 }
 
@@ -126,20 +144,18 @@ impl<'a> Barrel<'a> {
         self.a.front.stopped && self.b.front.stopped
     }
 
-    /// One more row. Takes no memory.
-    pub fn cycle(&mut self) -> BarrelRow
+    /// Puts one more row in place of the last one. Takes no memory.
+    pub fn cycle_into(&mut self, row: &mut BarrelRow)
         requires going { both_stopped self.old ≡ false }
         requires spare { self.old.made < self.old.cycles }
-        ensures row { result ≡ barrel_row self.old.design self.old.first self.old.second self.old.made }
+        ensures row { row.new ≡ barrel_row self.old.design self.old.first self.old.second self.old.made }
         ensures after { self.new ≡ one_more self.old }
         ensures prefix { PrefixLaw self.old.design self.old.first × PrefixLaw self.old.design self.old.second }
         ensures state { (AreWords self.old.first → StateLaw self.old.design self.old.first) × (AreWords self.old.second → StateLaw self.old.design self.old.second) }
     {
         hart_runs();
-        let mut row = BarrelRow {
-            cells: [None; 5],
-            parts: [quiet(); 2],
-        };
+        clear(&mut row.parts[0]);
+        clear(&mut row.parts[1]);
         let a = row_of(
             self.design,
             &self.asking,
@@ -162,6 +178,19 @@ impl<'a> Barrel<'a> {
         );
         row.cells = joined(&a, &b);
         self.made += 1;
+    }
+
+    /// One more row. Takes no memory.
+    pub fn cycle(&mut self) -> BarrelRow
+        requires going { both_stopped self.old ≡ false }
+        requires spare { self.old.made < self.old.cycles }
+        ensures row { result ≡ barrel_row self.old.design self.old.first self.old.second self.old.made }
+        ensures after { self.new ≡ one_more self.old }
+        ensures prefix { PrefixLaw self.old.design self.old.first × PrefixLaw self.old.design self.old.second }
+        ensures state { (AreWords self.old.first → StateLaw self.old.design self.old.first) × (AreWords self.old.second → StateLaw self.old.design self.old.second) }
+    {
+        let mut row = quiet_row();
+        self.cycle_into(&mut row);
         row
     }
 

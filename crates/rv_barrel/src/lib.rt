@@ -14,5 +14,5 @@ mod showing;
 mod side;
 mod turning;
 
-pub use barrel::Barrel;
+pub use barrel::{Barrel, quiet_row};
 pub use laws::barrel_laws;

@@ -1,4 +1,4 @@
-ghost use Rattle.std.specs.Prelude.{◌≡◌, ◌+◌, ◌-◌, ◌<◌, ◌^◌, ◌||◌, suc, Option, None, is_some, length, get_or, slice_set, IfSome, if◌then◌else◌};
+ghost use Rattle.std.specs.Prelude.{◌≡◌, ◌+◌, ◌-◌, ◌<◌, ◌^◌, ◌||◌, suc, Option, Some, None, is_some, length, get_or, slice_set, IfSome, if◌then◌else◌};
 ghost use Rattle.ix_extension.specs.Extensions.{view_extension};
 ghost use Rattle.ix_extension.specs.WellFormed.{IsWellFormed};
 ghost use Rattle.ix_eval.specs.Scratches.{IsScratchOf};
@@ -61,6 +61,20 @@ fn enter(
     }
 }
 
+// Tries an instruction on this state. It stands apart, since its caller would set room for a step to zero in each row.
+#[inline(never)]
+fn try_one(design: &Design, image: &[u32], ahead: &Arch, one: &mut InFlight, scratch: &mut Scratch)
+    requires well_formed { IsWellFormed design.now.extension }
+    requires wide { AreWide (view_extension design.now.extension) ahead.now.custom }
+    requires scratch { IsScratchOf (view_extension design.now.extension) scratch.old }
+    ensures scratch { IsScratchOf (view_extension design.now.extension) scratch.new }
+    ensures sound { IsSoundSlot (view_extension design.now.extension) (Some one.new) }
+    ensures one { Some one.new ≡ with_step (view_extension design.now.extension) image.now ahead.now (Some one.old) }
+{
+    // The count of accesses before it is asked by no rule here.
+    one.step = Some(step_of(&design.extension, image, ahead, 0, scratch));
+}
+
 // Tries what stands in a slot on this state, where something does.
 fn try_slot(
     design: &Design,
@@ -77,8 +91,7 @@ fn try_slot(
     ensures slot { slot.new ≡ with_step (view_extension design.now.extension) image.now ahead.now slot.old }
 {
     if let Some(one) = slot {
-        // The count of accesses before it is asked by no rule here.
-        one.step = Some(step_of(&design.extension, image, ahead, 0, scratch));
+        try_one(design, image, ahead, one, scratch);
     }
 }
 

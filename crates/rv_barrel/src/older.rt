@@ -10,7 +10,7 @@ ghost use Rattle.rv_barrel.specs.Older.{IsWanted, meets, asked_so, any_one, kept
 use crate::cell::{InFlight, Owed};
 use rv_asks::Asks;
 use rv_core::Shape;
-use rv_holds::does_spawn;
+use rv_holds::{does_spawn, spawns_any};
 
 /// What an older instruction is looked for by.
 #[derive(Clone, Copy)]
@@ -19,6 +19,8 @@ pub enum Wanted {
     Destination(u8),
     /// Its `spawn` body writes this register, given by its number: 32 of the base, then the custom ones.
     Target(u8),
+    /// Its `spawn` body writes a register.
+    Spawner,
     /// It writes this custom register above EX.
     LateCustom(u8),
     /// It writes the pc above EX.
@@ -37,6 +39,7 @@ fn is_wanted(asks: &Asks, wanted: Wanted) -> bool
     match wanted {
         Wanted::Destination(register) => asks.destination == register,
         Wanted::Target(number) => does_spawn(asks, number),
+        Wanted::Spawner => spawns_any(asks),
         Wanted::LateCustom(register) => asks.late_customs[usize::from(register)],
         Wanted::Late => asks.late,
         Wanted::InUnit(number) => asks.unit == Some(number),

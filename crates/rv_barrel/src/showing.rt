@@ -1,9 +1,11 @@
-ghost use Rattle.std.specs.Prelude.{◌≡◌, ◌-◌, ◌≤◌, ◌++◌, None, length, replicate};
+ghost use Rattle.std.specs.Prelude.{◌≡◌, ◌-◌, ◌≤◌, ◌++◌, Some, None, length, replicate};
 ghost use Rattle.rv_harts.specs.HartRows.{redirect_of, stop_of as specified_stop_of, event_at, turn_at as specified_turn_at};
 ghost use Rattle.rv_trace.specs.RowParts.{in_five};
+ghost use Rattle.rv_tried.specs.Parts.{shown as specified_shown};
 ghost use Rattle.rv_barrel.specs.Showing.{cell_from, cells_from, serials_of, retired_by};
 
 use crate::cell::InFlight;
+use rv_asks::Asks;
 use rv_harts::{BarrelCell, Event, EventAt, Turn};
 use rv_seq::{Commit, StepAnswer, Stop};
 use rv_tried::shown;
@@ -103,6 +105,14 @@ pub fn stop_of(event: &Option<EventAt>) -> Option<Stop>
     }
 }
 
+// Shows this record of a retirement. It stands apart, since its caller would set room for a record to zero in each row.
+#[inline(never)]
+fn show_record(serial: u32, asks: &Asks, commit: &Commit, retired: &mut Option<(u32, Commit)>)
+    ensures { retired.new ≡ Some (serial, specified_shown asks.now commit.now) }
+{
+    *retired = Some((serial, shown(asks, commit)));
+}
+
 /// Shows what retires out of a slot, with its serial, where a row shows nothing yet. A record is large, and none is written where nothing retires.
 pub fn show_retired(slot: &Option<InFlight>, retired: &mut Option<(u32, Commit)>)
     requires { retired.old ≡ None }
@@ -111,7 +121,7 @@ pub fn show_retired(slot: &Option<InFlight>, retired: &mut Option<(u32, Commit)>
     if let Some(one) = slot {
         if let Some(step) = &one.step {
             if let StepAnswer::Done(commit) = &step.answer {
-                *retired = Some((one.serial, shown(&one.asks, commit)));
+                show_record(one.serial, &one.asks, commit, retired);
             }
         }
     }

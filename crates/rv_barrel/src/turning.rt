@@ -1,7 +1,7 @@
 ghost use Rattle.std.specs.Prelude.{◌≡◌, ◌++◌, ◌+◌, ◌<◌, ◌≤◌, ◌==◌, None, if◌then◌else◌, ℕ, List, suc, length, reverse};
 ghost use Rattle.rv_harts.specs.Harts.{Fetched};
 ghost use Rattle.rv_harts.specs.Events.{standing as standing_of, undone};
-ghost use Rattle.rv_harts.specs.Turns.{unit_turn, drain_turn, reading_turn, executing_turn, stop_due as specified_stop_due, turn_of as specified_turn_of};
+ghost use Rattle.rv_harts.specs.Turns.{board_of, unit_turn, drain_turn, reading_turn, executing_turn, stop_due as specified_stop_due, turn_of as specified_turn_of};
 ghost use Rattle.rv_holds.specs.Holds.{least_from, register_at as specified_register_at};
 ghost use Rattle.rv_lawful.specs.LawfulTrace.{reads_of};
 ghost use Rattle.rv_lawful.specs.Settings.{Setting};
@@ -96,6 +96,16 @@ fn least_wait(
     None
 }
 
+// The least register with an outstanding write that an instruction reads or writes, and whose it is. Where nothing is to be written later, none is looked for register by register.
+fn least_outstanding(asks: &Asks, owed: &[Owed], older: &[Option<InFlight>]) -> Option<(u8, u32)>
+    ensures { (k : Setting) (q : ℕ) (all : List Fetched) (c : Fetched) → asks.now ≡ k.asks c.word → AreAsked k older.now → AreOwed k owed.now all → result ≡ least_from (board_of k c (all ++ reverse (standing_of (fetched_of q older.now)))) 0 48 }
+{
+    match eldest_unwritten(owed, older, Wanted::Spawner) {
+        None => None,
+        Some(_) => least_wait(Wait::Board, asks, owed, older, ALL),
+    }
+}
+
 // A register by its number: those of the base, then the custom ones.
 fn register_at(number: u8) -> Target
     ensures { result ≡ specified_register_at number }
@@ -114,7 +124,7 @@ fn reading(asks: &Asks, owed: &[Owed], older: &[Option<InFlight>]) -> Option<Tur
     if let Some((register, serial)) = least_wait(Wait::Operand, asks, owed, older, BASE) {
         return Some(Turn::Operand(register, serial));
     }
-    if let Some((number, serial)) = least_wait(Wait::Board, asks, owed, older, ALL) {
+    if let Some((number, serial)) = least_outstanding(asks, owed, older) {
         return Some(Turn::Board(register_at(number), serial));
     }
     None

@@ -1,5 +1,5 @@
 -- The first of so many that there is, one number after another.
-use Rattle.std.proofs.Common.{◌≡◌, ℕ, suc, ◌+◌, ◌-◌, ◌<◌, ◌≤◌, Option, Some, None, refl, sym, ap, ◌∙◌, arith}
+use Rattle.std.proofs.Common.{◌≡◌, ℕ, zero, suc, ◌+◌, ◌-◌, ◌<◌, ◌≤◌, Option, Some, None, refl, sym, ap, ◌∙◌, arith}
 use Rattle.rv_holds.specs.Tokens.{or_else}
 use Rattle.rv_holds.specs.Holds.{register_count, numbered, least_from}
 
@@ -24,3 +24,8 @@ least_later f n top found lt e none = one_more f n top lt ∙ ap (λ o. or_else 
 -- there is none
 pub least_none : (f : ℕ → Option ℕ) (n top : ℕ) → top ≤ n → least_from f n (top - n) ≡ None
 least_none f n top le = let e : top - n ≡ 0 = omega (arith, le) in ap (λ c. least_from f n c) e
+
+-- there is none where there is none of any number
+pub least_of_none : (f : ℕ → Option ℕ) (n count : ℕ) → ((k : ℕ) → f k ≡ None) → least_from f n count ≡ None
+least_of_none f n zero none = refl
+least_of_none f n (suc count) none = ap (λ o. or_else (numbered n o) (least_from f (suc n) count)) (none n) ∙ least_of_none f (suc n) count none

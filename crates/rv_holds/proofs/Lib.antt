@@ -1,3 +1,4 @@
 pub mod Clearing
 pub mod Places
 pub mod Least
+pub mod Spawns

@@ -1,5 +1,5 @@
 -- What a token that settles its successor flushes, and the stop of a row (this project's choice).
-use Rattle.std.specs.Prelude.{ℕ, suc, ◌+◌, ◌-◌, ◌%◌, ◌^◌, List, [], ◌∷◌, ◌++◌, map, take, drop, length, replicate, Option, Some, None, Bool, false, true, not, ◌&&◌, ◌||◌, if◌then◌else◌, ◌==◌, is_some}
+use Rattle.std.specs.Prelude.{ℕ, suc, ◌+◌, ◌%◌, ◌^◌, List, [], ◌∷◌, ◌++◌, map, take, drop, replicate, Option, Some, None, Bool, false, true, not, ◌&&◌, ◌||◌, if◌then◌else◌, ◌==◌, is_some}
 use Rattle.rv_core.specs.declared.Shape.{Shape}
 use Rattle.rv_seq.specs.declared.commit.Commit.{Commit}
 use Rattle.rv_seq.specs.declared.commit.Stop.{Stop}

@@ -1,7 +1,8 @@
 ghost use Rattle.std.specs.Prelude.{◌≡◌, ◌<◌};
 ghost use Rattle.rv_lawful.specs.Outstanding.{is_register, has_target, touches};
-ghost use Rattle.rv_holds.specs.Holds.{register_at as specified_register_at, oldest, spawns_at, register_count, spawner, least_from, lower_of as specified_lower_of, board, board_hold};
+ghost use Rattle.rv_holds.specs.Holds.{register_at as specified_register_at, register_count, spawner, least_from, lower_of as specified_lower_of, board, board_hold};
 
+use crate::asked::{Asked, any_spawns, oldest_asked};
 use crate::token::Token;
 use ix_plan::Target;
 use rv_asks::Asks;
@@ -54,29 +55,13 @@ pub fn does_spawn(asks: &Asks, number: u8) -> bool
     }
 }
 
-/// The oldest token whose `spawn` body writes this register.
-fn oldest_spawner(older: &[Option<Token>], number: u8) -> Option<u32>
-    requires { number < 48 }
-    ensures { result ≡ oldest (spawns_at number) older.now }
-{
-    let mut found = None;
-    for slot in older {
-        if let Some(token) = slot {
-            if does_spawn(&token.asks, number) {
-                found = Some(token.cell.serial);
-            }
-        }
-    }
-    found
-}
-
-/// The same, where the instruction touches the register.
+/// The oldest token whose `spawn` body writes this register, where the instruction touches it.
 fn spawner_for(older: &[Option<Token>], asks: &Asks, number: u8) -> Option<u32>
     requires { number < 48 }
     ensures { result ≡ spawner older.now asks.now number }
 {
     if does_touch(asks, number) {
-        oldest_spawner(older, number)
+        oldest_asked(older, Asked::Spawner(number))
     } else {
         None
     }
@@ -86,6 +71,9 @@ fn spawner_for(older: &[Option<Token>], asks: &Asks, number: u8) -> Option<u32>
 fn least_spawned(older: &[Option<Token>], asks: &Asks) -> Option<(u8, u32)>
     ensures { result ≡ least_from (spawner older.now asks.now) 0 register_count }
 {
+    if !any_spawns(older) {
+        return None;
+    }
     for number in 0..48 {
         let found = spawner_for(older, asks, number);
         if let Some(serial) = found {

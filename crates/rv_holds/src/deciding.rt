@@ -1,7 +1,8 @@
 ghost use Rattle.std.specs.Prelude.{◌≡◌, ◌+◌, ◌<◌, ◌==◌, length, suc, is_some, option_map, IfSome};
 ghost use Rattle.rv_holds.specs.Tokens.{or_else};
-ghost use Rattle.rv_holds.specs.Holds.{oldest, withholds as specified_withholds, withholder, writes_late, does_store, is_late, waits_for, operand_hold, waits_for_custom, custom_hold, late_hold, waiting_hold as specified_waiting_hold, staying, entering, left_behind, trap_hold, drain_hold, leaving_hold, reading_hold, ending_hold, store_hold, memory_hold, tail_hold, own_hold, stops_now, is_blocked as specified_is_blocked, shown, held as specified_held, decided};
+ghost use Rattle.rv_holds.specs.Holds.{withholds as specified_withholds, withholder, waits_for, operand_hold, waits_for_custom, custom_hold, late_hold, waiting_hold as specified_waiting_hold, staying, entering, left_behind, trap_hold, drain_hold, leaving_hold, reading_hold, ending_hold, store_hold, memory_hold, tail_hold, own_hold, stops_now, is_blocked as specified_is_blocked, shown, held as specified_held, decided};
 
+use crate::asked::{Asked, oldest_asked};
 use crate::board::board_of;
 use crate::forwarding::is_below;
 use crate::token::{Token, stop_of};
@@ -24,52 +25,6 @@ fn oldest_withholding(shape: Shape, r: u8, stage: usize, older: &[Option<Token>]
     for further in 0..older.len() {
         if let Some(token) = &older[further] {
             if withholds(shape, r, stage, further, token) {
-                found = Some(token.cell.serial);
-            }
-        }
-    }
-    found
-}
-
-/// The oldest token that writes this custom register late.
-fn oldest_late_writer(older: &[Option<Token>], r: u8) -> Option<u32>
-    requires { r < 16 }
-    ensures { result ≡ oldest (writes_late r) older.now }
-{
-    let mut found = None;
-    for slot in older {
-        if let Some(token) = slot {
-            if token.asks.late_customs[usize::from(r)] {
-                found = Some(token.cell.serial);
-            }
-        }
-    }
-    found
-}
-
-/// The oldest token that stores.
-fn oldest_store(older: &[Option<Token>]) -> Option<u32>
-    ensures { result ≡ oldest does_store older.now }
-{
-    let mut found = None;
-    for slot in older {
-        if let Some(token) = slot {
-            if token.asks.stores {
-                found = Some(token.cell.serial);
-            }
-        }
-    }
-    found
-}
-
-/// The oldest token that writes the pc late.
-fn oldest_late(older: &[Option<Token>]) -> Option<u32>
-    ensures { result ≡ oldest is_late older.now }
-{
-    let mut found = None;
-    for slot in older {
-        if let Some(token) = slot {
-            if token.asks.late {
                 found = Some(token.cell.serial);
             }
         }
@@ -108,7 +63,7 @@ fn custom_waited_for(older: &[Option<Token>], asks: &Asks, r: u8) -> Option<Hold
     if !asks.customs[usize::from(r)] {
         return None;
     }
-    match oldest_late_writer(older, r) {
+    match oldest_asked(older, Asked::LateWriter(r)) {
         None => None,
         Some(serial) => Some(Hold::Custom(r, serial)),
     }
@@ -131,7 +86,7 @@ fn custom(older: &[Option<Token>], asks: &Asks) -> Option<Hold>
 fn late(older: &[Option<Token>]) -> Option<Hold>
     ensures { result ≡ late_hold older.now }
 {
-    oldest_late(older).map(|serial| Hold::Late(serial))
+    oldest_asked(older, Asked::Late).map(|serial| Hold::Late(serial))
 }
 
 /// The hold of a token at RD, which waits for an operand first and then for an outstanding register.
@@ -266,7 +221,7 @@ fn store(older: &[Option<Token>], asks: &Asks) -> Option<Hold>
     ensures { result ≡ store_hold older.now asks.now }
 {
     if asks.loads {
-        oldest_store(older).map(|serial| Hold::StoreAhead(serial))
+        oldest_asked(older, Asked::Store).map(|serial| Hold::StoreAhead(serial))
     } else {
         None
     }

@@ -20,7 +20,7 @@ ghost use Rattle.rv_ports.specs.Drives.{drives_of};
 ghost use Rattle.rv_machine.specs.Promise.{AllPromised};
 ghost use Rattle.rv_trace.specs.declared.row.Row.{Row as TraceRow};
 
-use crate::pipeline::{Pipeline, nothing_shown};
+use crate::pipeline::{Pipeline, nothing_shown, quiet};
 use ix_behaviour::behaviour_laws;
 use ix_bits::{Bits, Memory};
 use ix_plan::{Design, Target};
@@ -134,7 +134,8 @@ impl<'a> Machine<'a> {
     {
         rows_laws();
         let mut shown = nothing_shown();
-        let row = self.pipeline.cycle(true, &mut shown);
+        let mut row = quiet();
+        self.pipeline.cycle(true, &mut shown, &mut row);
         self.modules.step(&shown);
         self.trace.push(row);
         row

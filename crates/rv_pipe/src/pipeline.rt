@@ -52,7 +52,7 @@ impl<'a> Model for Pipeline<'a> {
 }
 
 /// A row in which nothing happens.
-fn quiet() -> Row
+pub(crate) fn quiet() -> Row
     ensures retired { result.retired ≡ None }
     ensures written { result.written ≡ None }
 {
@@ -64,6 +64,19 @@ fn quiet() -> Row
         redirect: None,
         taken: None,
         stop: None,
+    }
+}
+
+/// Takes back what a row shows of a retirement and of outstanding writes: most rows show neither, and then nothing is written.
+fn clear(row: &mut Row)
+    ensures retired { row.new.retired ≡ None }
+    ensures written { row.new.written ≡ None }
+{
+    if row.retired.is_some() {
+        row.retired = None;
+    }
+    if row.written.is_some() {
+        row.written = None;
     }
 }
 
@@ -106,15 +119,15 @@ impl<'a> Pipeline<'a> {
         })
     }
 
-    /// One more row, and where modules are there to see it, what it shows them. Takes no memory.
-    pub(crate) fn cycle(&mut self, shows: bool, shown: &mut Shown) -> Row
+    /// Puts one more row in place of the last one, and where modules are there to see it, what it shows them. Takes no memory.
+    pub(crate) fn cycle(&mut self, shows: bool, shown: &mut Shown, row: &mut Row)
         requires room { self.old.machine.rows + 1 < 2 ^ 32 }
-        ensures row { IsRowOf self.old.setting self.old.machine result }
+        ensures row { IsRowOf self.old.setting self.old.machine row.new }
         ensures shown { shows ≡ true → shown.new ≡ shown_of self.old.setting self.old.machine }
         ensures setting { self.new.setting ≡ self.old.setting }
         ensures after { self.new.machine ≡ machine_after self.old.setting self.old.machine }
     {
-        let mut row = quiet();
+        clear(row);
         make_row(
             self.design,
             &self.asking,
@@ -123,11 +136,10 @@ impl<'a> Pipeline<'a> {
             self.lines,
             &mut self.kept,
             &mut self.scratch,
-            &mut row,
+            row,
             shows,
             shown,
         );
-        row
     }
 
     /// The architectural state after the last row.

@@ -9,7 +9,7 @@ ghost use Rattle.rv_engine.specs.Settings.{setting, first_machine};
 ghost use Rattle.rv_machine.specs.DesignText.{most_targets, IsDesignText};
 ghost use Rattle.rv_pipe.specs.Texts.{text_from, end_text};
 
-use crate::pipeline::{Pipeline, nothing_shown};
+use crate::pipeline::{Pipeline, nothing_shown, quiet};
 use ix_behaviour::behaviour_laws;
 use ix_io::{Out, Sink, WriteErr};
 use ix_plan::{Design, Target};
@@ -40,10 +40,11 @@ fn write_rows<S: Sink>(
     ensures never_fell { S.faults sink.old ≤ S.faults sink.new }
 {
     let mut shown = nothing_shown();
+    let mut row = quiet();
     for number in 0..cycles {
         match make_room(out, sink) {
             Ok(()) => {
-                let row = pipeline.cycle(false, &mut shown);
+                pipeline.cycle(false, &mut shown, &mut row);
                 put_row(out, number, shape, &row);
                 if row.stop.is_some() {
                     return Ok(());

@@ -29,15 +29,13 @@ fn slot_of(value: Option<Bits>) -> Slot<Bits>
     }
 }
 
-// What is written to the custom registers.
-fn slots_of(values: &[Option<Bits>; 16]) -> [Slot<Bits>; 16]
-    ensures { result ≡ specified_slots_of values.now }
+// Puts what is written to the custom registers.
+fn put_slots(values: &[Option<Bits>; 16], slots: &mut [Slot<Bits>; 16])
+    ensures { slots.new ≡ specified_slots_of values.now }
 {
-    let mut all = [Slot::Absent; 16];
     for number in 0..16usize {
-        all[number] = slot_of(values[number]);
+        slots[number] = slot_of(values[number]);
     }
-    all
 }
 
 /// The writes of the instruction of a word at an address, which with the always-blocks has this effect.
@@ -46,16 +44,17 @@ pub fn commit_of(at: u32, word: u32, effect: &Effect) -> Commit
     ensures { result ≡ specified_commit_of at word effect.now }
 {
     let (rd_index, rd) = x_write(rd_of(word), effect.rd);
-    let custom = slots_of(&effect.custom);
-    Commit {
+    let mut commit = Commit {
         at,
         word,
         rd_index,
         rd,
-        custom,
+        custom: [Slot::Absent; 16],
         store: effect.store,
         next: effect.pc.unwrap_or(at.wrapping_add(4)),
-    }
+    };
+    put_slots(&effect.custom, &mut commit.custom);
+    commit
 }
 
 /// Writes an x register. A slot without a value writes nothing, nor does a number past the last register.

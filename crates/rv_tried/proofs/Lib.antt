@@ -1,2 +1,3 @@
+mod Alone
 pub mod Stepping
 pub mod Wholes

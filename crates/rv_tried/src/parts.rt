@@ -16,22 +16,22 @@ pub struct Spawned {
     pub custom: [Slot<Bits>; 16],
 }
 
-// What a retirement shows of a custom register.
-fn shown_slot(is_spawned: bool, slot: Slot<Bits>) -> Slot<Bits>
-    ensures { result ≡ (if is_spawned then Later else slot) }
+// Has a retirement show a custom register as written later, where a `spawn` body writes it.
+fn put_later(is_spawned: bool, slot: &mut Slot<Bits>)
+    ensures { slot.new ≡ (if is_spawned then Later else slot.old) }
 {
-    if is_spawned { Slot::Later } else { slot }
+    if is_spawned {
+        *slot = Slot::Later;
+    }
 }
 
-// What a retirement shows of the custom registers.
-fn shown_customs(spawned: &[bool; 16], slots: &[Slot<Bits>; 16]) -> [Slot<Bits>; 16]
-    ensures { result ≡ specified.shown_customs spawned.now slots.now }
+// What a retirement shows of the custom registers, in place of what is written to them.
+fn show_customs(spawned: &[bool; 16], slots: &mut [Slot<Bits>; 16])
+    ensures { slots.new ≡ specified.shown_customs spawned.now slots.old }
 {
-    let mut all = [Slot::Absent; 16];
     for number in 0..16usize {
-        all[number] = shown_slot(spawned[number], slots[number]);
+        put_later(spawned[number], &mut slots[number]);
     }
-    all
 }
 
 /// The record of a step as its retirement shows it: what a `spawn` body writes comes later, whatever its condition.
@@ -39,16 +39,13 @@ fn shown_customs(spawned: &[bool; 16], slots: &[Slot<Bits>; 16]) -> [Slot<Bits>;
 pub fn shown(asks: &Asks, commit: &Commit) -> Commit
     ensures { result ≡ specified.shown asks.now commit.now }
 {
-    let custom = shown_customs(&asks.spawned_customs, &commit.custom);
-    match asks.spawned {
-        None => Commit { custom, ..*commit },
-        Some(rd_index) => Commit {
-            rd_index,
-            rd: Slot::Later,
-            custom,
-            ..*commit
-        },
+    let mut record = *commit;
+    show_customs(&asks.spawned_customs, &mut record.custom);
+    if let Some(rd_index) = asks.spawned {
+        record.rd_index = rd_index;
+        record.rd = Slot::Later;
     }
+    record
 }
 
 // Writes what is written to an x register at retirement: nothing, where a `spawn` body writes one.

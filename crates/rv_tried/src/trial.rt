@@ -7,7 +7,8 @@ ghost use Rattle.rv_seq.specs.WordEffects.{AreWide};
 ghost use Rattle.rv_seq.specs.Decoding.{IsIn};
 ghost use Rattle.rv_seq.specs.Runs.{access_in};
 ghost use Rattle.rv_seq.specs.Sound.{IsSound};
-ghost use Rattle.rv_seq.specs.declared.answer.StepAnswer.TheVariants.{Stopped};
+ghost use Rattle.rv_seq.specs.Commits.{commit_of as specified_commit_of};
+ghost use Rattle.rv_seq.specs.declared.answer.StepAnswer.TheVariants.{Done, Stopped};
 ghost use Rattle.rv_tried.specs.Tried.{tried, tried_instruction, tried_unknown, marked as specified_marked, no_customs};
 ghost use Rattle.rv_tried.specs.Whole.{AreBlocksWide};
 
@@ -70,6 +71,23 @@ fn stopped(stop: Stop) -> Trial
     }
 }
 
+// What an instruction comes to that goes on, where there are no always-blocks: nothing is put over its effect.
+fn alone(inputs: &Inputs, own: &Effect) -> Trial
+    ensures answer { result.answer ≡ Done (specified_commit_of inputs.now.pc inputs.now.word own.now) }
+    ensures accesses { result.accesses ≡ is_some (access_in own.now) }
+    ensures load { result.load ≡ own.now.load }
+    ensures blocks { result.blocks ≡ no_customs }
+    ensures own { result.own ≡ specified_marked own.now.custom }
+{
+    Trial {
+        answer: StepAnswer::Done(commit_of(inputs.pc, inputs.word, own)),
+        accesses: has_access(own),
+        load: own.load,
+        blocks: [None; 16],
+        own: marked(&own.custom),
+    }
+}
+
 // What an instruction comes to.
 #[tactic(auto, unfolding(crate::specs::Tried::tried_instruction))]
 fn try_instruction(
@@ -90,6 +108,7 @@ fn try_instruction(
     let own = effect_of(ext, decoded, inputs, memory, scratch);
     match stop_of(decoded, &own) {
         Some(stop) => stopped(stop),
+        None if ext.blocks.is_empty() => alone(inputs, &own),
         None => {
             let blocks = blocks_effect(ext, inputs, memory, scratch);
             Trial {

@@ -1,6 +1,6 @@
 use ix_bits::Memory;
 use ix_verilog::Token;
-use ix_vlex::words_in;
+use ix_vread::words_in;
 use std::alloc::{AllocError, Global};
 
 /// Past the greatest count of bytes that a text may have.

@@ -31,8 +31,8 @@ returns-in-Err-clause-breaks g c =
     let n = c.loop-number.number in
     let inv = c.loop-number.invariant in
     let going : are_done d a b n ≡ false = done_there d k.design a b k.first k.second inv.design inv.images.0 inv.images.1 n k.made c.is_done.result inv.made c.is_done.ensures ∙ c.if-is_done.false in
-    let row = row_there d k.design a b k.first k.second inv.design inv.images.0 inv.images.1 n k.made c.cycle-row.result inv.made c.cycle-row.ensures.row in
-    let next = next_row d a b c.args.cycles n c.args.shape.stages c.cycle-row.result c.loop-number-test.true going (ap (λ (s : Shape). s.stages) c.requires.shape) row in
+    let row = row_there d k.design a b k.first k.second inv.design inv.images.0 inv.images.1 n k.made c.cycle_into.new.row inv.made c.cycle_into.ensures.row in
+    let next = next_row d a b c.args.cycles n c.args.shape.stages c.cycle_into.new.row c.loop-number-test.true going (ap (λ (s : Shape). s.stages) c.requires.shape) row in
     λ before whole t.
     c.in-Err.ensures.breaks (text_from d a b (c.args.cycles - (n + 1)) (n + 1)) before whole
     (subst (λ (l : List ℕ). Told before (g.S.Sink.written c.loop-number.sink) c.loop-number.out l whole) next (inv.carries before whole t))
@@ -46,9 +46,9 @@ loop-number-preserved g c =
     let n = c.loop-number.number in
     let inv = c.loop-number.invariant in
     let going : are_done d a b n ≡ false = done_there d k.design a b k.first k.second inv.design inv.images.0 inv.images.1 n k.made c.is_done.result inv.made c.is_done.ensures ∙ c.if-is_done.false in
-    let row = row_there d k.design a b k.first k.second inv.design inv.images.0 inv.images.1 n k.made c.cycle-row.result inv.made c.cycle-row.ensures.row in
-    let next = next_row d a b c.args.cycles n c.args.shape.stages c.cycle-row.result c.loop-number-test.true going (ap (λ (s : Shape). s.stages) c.requires.shape) row in
-    let after = c.cycle-row.ensures.after in
+    let row = row_there d k.design a b k.first k.second inv.design inv.images.0 inv.images.1 n k.made c.cycle_into.new.row inv.made c.cycle_into.ensures.row in
+    let next = next_row d a b c.args.cycles n c.args.shape.stages c.cycle_into.new.row c.loop-number-test.true going (ap (λ (s : Shape). s.stages) c.requires.shape) row in
+    let after = c.cycle_into.ensures.after in
     record {
       design = ap (λ (t : Turning). t.design) after ∙ inv.design;
       images = (ap (λ (t : Turning). t.first) after ∙ inv.images.0, ap (λ (t : Turning). t.second) after ∙ inv.images.1);

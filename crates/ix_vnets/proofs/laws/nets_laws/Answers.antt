@@ -15,7 +15,7 @@ pub returns-clause-made : goal.returns-clause-made
 returns-clause-made c = made_from
 
 pub returns-clause-once : goal.returns-clause-once
-returns-clause-once c = λ s n m fin once h k. one_made c.right_laws.ensures s fin once n m h k
+returns-clause-once c = λ s n m fin once h k. one_made s fin once n m h k
 
 pub returns-clause-misfit : goal.returns-clause-misfit
 returns-clause-misfit c = first_of_all

@@ -1,9 +1,6 @@
 use Rattle.ix_verilog.specs.Words.{words_of}
-use Rattle.ix_vparse.proofs.Taking.{took_assign, assign_length, then_ok}
+use Rattle.ix_vparse.proofs.Taking.{took_assign, then_ok}
 use Rattle.ix_vparse.proofs.line.take_assign.Goals as goal
-
-pub assign_in-requires : goal.assign_in-requires
-assign_in-requires c = assign_length c.args.scope.now c.args.right c.args.tokens.now c.requires
 
 pub returns : goal.returns
 returns c =

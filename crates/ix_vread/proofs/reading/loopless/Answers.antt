@@ -1,6 +1,6 @@
 use Rattle.std.specs.Prelude.{All}
 use Rattle.std.proofs.lemmas.Option.{MatchOption-at_none}
-use Rattle.ix_vloop.specs.Loops.{IsLoopless, FirstLoop}
+use Rattle.ix_vread.specs.Loops.{IsLoopless, FirstLoop}
 use Rattle.ix_vread.proofs.Denoted.{driven_once, denotes_made}
 use Rattle.ix_vread.proofs.reading.loopless.Goals as goal
 

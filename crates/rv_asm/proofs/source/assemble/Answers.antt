@@ -2,7 +2,7 @@ use Rattle.std.proofs.Common.{◌≡◌, ◌∙◌, ap, map, List, ℕ, Bor, ari
 use Rattle.ix_tree.specs.declared.extension.Instruction.{Instruction}
 use Rattle.ix_extension.specs.Extensions.{view_instruction}
 use Rattle.rv_asm_text.specs.Lines.{lines_of}
-use Rattle.rv_asm_line.specs.Labels.{found, place_of}
+use Rattle.rv_asm.specs.Labels.{found, place_of}
 use Rattle.rv_asm.specs.Sources.{assembled_from}
 use Rattle.rv_asm.proofs.Placing.{lines_few, assembled_same, only_memory}
 use Rattle.rv_asm.proofs.source.assemble.Goals as goal

@@ -1,7 +1,7 @@
 use Rattle.std.proofs.Common.{◌∙◌, ap, map, List, [], ℕ, Bor, get_or, arith}
 use Rattle.ix_extension.specs.Extensions.{view_instruction}
-use Rattle.rv_asm_line.specs.Labels.{found}
-use Rattle.rv_asm_line.specs.Verdicts.{line_verdict}
+use Rattle.rv_asm.specs.Labels.{found}
+use Rattle.rv_asm.specs.Verdicts.{line_verdict}
 use Rattle.rv_asm.specs.Sources.{assembled_from}
 use Rattle.rv_asm.proofs.Assembling.{taken, failed}
 use Rattle.rv_asm.proofs.source.assemble_lines.Goals as goal

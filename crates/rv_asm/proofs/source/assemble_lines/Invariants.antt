@@ -1,6 +1,6 @@
 use Rattle.std.proofs.Common.{◌≡◌, ℕ, List, Bor, map, drop, length}
 use Rattle.ix_extension.specs.Extensions.{view_instruction}
-use Rattle.rv_asm_line.specs.Labels.{found}
+use Rattle.rv_asm.specs.Labels.{found}
 use Rattle.rv_asm.specs.Sources.{assembled_from, prepended}
 use Rattle.rv_asm.proofs.source.assemble_lines.Given as goal
 

@@ -1,6 +1,5 @@
-use Rattle.std.proofs.Common.{◌≡◌, ◌∙◌, ◌+◌, ◌-◌, ◌<◌, ◌≤◌, ◌∷◌, sym, ap, subst, drop, length, Some, None, arith}
+use Rattle.std.proofs.Common.{◌≡◌, ◌∙◌, ◌+◌, ◌-◌, ◌<◌, ◌∷◌, ap, subst, drop, length, Some, arith}
 use Rattle.rv_trace.specs.RowParts.{in_five}
-use Rattle.rv_holds.specs.Tokens.{Slots}
 use Rattle.rv_holds.specs.Flushing.{listed}
 use Rattle.rv_holds.proofs.Places.{at_place}
 use Rattle.rv_holds.proofs.Clearing.{none_listed, none_counted, more_listed, more_counted}

@@ -12,13 +12,13 @@ returns-then-is_some-clause-carries g c =
     let k = c.args.pipeline.now.setting in
     let n = c.loop-number.number in
     let m = c.loop-number.pipeline.machine in
-    let after = c.cycle-row.new.self.machine in
+    let after = c.cycle.new.self.machine in
     let inv = c.loop-number.invariant in
     let left = text_from k (c.args.cycles - n) m in
     λ before whole t.
     carries_put (g.S.Sink.written c.make_room.new.sink) c.make_room.new.out left c.put_row.new.out (end_text k after)
-    (row_stops k c.args.cycles n c.args.shape.stages m after c.cycle-row.result c.make_room.new.out c.put_row.new.out c.loop-number-test.true inv.made (ap (λ (s : Shape). s.stages) c.requires.shape)
-    (subst (λ s. IsRowOf s m c.cycle-row.result) inv.setting c.cycle-row.ensures.row) (c.cycle-row.ensures.after ∙ ap (λ s. machine_after s m) inv.setting) c.put_row.ensures.text (sym c.is_some.ensures ∙ c.if-is_some.true))
+    (row_stops k c.args.cycles n c.args.shape.stages m after c.cycle.new.row c.make_room.new.out c.put_row.new.out c.loop-number-test.true inv.made (ap (λ (s : Shape). s.stages) c.requires.shape)
+    (subst (λ s. IsRowOf s m c.cycle.new.row) inv.setting c.cycle.ensures.row) (c.cycle.ensures.after ∙ ap (λ s. machine_after s m) inv.setting) c.put_row.ensures.text (sym c.is_some.ensures ∙ c.if-is_some.true))
     before whole (c.in-Ok.ensures.carries left before whole (inv.carries before whole t))
 
 pub returns-in-Err-clause-breaks : goal.returns-in-Err-clause-breaks
@@ -30,19 +30,19 @@ loop-number-preserved g c =
     let k = c.args.pipeline.now.setting in
     let n = c.loop-number.number in
     let m = c.loop-number.pipeline.machine in
-    let after = c.cycle-row.new.self.machine in
+    let after = c.cycle.new.self.machine in
     let inv = c.loop-number.invariant in
     let left = text_from k (c.args.cycles - n) m in
-    let next : after ≡ machine_after k m = c.cycle-row.ensures.after ∙ ap (λ s. machine_after s m) inv.setting in
+    let next : after ≡ machine_after k m = c.cycle.ensures.after ∙ ap (λ s. machine_after s m) inv.setting in
     let counted = ap (λ (s : Machine). s.rows) next in
     let made = inv.made in
     record {
-      setting = c.cycle-row.ensures.setting ∙ inv.setting;
+      setting = c.cycle.ensures.setting ∙ inv.setting;
       made = omega (arith, counted, made);
       carries = λ before whole t.
           carries_put (g.S.Sink.written c.make_room.new.sink) c.make_room.new.out left c.put_row.new.out (text_from k (c.args.cycles - (n + 1)) after)
-          (row_goes_on k c.args.cycles n c.args.shape.stages m after c.cycle-row.result c.make_room.new.out c.put_row.new.out c.loop-number-test.true inv.made (ap (λ (s : Shape). s.stages) c.requires.shape)
-          (subst (λ s. IsRowOf s m c.cycle-row.result) inv.setting c.cycle-row.ensures.row) next c.put_row.ensures.text (sym c.is_some.ensures ∙ c.if-is_some.false))
+          (row_goes_on k c.args.cycles n c.args.shape.stages m after c.cycle.new.row c.make_room.new.out c.put_row.new.out c.loop-number-test.true inv.made (ap (λ (s : Shape). s.stages) c.requires.shape)
+          (subst (λ s. IsRowOf s m c.cycle.new.row) inv.setting c.cycle.ensures.row) next c.put_row.ensures.text (sym c.is_some.ensures ∙ c.if-is_some.false))
           before whole (c.in-Ok.ensures.carries left before whole (inv.carries before whole t));
       never_fell = omega (arith, inv.never_fell, c.in-Ok.ensures.never_fell);
     }

@@ -1,4 +1,4 @@
-use Rattle.std.proofs.Common.{◌≡◌, ◌∙◌, ◌<◌, ℕ, ap, sym, get_or, None, false, arith}
+use Rattle.std.proofs.Common.{◌∙◌, ◌<◌, ℕ, ap, sym, get_or, None, false, arith}
 use Rattle.std.specs.Prelude.{if◌then◌else◌}
 use Rattle.ix_bits.specs.declared.number.Bits.{Bits}
 use Rattle.ix_eval.proofs.Tables.{table_at, table_is}

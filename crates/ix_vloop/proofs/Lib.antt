@@ -1,6 +1,0 @@
-mod Marking
-mod Leaving
-mod Putting
-mod Looking
-mod Knowing
-mod Naming

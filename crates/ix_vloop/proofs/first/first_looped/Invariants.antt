@@ -1,6 +1,0 @@
-use Rattle.std.proofs.Common.{ℕ, ◌<◌}
-use Rattle.ix_vloop.specs.Searches.{IsLooped}
-use Rattle.ix_vloop.proofs.first.first_looped.Given as goal
-
-abbrev pub invariant-loop-cell : goal.invariant-loop-cell
-invariant-loop-cell l = (j : ℕ) → j < l.cell → IsLooped l.marks j → ⊥

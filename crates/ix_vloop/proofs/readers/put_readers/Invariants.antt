@@ -1,6 +1,0 @@
-use Rattle.std.proofs.Common.{take}
-use Rattle.ix_vloop.specs.Graphs.{Puts}
-use Rattle.ix_vloop.proofs.readers.put_readers.Given as goal
-
-abbrev pub invariant-loop-cell : goal.invariant-loop-cell
-invariant-loop-cell l = Puts (take l.cell-index l.read) l.reader l.fn.readers l.readers

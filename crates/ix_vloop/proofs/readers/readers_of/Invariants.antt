@@ -1,5 +1,0 @@
-use Rattle.ix_vloop.specs.Graphs.{AreReadersIn}
-use Rattle.ix_vloop.proofs.readers.readers_of.Given as goal
-
-abbrev pub invariant-readers : goal.invariant-readers
-invariant-readers l = AreReadersIn l.graph l.reader l.lists

@@ -1,4 +1,0 @@
-pub mod Graphs
-pub mod Orders
-pub mod Searches
-pub mod Loops

@@ -1,0 +1,10 @@
+use Rattle.std.proofs.Common.{ap, ◌∙◌}
+use Rattle.ix_verilog.specs.declared.right.RightSide.TheVariants as side
+use Rattle.ix_vnets.proofs.right.choice.Goals as goal
+
+pub returns : goal.returns
+returns c = record {
+  is = ap (λ z. side.Choice z c.in_ok-first.first c.in_ok-second.second) c.in_ok-condition.ensures ∙ ap (λ z. side.Choice c.args.c.now z c.in_ok-second.second) c.in_ok-first.ensures
+      ∙ ap (λ z. side.Choice c.args.c.now c.args.a.now z) c.in_ok-second.ensures;
+  within = tt;
+}

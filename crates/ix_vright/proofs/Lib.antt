@@ -1,6 +1,0 @@
-mod Hexes
-mod Decimals
-mod Literals
-mod Named
-mod Sides
-mod One

@@ -1,5 +1,0 @@
-pub mod Numbers
-pub mod Signs
-pub mod Forms
-pub mod Shapes
-pub mod Laws

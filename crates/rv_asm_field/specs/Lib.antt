@@ -1,4 +1,0 @@
-pub mod Customs
-pub mod Filling
-pub mod Indexing
-pub mod Operands

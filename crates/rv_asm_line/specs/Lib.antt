@@ -1,3 +1,0 @@
-pub mod Forms
-pub mod Labels
-pub mod Verdicts

@@ -1,2 +1,0 @@
-mod Native
-mod Standing

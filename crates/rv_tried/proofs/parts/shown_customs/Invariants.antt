@@ -1,8 +1,0 @@
-use Rattle.std.proofs.Common.{◌≡◌, ◌<◌, ℕ, length, get_or, false}
-use Rattle.std.specs.Prelude.{if◌then◌else◌}
-use Rattle.rv_seq.specs.declared.commit.Slot.TheVariants.{Absent, Later}
-use Rattle.rv_tried.proofs.parts.shown_customs.Given as goal
-
-abbrev pub invariant-loop-number : goal.invariant-loop-number
-invariant-loop-number l =
-    (length l.all ≡ 16) × ((r : ℕ) → r < l.number → get_or l.all r Absent ≡ (if get_or l.spawned r false then Later else get_or l.slots r Absent))
