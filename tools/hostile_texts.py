@@ -179,14 +179,14 @@ def signal_name(status):
         return f"signal {-status}"
 
 
-def faults_of(ended, seconds, megabytes):
-    """What is wrong with a run, whatever its text."""
+def faults_of(ended, seconds, megabytes, large=False):
+    """What is wrong with a run; where a large result is due, Memory is an answer too."""
     if ended.status < 0:
         yield f"ends by {signal_name(ended.status)} after {ended.seconds:.1f} s with {ended.megabytes:.0f} MB"
         return
     if ended.status not in STATUSES:
         yield f"ends with the status {ended.status}"
-    if ended.status == MEMORY:
+    if ended.status == MEMORY and not large:
         yield f"answers Memory at {ended.megabytes:.0f} MB"
     if ended.status in SILENT and ended.length:
         yield f"writes {ended.length} bytes and ends with the status {ended.status}"
@@ -256,16 +256,18 @@ def try_text(program, room, kind, text, command, tally, due):
     name = f"{command.split(' ', 1)[0]} of the {kind} `{text.name}`"
     words = [program, *command.replace("@", "text").split(" ")]
     ended = run(words, room)
-    faults = list(faults_of(ended, SECONDS.get(command.split(" ", 1)[0], OTHER_SECONDS), MEGABYTES))
-    if not faults and due and not ended.first.startswith(text.due.encode()):
+    seconds = SECONDS.get(command.split(" ", 1)[0], OTHER_SECONDS)
+    faults = list(faults_of(ended, seconds, MEGABYTES, text.large))
+    silent = text.large and ended.status == MEMORY
+    if not faults and due and not silent and not ended.first.startswith(text.due.encode()):
         faults.append(f"writes `{shown(ended.first)}` in place of `{text.due}`")
     tally.judge(name, faults)
     tally.measure(command.split(" ", 1)[0], f"{kind}: {text.name}", ended)
     if text.tight:
         again = run(words, room, memory=TIGHT_BYTES)
         same = (again.status, again.total) == (ended.status, ended.total)
-        silent = again.status == MEMORY and not again.length
-        tally.judge(name, [] if same or silent else [f"ends with {again.status} in 500,000 KB, and {ended.status} with more"])
+        none = again.status == MEMORY and not again.length
+        tally.judge(name, [] if same or none else [f"ends with {again.status} in 500,000 KB, and {ended.status} with more"])
     if text.deep:
         tally.judge(name, stack_faults(words, room, ended))
 

@@ -253,18 +253,18 @@ STATEMENT_TEXTS = [
     Text("as many names as fit", "set A", lambda: most(b"a=a" + b"^b" * 29 + b";"), tight=True),
     Text("products of 128 bits", "set A", lambda: most(b"a=(unsigned<32>)((a::b)*(b::a));")),
     Text("ifs that set one local", "set A", lambda: most(b"if(a)a=b;", 2)),
-    Text("locals that ifs set", "set A", set_locals, tight=True),
-    Text("8,000 locals behind ifs", "set A", lambda: ifs_of_locals(8_000, b"if(a)a=b;"), tight=True),
-    Text("200,000 locals behind ifs", "set A", lambda: ifs_of_locals(200_000, b"if(a)a=b;"), tight=True),
-    Text("200,000 locals behind empty ifs", "set A", lambda: ifs_of_locals(200_000, b"if(a);"), tight=True),
+    Text("locals that ifs set", "set A", set_locals, tight=True, large=True),
+    Text("8,000 locals behind ifs", "set A", lambda: ifs_of_locals(8_000, b"if(a)a=b;"), tight=True, large=True),
+    Text("200,000 locals behind ifs", "set A", lambda: ifs_of_locals(200_000, b"if(a)a=b;"), tight=True, large=True),
+    Text("200,000 locals behind empty ifs", "set A", lambda: ifs_of_locals(200_000, b"if(a);"), tight=True, large=True),
     Text("an if tree that writes 16 registers", "set A", written_everywhere, tight=True),
     Text("loops around 31 names", "set A", lambda: body(LOOPS + names_in(27)), tight=True),
-    Text("loops around 729 names", "set A", lambda: body(LOOPS + names_in(729)), tight=True),
-    Text("loops around 300,000 names", "set A", lambda: body(LOOPS + names_in(295_245)), tight=True),
-    Text("loops around 729 locals", "set A", lambda: body(LOOPS + locals_in(729)), tight=True),
-    Text("loops around 200,000 locals", "set A", lambda: body(LOOPS + locals_in(200_000)), tight=True),
-    Text("a loop whose head has 300,000 literals", "set A", lambda: body(b"for(int i=0;i<128+(" + b"^".join([tree_of(b"0", 10)] * 5) + b");i++)a=b;"), tight=True),
-    Text("loops around such a head", "set A", lambda: body(LOOPS + b"for(int k=0;k<(" + b"^".join([tree_of(b"0", 10)] * 5) + b");k++)a=b;"), tight=True),
+    Text("loops around 729 names", "set A", lambda: body(LOOPS + names_in(729)), tight=True, large=True),
+    Text("loops around 300,000 names", "set A", lambda: body(LOOPS + names_in(295_245)), tight=True, large=True),
+    Text("loops around 729 locals", "set A", lambda: body(LOOPS + locals_in(729)), tight=True, large=True),
+    Text("loops around 200,000 locals", "set A", lambda: body(LOOPS + locals_in(200_000)), tight=True, large=True),
+    Text("a loop whose head has 300,000 literals", "set A", lambda: body(b"for(int i=0;i<128+(" + b"^".join([tree_of(b"0", 10)] * 5) + b");i++)a=b;"), tight=True, large=True),
+    Text("loops around such a head", "set A", lambda: body(LOOPS + b"for(int k=0;k<(" + b"^".join([tree_of(b"0", 10)] * 5) + b");k++)a=b;"), tight=True, large=True),
 ]
 
 # Graphs, schedules and modules
@@ -327,7 +327,7 @@ SCHEDULED = [
     Text("64 shifts of 128 bits", "set A", lambda: with_shifts(64), tight=True),
     Text("16 registers in all behaviours", "set A", with_registers, tight=True),
     Text("one instruction of 250 lookups in 4,096 entries", "set A", lambda: with_tables(1, 250), tight=True),
-    Text("64 instructions of 250 lookups in 4,096 entries", "set A", lambda: with_tables(64, 250), tight=True),
+    Text("64 instructions of 250 lookups in 4,096 entries", "set A", lambda: with_tables(64, 250), tight=True, large=True),
 ]
 
 ALL = TOKENS + NESTING + DECLARED + STATEMENT_TEXTS + SCHEDULED

@@ -10,13 +10,15 @@ MOST = 1_048_576
 
 class Text(NamedTuple):
     """A hostile text: what it is, the first bytes that the first command of its kind writes, how it
-    is made, and whether it is also read with little memory and with a small stack."""
+    is made, whether it is also read with little memory and with a small stack, and whether what is
+    made of it may be so much that Memory is a due answer."""
 
     name: str
     due: str
     make: Callable[[], bytes]
     tight: bool = False
     deep: bool = False
+    large: bool = False
 
 
 def filled(head, unit, tail=b"", most=MOST):

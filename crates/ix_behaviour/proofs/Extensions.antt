@@ -24,7 +24,7 @@ use Rattle.ix_extension.specs.Extensions.{instrs_in, blocks_in, all_states, all_
 use Rattle.ix_extension.specs.Faults.{Fault, encoding_width, field_twice, too_many, or_fault, fault_where, is_too_large, width_fault, twice_fault, extension_fault, first_fault}
 use Rattle.ix_extension.specs.WellFormed.{IsOf}
 use Rattle.ix_mean.specs.Core.{u32}
-use Rattle.ix_mean.specs.Meaning.{Inputs, run}
+use Rattle.ix_mean.specs.Meaning.{Inputs, run, Access, reads}
 use Rattle.ix_mean.specs.Effects.{no_write, nothing, started}
 use Rattle.ix_mean.specs.Typing.{IsTypedStatement}
 use Rattle.ix_mean.specs.ByName.{Names}
@@ -32,10 +32,11 @@ use Rattle.ix_mean.specs.EffectByName.{Doing}
 use Rattle.ix_mean.specs.Resolving.{pieces_of, IsFieldOf}
 use Rattle.ix_mean.specs.ResolvingStatements.{step, outside}
 use Rattle.ix_mean.proofs.Steps.{step_law}
+use Rattle.ix_mean.proofs.NamedReads.{reads_law}
 use Rattle.ix_behaviour.specs.declared.which.Which.{Which}
 use Rattle.ix_behaviour.specs.declared.which.Which.TheVariants as W
-use Rattle.ix_behaviour.specs.Behaviours.{HasBehaviour, behaviour_of, body_in, pieces_in as pieces_with, body_at, names_at, steps, statement_at, stored_type, type_of_register, frame_at, accesses_in, does_all}
-use Rattle.ix_behaviour.specs.Laws.{AreResolved, ResolvedLaw, TypedBehaviourLaw, BehaviourEffectLaw, OneAccessLaw, IsFew, FewLaw}
+use Rattle.ix_behaviour.specs.Behaviours.{HasBehaviour, behaviour_of, body_in, pieces_in as pieces_with, body_at, names_at, steps, statement_at, stored_type, type_of_register, frame_at, accesses_in, does_all, reads_all}
+use Rattle.ix_behaviour.specs.Laws.{AreResolved, ResolvedLaw, TypedBehaviourLaw, BehaviourEffectLaw, BehaviourReadsLaw, OneAccessLaw, IsFew, FewLaw}
 use Rattle.ix_behaviour.proofs.FieldTypes.{ArePlaced}
 use Rattle.ix_behaviour.proofs.Seeing.{Stands}
 use Rattle.ix_behaviour.proofs.Stores.{one_type}
@@ -183,6 +184,9 @@ record IsLawful (ns : Names) (body : List TypedStmtTree) : Type 0 where
   same : (i : Inputs) (ts : List Ty) → i.word < 2 ^ 32
       → (run i (steps ns body outside).body (started (record { slots = (steps ns body outside).scope.slots; targets = ts }))).targets
       ≡ (does_all ns i body (record { locals = []; targets = map no_write ts })).targets
+  same_reads : (i : Inputs) (ts : List Ty) → i.word < 2 ^ 32
+      → reads i (steps ns body outside).body (started (record { slots = (steps ns body outside).scope.slots; targets = ts }))
+      ≡ reads_all ns i body (record { locals = []; targets = map no_write ts })
 
 lawful : (ns : Names) (few : length ns.registers ≤ 16) (placed : ArePlaced ns.pieces) (g : Setting) (names : List Named) (after : State) (x : TypedStmtTree)
     → is_constant_body g.body ≡ false → ((slots : List Ty) (n : List ℕ) → Stands ns slots None n (role_of names n)) → IsStmt g (global_state names) x after → IsLawful ns (x ∷ [])
@@ -201,6 +205,10 @@ lawful ns few placed g names after x b sees h =
           let start = started (record { slots = slots; targets = ts }) in
           let long : length slots ≤ length start.slots = (let e = length-map slots nothing in omega (arith, e)) in
           ap (λ (d : Doing). d.targets) (step_law ns i x start w s.names long);
+      same_reads = λ i ts w.
+          let start = started (record { slots = slots; targets = ts }) in
+          let long : length slots ≤ length start.slots = (let e = length-map slots nothing in omega (arith, e)) in
+          ap (λ (l : List Access). l ++ []) (reads_law ns i x start w s.names long);
     }
 
 -- ---- the behaviours of a text that breaks no rule
@@ -265,6 +273,9 @@ typed_law law t x w h b = (lawful_of law t x w h b).typed
 
 pub effect_law : TextLaw → BehaviourEffectLaw
 effect_law law t x w i h b word = (lawful_of law t x w h b).same i (frame_at x w).targets word
+
+pub reads_named_law : TextLaw → BehaviourReadsLaw
+reads_named_law law t x w i h b word = (lawful_of law t x w h b).same_reads i (frame_at x w).targets word
 
 pub one_access_law : TextLaw → OneAccessLaw
 one_access_law law t x w h b =

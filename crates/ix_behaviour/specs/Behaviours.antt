@@ -1,4 +1,4 @@
--- Behaviours of an extension with their names resolved: what each does by names, and by slots and numbered targets (CoreDSL 2, instructions and
+-- Behaviours of an extension with their names resolved: what each does and reads by names, and by slots and numbered targets (CoreDSL 2, instructions and
 -- always-blocks; slots and the numbers of targets are this project's choice).
 use Rattle.std.specs.Prelude.{ℕ, ◌+◌, false, ◌<◌, List, [], ◌∷◌, ◌++◌, map, length, slice_get, Option, Some, None, option_map, if◌then◌else◌, nat_eq}
 use Rattle.ix_bits.specs.declared.number.Ty.{Ty}
@@ -8,11 +8,12 @@ use Rattle.ix_tree.specs.declared.extension.Piece.{Piece}
 use Rattle.ix_tree.specs.TypedTrees.{TypedStmtTree, ts_block, ts_empty, ts_locals, ts_assign, ts_if, ts_if_else, ts_spawn, TypedRow, typed_end, typed_more}
 use Rattle.ix_extension.specs.Extensions.{BehaviourTree, InstructionTree, ExtensionTree}
 use Rattle.ix_mean.specs.Core.{u32, Expression, x_const, x_slot, x_read, x_load, x_one, x_cast, x_entry, x_two, x_choose, Statement, st_skip, st_then, st_set, st_write, st_if}
-use Rattle.ix_mean.specs.Meaning.{Inputs, Write}
+use Rattle.ix_mean.specs.Meaning.{Inputs, Write, Access}
 use Rattle.ix_mean.specs.Effects.{no_write}
 use Rattle.ix_mean.specs.Typing.{Frame}
 use Rattle.ix_mean.specs.ByName.{Names}
 use Rattle.ix_mean.specs.EffectByName.{Doing, does}
+use Rattle.ix_mean.specs.ReadsByName.{read_by}
 use Rattle.ix_mean.specs.ResolvingStatements.{Scope, Step, step, after, left, outside}
 use Rattle.ix_behaviour.specs.declared.which.Which.{Which}
 use Rattle.ix_behaviour.specs.declared.which.Which.TheVariants as W
@@ -158,3 +159,11 @@ at_start x w = record { locals = []; targets = map no_write (targets_at x w) }
 
 abbrev pub effect_by_name : ExtensionTree → Which → Inputs → List (Option Write)
 effect_by_name x w i = (does_all (names_at x w) i (body_at x w) (at_start x w)).targets
+
+-- ---- the reads of memory, by names: those of each statement, in order
+abbrev pub reads_all : Names → Inputs → List TypedStmtTree → Doing → List Access
+reads_all ns i [] d = []
+reads_all ns i (x ∷ xs) d = read_by ns i x d ++ reads_all ns i xs (does ns i x d)
+
+abbrev pub reads_by_name : ExtensionTree → Which → Inputs → List Access
+reads_by_name x w i = reads_all (names_at x w) i (body_at x w) (at_start x w)

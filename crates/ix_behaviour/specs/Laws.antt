@@ -14,7 +14,7 @@ use Rattle.ix_mean.specs.Typing.{IsTypedStatement}
 use Rattle.ix_mean.specs.ByName.{Names, Local, local_in, table_in, number_by_name}
 use Rattle.ix_mean.specs.ResolvingStatements.{Scope, step, outside, IsResolvedStatement}
 use Rattle.ix_behaviour.specs.declared.which.Which.{Which}
-use Rattle.ix_behaviour.specs.Behaviours.{HasBehaviour, body_at, names_at, statement_at, frame_at, accesses_in, effect_by_name}
+use Rattle.ix_behaviour.specs.Behaviours.{HasBehaviour, body_at, names_at, statement_at, frame_at, accesses_in, effect_by_name, reads_by_name}
 
 -- each statement has its names resolved in the scope behind those before it
 abbrev pub AreResolved : Names → List TypedStmtTree → Scope → Type 0
@@ -33,6 +33,11 @@ TypedBehaviourLaw = (t : TypedTextTree) (x : ExtensionTree) (w : Which) → IsOf
 abbrev pub BehaviourEffectLaw : Type 0
 BehaviourEffectLaw = (t : TypedTextTree) (x : ExtensionTree) (w : Which) (i : Inputs) → IsOf t x → HasBehaviour x w → i.word < 2 ^ 32
     → (effect (frame_at x w) (statement_at x w) i).targets ≡ effect_by_name x w i
+
+-- and what it reads of memory is what the behaviour reads by its names
+abbrev pub BehaviourReadsLaw : Type 0
+BehaviourReadsLaw = (t : TypedTextTree) (x : ExtensionTree) (w : Which) (i : Inputs) → IsOf t x → HasBehaviour x w → i.word < 2 ^ 32
+    → effect_reads (frame_at x w) (statement_at x w) i ≡ reads_by_name x w i
 
 -- memory, the first target, is written
 abbrev pub stores : List (Option Write) → ℕ

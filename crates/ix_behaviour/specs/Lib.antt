@@ -1,4 +1,5 @@
 pub mod Behaviours
+pub mod Flags
 pub mod Laws
 pub mod Accesses
 pub mod Tables

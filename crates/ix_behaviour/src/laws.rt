@@ -1,4 +1,4 @@
-ghost use Rattle.ix_behaviour.specs.Laws.{ResolvedLaw, TypedBehaviourLaw, BehaviourEffectLaw, OneAccessLaw, FewLaw, ConstantsLaw};
+ghost use Rattle.ix_behaviour.specs.Laws.{ResolvedLaw, TypedBehaviourLaw, BehaviourEffectLaw, BehaviourReadsLaw, OneAccessLaw, FewLaw, ConstantsLaw};
 ghost use Rattle.ix_behaviour.specs.Accesses.{AccessesLaw, StoredTypeLaw};
 ghost use Rattle.ix_behaviour.specs.Tables.{TablesLaw, WidthsLaw};
 
@@ -9,6 +9,7 @@ pub fn behaviour_laws()
     ensures resolved { ResolvedLaw }
     ensures typed { TypedBehaviourLaw }
     ensures effect { BehaviourEffectLaw }
+    ensures reads { BehaviourReadsLaw }
     ensures one_access { OneAccessLaw }
     ensures few { FewLaw }
 {

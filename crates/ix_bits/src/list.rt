@@ -1,4 +1,4 @@
-ghost use Rattle.std.specs.Prelude.{◌≡◌, ◌==◌, [], ◌∷◌, ◌++◌, length, IfOk, OnOk, OnErr};
+ghost use Rattle.std.specs.Prelude.{◌≡◌, ◌==◌, ◌<◌, [], ◌∷◌, ◌++◌, length, set, IfOk, OnOk, OnErr};
 
 use crate::Memory;
 use std::alloc::Global;
@@ -91,5 +91,13 @@ impl<T: Copy> List<T> {
             Ok(items) => Ok(List { items }),
             Err(_) => Err(Memory),
         }
+    }
+
+    /// Puts an element in place of the one at `index`.
+    pub fn set(&mut self, index: usize, item: T)
+        requires { index < length self.old }
+        ensures { self.new ≡ set self.old index item }
+    {
+        self.items[index] = item;
     }
 }

@@ -1,6 +1,9 @@
 -- Several wires at once.
-use Rattle.std.proofs.Common.{◌≡◌, ⊎_elim, ℕ, zero, suc, ◌+◌, ◌-◌, ◌*◌, ◌/◌, ◌%◌, ◌^◌, ◌<◌, ◌≤◌, List, [], ◌∷◌, ◌++◌, Some, Bool, true, false, length, map, get_or, eqb, cond, arith, refl, ap, sym, ◌∙◌, subst}
+use Rattle.std.proofs.Common.{◌≡◌, ⊎_elim, ℕ, zero, suc, ◌+◌, ◌-◌, ◌*◌, ◌/◌, ◌%◌, ◌^◌, ◌<◌, ◌≤◌, List, [], ◌∷◌, ◌++◌, Some, Bool, true, false, length, map, get_or, eqb, cond, Ordering, Less, Equal, Greater, arith, refl, ap, sym, ◌∙◌, subst}
 use Rattle.std.specs.Prelude.{slice_get}
+use Rattle.std.specs.BTreeMap.{BTreeMap, get, is_at}
+use Rattle.std.specs.Ordering.{nat_cmp, is_eq}
+use Rattle.std.proofs.lemmas.Cmp.{ranked}
 use Rattle.std.proofs.lemmas.Bool.{cases_lt}
 use Rattle.std.proofs.lemmas.Option.{same_Some, slice_get_within}
 use Rattle.std.proofs.lemmas.List.{length_push}
@@ -11,7 +14,7 @@ use Rattle.ix_cells.specs.declared.signal.Signal.{Signal}
 use Rattle.ix_cells.specs.declared.signal.Wire.{Wire}
 use Rattle.ix_net.specs.Declarations.{Explains}
 use Rattle.ix_cells.specs.Growth.{IsWire, AreWires, AreNodes, Adds, seen}
-use Rattle.ix_cells.specs.Tables.{AddsAll, AddsNext, halved_by, Halves, Levels}
+use Rattle.ix_cells.specs.Tables.{AddsAll, AddsNext, ArePlaces, halved_by, Halves, Levels}
 use Rattle.std.proofs.lemmas.Nat.{mod_below, mod-pow-add, pow-add}
 use Rattle.std.proofs.Math.Nat.{mod-eq_of_lt}
 use Rattle.ix_cells.proofs.Growing.{extends_same, extends_on, wire_grows, wires_grow, explains_before, of_width, same_adds}
@@ -72,6 +75,23 @@ pub entry_raw : (es : List Bits) (k : ℕ) (e : Bits) → slice_get es k ≡ Som
 entry_raw [] k e h = absurd (cc)
 entry_raw (x ∷ es) zero e h = ap (λ (b : Bits). b.raw) (sym (same_Some x e h))
 entry_raw (x ∷ es) (suc k) e h = entry_raw es k e h
+
+-- one more place, of an entry's pattern
+pub places_more :
+    (es : List Bits) (places more : BTreeMap ℕ ℕ) (p : ℕ) (e : Bits) → slice_get es p ≡ Some e
+    → ((q : ℕ) → get nat_cmp more q ≡ cond (is_at (nat_cmp e.raw) q) (Some p) (get nat_cmp places q)) → ArePlaces es places → ArePlaces es more
+places_more es places more p e at updates rest q k h = held (nat_cmp e.raw q) refl
+  where
+    now : (o : Ordering) → o ≡ nat_cmp e.raw q → cond (is_eq o) (Some p) (get nat_cmp places q) ≡ Some k
+    now o i = ap (λ (x : Ordering). cond (is_eq x) (Some p) (get nat_cmp places q)) i ∙ sym (updates q) ∙ h
+
+    held : (o : Ordering) → o ≡ nat_cmp e.raw q → (k < length es) × (get_or (map (λ (x : Bits). x.raw) es) k 0 ≡ q)
+    held Equal i =
+        let same : p ≡ k = same_Some p k (now Equal i) in
+        let P : ℕ → Type 0 = λ j. (j < length es) × (get_or (map (λ (x : Bits). x.raw) es) j 0 ≡ q) in
+        subst P same (slice_get_within es p e at, sym (entry_raw es p e at) ∙ ranked e.raw q Equal i)
+    held Less i = rest q k (now Less i)
+    held Greater i = rest q k (now Greater i)
 
 -- the next entry has a constant of its own
 pub next_constant :

@@ -1,5 +1,7 @@
 -- Several wires at once, and of each two neighbours the one that a bit chooses (this project's choice: a table is a tree of choices).
-use Rattle.std.specs.Prelude.{ℕ, ◌+◌, ◌-◌, ◌*◌, ◌/◌, ◌%◌, ◌^◌, ◌≡◌, ◌==◌, if◌then◌else◌, List, [], ◌∷◌, ◌++◌, length, map, Some, slice_get, slice_index}
+use Rattle.std.specs.Prelude.{ℕ, ◌+◌, ◌-◌, ◌*◌, ◌/◌, ◌%◌, ◌^◌, ◌≡◌, ◌<◌, ◌==◌, if◌then◌else◌, List, [], ◌∷◌, ◌++◌, length, map, Some, slice_get, slice_index}
+use Rattle.std.specs.BTreeMap.{BTreeMap, get}
+use Rattle.std.specs.Ordering.{nat_cmp}
 use Rattle.ix_bits.specs.declared.number.Bits.{Bits}
 use Rattle.ix_net.specs.declared.netlist.Net.{Net}
 use Rattle.ix_cells.specs.declared.signal.Signal.{Signal}
@@ -22,6 +24,10 @@ pub record AddsAll (needs : List Wire) (old new : Net) (rs : List Wire) (width :
 -- wire j shows entry j of a table
 abbrev pub entries_shown : List Bits → (Signal → ℕ) → ℕ → ℕ
 entries_shown es see j = slice_index (map (λ (e : Bits). e.raw) es) j
+
+-- an entry with a pattern stands at the place that the map has for it
+abbrev pub ArePlaces : List Bits → BTreeMap ℕ ℕ → Type 0
+ArePlaces es places = (pattern place : ℕ) → get nat_cmp places pattern ≡ Some place → (place < length es) × (slice_index (map (λ (e : Bits). e.raw) es) place ≡ pattern)
 
 -- one more wire, which shows the next entry
 abbrev pub AddsNext : Net → Net → List Wire → List Bits → ℕ → Wire → Type 0

@@ -1,10 +1,10 @@
-ghost use Rattle.std.specs.Prelude.{◌≡◌, ◌≤◌, ◌<◌, ◌+◌, ◌*◌, ◌/◌, ◌^◌, [], ◌∷◌, length, slice_get, slice_index, map, All, IfOk, IfSome, List, Some, true, ◌==◌, if◌then◌else◌};
+ghost use Rattle.std.specs.Prelude.{ℕ, ◌≡◌, ◌≤◌, ◌<◌, ◌+◌, ◌*◌, ◌/◌, ◌^◌, [], ◌∷◌, length, slice_get, slice_index, map, All, IfOk, List, Some, true, ◌==◌, if◌then◌else◌};
 ghost use Rattle.ix_bits.specs.declared.number.Bits.{Bits};
 ghost use Rattle.ix_graph.specs.Graphs.{IsRomResult};
 ghost use Rattle.ix_mean.specs.GraphValues.{by_entry};
 ghost use Rattle.ix_cells.specs.Growth.{Adds};
 ghost use Rattle.ix_cells.specs.Operands.{wire_of};
-ghost use Rattle.ix_cells.specs.Tables.{AddsAll, AddsNext, entries_shown, Halves, Levels};
+ghost use Rattle.ix_cells.specs.Tables.{AddsAll, AddsNext, entries_shown, ArePlaces, Halves, Levels};
 
 use crate::cells::{bits, chosen, constant};
 use crate::{Operand, Signal, Wire};
@@ -12,18 +12,19 @@ use ix_bits::{Bits, Memory, Ty};
 use ix_graph::Graph;
 use ix_net::Net;
 use std::alloc::Global;
+use std::collections::BTreeMap;
 
-// The first place, of so many, of an entry with this pattern.
-fn place_of(entries: &[Bits], count: usize, raw: u128) -> Option<usize>
-    requires { count ≤ length entries.now }
-    ensures { IfSome result (λ k. (k < count) × (slice_index (map (λ e. e.raw) entries.now) k ≡ raw)) }
+// A place of each pattern that an entry has: that of its first entry.
+fn first_places(alloc: Global, entries: &[Bits]) -> Result<BTreeMap<u128, usize>, Memory>
+    ensures { IfOk result (ArePlaces entries.now) }
 {
-    for place in 0..count {
-        if entries[place].raw == raw {
-            return Some(place);
-        }
+    let mut places = BTreeMap::new(alloc);
+    let mut place = entries.len();
+    while place > 0 {
+        place -= 1;
+        places.insert(entries[place].raw, place)?;
     }
-    None
+    Ok(places)
 }
 
 // The wire of the next entry: that of an earlier entry with its pattern, or a constant.
@@ -31,15 +32,18 @@ fn leaf(
     alloc: Global,
     net: &mut Net,
     entries: &[Bits],
+    places: &BTreeMap<u128, usize>,
     wires: &[Wire],
-    entry: Bits,
 ) -> Result<Wire, Memory>
-    requires { slice_get entries.now (length wires.now) ≡ Some entry }
-    ensures { IfOk result (λ r. AddsNext net.old net.new wires.now entries.now entry.width r) }
+    requires more { length wires.now < length entries.now }
+    requires places { ArePlaces entries.now places.now }
+    ensures { IfOk result (λ r. (width : ℕ) → All (λ e. e.width ≡ width) entries.now → AddsNext net.old net.new wires.now entries.now width r) }
 {
-    match place_of(entries, wires.len(), entry.raw) {
-        Some(place) => Ok(wires[place]),
-        None => constant(alloc, net, entry),
+    let next = wires.len();
+    let entry = entries[next];
+    match places.get(&entry.raw).copied() {
+        Some(place) if place < next => Ok(wires[place]),
+        _ => constant(alloc, net, entry),
     }
 }
 
@@ -48,9 +52,10 @@ fn constants(alloc: Global, net: &mut Net, entries: &[Bits], width: u8) -> Resul
     requires { All (λ e. e.width ≡ width) entries.now }
     ensures { IfOk result (λ ws. length ws.items ≡ length entries.now × AddsAll [] net.old net.new ws.items width (entries_shown entries.now)) }
 {
+    let places = first_places(alloc, entries)?;
     let mut wires = Vec::new(alloc);
-    for entry in entries {
-        let wire = leaf(alloc, net, entries, &wires, *entry)?;
+    while wires.len() < entries.len() {
+        let wire = leaf(alloc, net, entries, &places, &wires)?;
         wires.push(wire)?;
     }
     Ok(wires)

@@ -20,7 +20,7 @@ use Rattle.ix_behaviour.specs.Laws.{TypedBehaviourLaw, BehaviourEffectLaw}
 use Rattle.ix_graph.specs.declared.graph.Graph.{Graph}
 use Rattle.ix_graph.specs.Graphs.{IsValidGraph}
 use Rattle.ix_sheet.specs.declared.sheet.Sheet.{Sheet}
-use Rattle.ix_resolve.specs.Flags.{flags_at}
+use Rattle.ix_behaviour.specs.Flags.{flags_at}
 use Rattle.ix_graph_laws.specs.Laws.{ValidLaw}
 use Rattle.ix_graph_laws.specs.Operations.{operations_at, entries_in, IsGraphOf}
 use Rattle.ix_graphs.specs.Graphed.{IsGraphAt}
@@ -75,7 +75,7 @@ depends_law typed effects t x w os i j of has are left right agree =
     same_where_low typed effects t x w of has os are i j left right (λ n. Unit {0}) (λ n. Unit {0}) (all_closed os i j agree)
 
 graph_is : (x : ExtensionTree) (w : Which) (g : Graph) → IsGraphAt x w (map entries_in x.tables) g → IsGraphOf x w g
-graph_is x w g h = record { ops = h.ops; few = h.few; targets = flags_at x w; flags = h.flags; tables_are = h.tables_are }
+graph_is x w g h = record { ops = h.ops; few = h.few; flags = h.flags; tables_are = h.tables_are }
 
 valid_of : ValidLaw → (t : TypedTextTree) (x : ExtensionTree) (sheet : Sheet) (w : Which) (p : Plan) → IsOf t x → HasBehaviour x w → IsPlanned x sheet w p → IsValidGraph p.graph
 valid_of law t x sheet w p of has planned = law t x w p.graph of has (graph_is x w p.graph planned.graph)

@@ -6,7 +6,7 @@ use Rattle.ix_graph.specs.declared.graph.Op.{Op}
 use Rattle.ix_extension.specs.Extensions.{ExtensionTree}
 use Rattle.ix_behaviour.specs.declared.which.Which.{Which}
 use Rattle.ix_behaviour.specs.Behaviours.{targets_at, spawned_at}
-use Rattle.ix_resolve.specs.Flags.{unmarked, marked, flags_at}
+use Rattle.ix_behaviour.specs.Flags.{unmarked, marked, flags_at}
 use Rattle.ix_flow.specs.Flows.{target_of, flag_at, flag_of}
 use Rattle.ix_spawns.specs.Targets.{AreRegisters}
 

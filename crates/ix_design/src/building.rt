@@ -10,6 +10,7 @@ ghost use Rattle.ix_standing.specs.Standing.{behaviours_of, AreBuilt};
 ghost use Rattle.ix_schedules.specs.Scheduling.{AreNamed, IsRefusedBy, IsRefusedAs, IsFirstRefused};
 ghost use Rattle.ix_design.specs.Building.{IsModuleBy, IsModuleOf, AreBuiltInTurn};
 
+use crate::room::{MOST_CELLS, has_room};
 use ix_behaviour::{Which, behaviour_laws};
 use ix_bits::{List, Memory, Name};
 use ix_flow::FlowErr;
@@ -39,7 +40,7 @@ pub(crate) struct Module {
     pub net: Net,
 }
 
-// The plan and the net of a behaviour, which may be a block, with its schedule.
+// The plan and the net of a behaviour, which may be a block, with its schedule. No cell is put where there may be no room for all.
 fn module_by(
     alloc: Global,
     name: &Name,
@@ -47,6 +48,7 @@ fn module_by(
     sheet: &Sheet,
     block: bool,
     scheduled: Scheduled,
+    room: usize,
 ) -> Result<Module, Memory>
     requires named { IsName name.now }
     requires graph { IsValidGraph graph }
@@ -57,6 +59,9 @@ fn module_by(
     times_fit();
     let _may_be_block = block;
     let Scheduled { mode, times, .. } = scheduled;
+    if !has_room(&graph, room) {
+        return Err(Memory);
+    }
     let net = generate(alloc, name, &graph, times.as_slice(), sheet.shape)?;
     let last = last_of(times.as_slice(), sheet.shape.rd);
     Ok(Module {
@@ -77,6 +82,7 @@ fn built_by(
     graph: Graph,
     sheet: &Sheet,
     block: bool,
+    room: usize,
 ) -> Result<Module, ScheduleErr>
     requires named { IsName name }
     requires graph { IsValidGraph graph }
@@ -85,7 +91,7 @@ fn built_by(
     ensures refused { IfErr result (IsRefusedBy name graph sheet.now block) }
 {
     match schedule_of(alloc, &graph, sheet, block) {
-        Ok(scheduled) => match module_by(alloc, &name, graph, sheet, block, scheduled) {
+        Ok(scheduled) => match module_by(alloc, &name, graph, sheet, block, scheduled, room) {
             Ok(module) => Ok(module),
             Err(_) => Err(ScheduleErr::Memory),
         },
@@ -99,6 +105,7 @@ fn built_at(
     ext: &Extension,
     sheet: &Sheet,
     which: Which,
+    room: usize,
 ) -> Result<Module, ScheduleErr>
     requires well_formed { IsWellFormed ext.now }
     requires named { AreNamed (view_extension ext.now) }
@@ -109,7 +116,7 @@ fn built_at(
 {
     let name = Name::from_text(alloc, name_of(ext, which))?;
     match graph_of(alloc, ext, which) {
-        Ok(graph) => built_by(alloc, name, graph, sheet, is_block(which)),
+        Ok(graph) => built_by(alloc, name, graph, sheet, is_block(which), room),
         Err(FlowErr::TooManyOps) => Err(ScheduleErr::TooManyOps(name)),
         Err(FlowErr::Memory) => Err(ScheduleErr::Memory),
     }
@@ -131,9 +138,11 @@ fn built_each(
 {
     let mut plans = List::new(alloc);
     let mut nets = List::new(alloc);
+    let mut room = MOST_CELLS;
     for which in list {
-        match built_at(alloc, ext, sheet, *which) {
+        match built_at(alloc, ext, sheet, *which, room) {
             Ok(Module { plan, net }) => {
+                room = room.saturating_sub(net.cells.len());
                 plans.push(plan)?;
                 nets.push(net)?;
             }
@@ -146,6 +155,7 @@ fn built_each(
 /// The plan and the net of each behaviour of an extension on the core of a datasheet, the instructions first and then the always-blocks: its graph, its mode
 /// by the rule, the chosen schedule in that mode and its last time, and a net that serves it by this plan. For each behaviour its graph is made and then its
 /// schedule, before the next behaviour; the first that has too many operations, or no legal schedule in its widest windows, is the refusal.
+/// The nets have at most 2,700,000 cells: where the look-ups of the next one may need more, the answer is want of memory, and none of it is made.
 pub fn build(alloc: Global, ext: &Extension, sheet: &Sheet) -> Result<Built, ScheduleErr>
     requires well_formed { IsWellFormed ext.now }
     requires named { AreNamed (view_extension ext.now) }

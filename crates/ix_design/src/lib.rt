@@ -3,6 +3,7 @@
 
 mod building;
 mod designing;
+mod room;
 
 pub use building::{Built, build};
 pub use designing::design;

@@ -27,6 +27,7 @@ use Rattle.ix_mean.proofs.Effecting.{effect_kept}
 use Rattle.ix_flow.specs.Flows.{kind_of_term}
 use Rattle.ix_behaviour.specs.declared.which.Which.{Which}
 use Rattle.ix_behaviour.specs.Behaviours.{HasBehaviour, body_at, names_at, statement_at, stored_type, type_of_register, targets_at, frame_at, at_start, effect_by_name}
+use Rattle.ix_behaviour.specs.Flags.{flags_at}
 use Rattle.ix_behaviour.specs.Laws.{TypedBehaviourLaw, BehaviourEffectLaw, OneAccessLaw, FewLaw}
 use Rattle.ix_behaviour.specs.Accesses.{AccessesAreTyped, AccessesLaw, StoredTypeLaw}
 use Rattle.ix_behaviour.specs.Tables.{HaveWidthOf, TablesAreRead, TablesLaw, WidthsLaw}
@@ -73,7 +74,7 @@ lawful typed few accesses stored tables widths t x w h b =
 
 pub valid_graph : (x : ExtensionTree) (w : Which) (g : Graph) → IsLawful x w → IsGraphOf x w g → IsValidGraph g
 valid_graph x w g l h =
-    graph_valid (frame_at x w) (statement_at x w) x.tables l.typed l.accesses l.tables l.targets g h.ops h.tables_are h.targets h.few h.flags
+    graph_valid (frame_at x w) (statement_at x w) x.tables l.typed l.accesses l.tables l.targets g h.ops h.tables_are (flags_at x w) h.few h.flags
     (wide_all x.tables (recursion_from_All (λ (table : Table). HaveWidthOf table.ty table.entries) x.tables l.widths))
 
 module _ (x : ExtensionTree) (w : Which) (g : Graph) (l : IsLawful x w) (h : IsGraphOf x w g) (i : Inputs) (inputs : AreInputs (targets_at x w) i) (terms : ℕ → ℕ) (means : IsMeaning g terms)

@@ -15,7 +15,7 @@ use Rattle.ix_extension.specs.Extensions.{ExtensionTree}
 use Rattle.ix_behaviour.specs.declared.which.Which.{Which}
 use Rattle.ix_behaviour.specs.Behaviours.{statement_at, frame_at, type_of_register}
 use Rattle.ix_slots.specs.Found.{entries_in, entries_of}
-use Rattle.ix_resolve.specs.Flags.{flags_at}
+use Rattle.ix_behaviour.specs.Flags.{flags_at}
 use Rattle.ix_terms.specs.declared.source.Source.{Source}
 use Rattle.ix_flow.specs.Flows.{AreOpsOf, flag_of, FlowsTo}
 use Rattle.ix_flow.specs.declared.error.FlowErr.{FlowErr}

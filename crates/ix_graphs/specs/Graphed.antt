@@ -4,7 +4,7 @@ use Rattle.ix_bits.specs.declared.number.Bits.{Bits}
 use Rattle.ix_graph.specs.declared.graph.Graph.{Graph}
 use Rattle.ix_extension.specs.Extensions.{ExtensionTree}
 use Rattle.ix_behaviour.specs.declared.which.Which.{Which}
-use Rattle.ix_resolve.specs.Flags.{flags_at}
+use Rattle.ix_behaviour.specs.Flags.{flags_at}
 use Rattle.ix_flow.specs.Flows.{AreOpsOf, flag_of}
 use Rattle.ix_graph_laws.specs.Operations.{operations_at}
 use Rattle.ix_flow.specs.declared.error.FlowErr.{FlowErr}

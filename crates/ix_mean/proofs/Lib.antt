@@ -11,5 +11,6 @@ pub mod Effecting
 pub mod Fields
 pub mod Resolvings
 pub mod Steps
+pub mod NamedReads
 pub mod GraphMeanings
 pub mod Ordering

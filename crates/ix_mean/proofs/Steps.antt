@@ -17,7 +17,7 @@ use Rattle.ix_mean.proofs.Effecting.{zero_is}
 use Rattle.ix_mean.proofs.Resolvings.{at_slot, slot_kept, number_kept, type_kept}
 
 -- ---- scopes: the newest local has the greatest slot
-abbrev Descend : ℕ → List Slot → Type 0
+abbrev pub Descend : ℕ → List Slot → Type 0
 Descend n [] = Unit {0}
 Descend n (l ∷ ls) = (l.slot < n) × Descend l.slot ls
 
@@ -26,11 +26,11 @@ descend_more n m [] l h = tt
 descend_more n m (x ∷ xs) l h = (omega (arith, h.0), h.1)
 
 -- the scope behind a statement: its locals stand before those of the scope before, and no slot is given back
-record Goes (sc new : Scope) : Type 0 where
-  fresh : List Slot
-  over : new.locals ≡ fresh ++ sc.locals
-  more : length sc.slots ≤ length new.slots
-  descends : Descend (length new.slots) new.locals
+pub record Goes (sc new : Scope) : Type 0 where
+  pub fresh : List Slot
+  pub over : new.locals ≡ fresh ++ sc.locals
+  pub more : length sc.slots ≤ length new.slots
+  pub descends : Descend (length new.slots) new.locals
 
 stays : (sc : Scope) → Descend (length sc.slots) sc.locals → Goes sc sc
 stays sc h = record { fresh = []; over = refl; more = omega arith; descends = h }
@@ -47,10 +47,10 @@ goes_on a b c g h = record {
   descends = h.descends;
 }
 
-goes_left : (sc new : Scope) → Descend (length sc.slots) sc.locals → Goes sc new → Goes sc (left sc new)
+pub goes_left : (sc new : Scope) → Descend (length sc.slots) sc.locals → Goes sc new → Goes sc (left sc new)
 goes_left sc new d g = record { fresh = []; over = refl; more = g.more; descends = descend_more (length sc.slots) (length new.slots) sc.locals g.more d }
 
-goes_declared : (sc : Scope) (n : List ℕ) (ty : Ty) (e : Expression) → Descend (length sc.slots) sc.locals → Goes sc (declared sc n ty e).scope
+pub goes_declared : (sc : Scope) (n : List ℕ) (ty : Ty) (e : Expression) → Descend (length sc.slots) sc.locals → Goes sc (declared sc n ty e).scope
 goes_declared sc n ty e d =
     let long = length_push sc.slots ty in
     record {
@@ -60,7 +60,7 @@ goes_declared sc n ty e d =
       descends = (omega (arith, long), d);
     }
 
-goes_declarations : (ns : Names) (ty : Ty) (ds : List TypedDeclTree) (sc : Scope) → Descend (length sc.slots) sc.locals → Goes sc (declarations ns ty ds sc).scope
+pub goes_declarations : (ns : Names) (ty : Ty) (ds : List TypedDeclTree) (sc : Scope) → Descend (length sc.slots) sc.locals → Goes sc (declarations ns ty ds sc).scope
 goes_declarations ns ty [] sc d = stays sc d
 goes_declarations ns ty (x ∷ xs) sc d =
     let one = goes_declared sc x.name ty (initial ns sc ty x.value) d in
@@ -68,7 +68,7 @@ goes_declarations ns ty (x ∷ xs) sc d =
     goes_on sc here (declarations ns ty xs here).scope one (goes_declarations ns ty xs here one.descends)
 
 mutual
-  goes : (ns : Names) (x : TypedStmtTree) (sc : Scope) → Descend (length sc.slots) sc.locals → Goes sc (step ns x sc).scope
+  pub goes : (ns : Names) (x : TypedStmtTree) (sc : Scope) → Descend (length sc.slots) sc.locals → Goes sc (step ns x sc).scope
   goes ns (ts_block s all) sc d = goes_left sc (step_row ns all sc).scope d (goes_row ns all sc d)
   goes ns (ts_empty s) sc d = stays sc d
   goes ns (ts_locals s ty ds) sc d = goes_declarations ns (type_of_text ty) ds sc d
@@ -81,7 +81,7 @@ mutual
       goes_left sc (step ns y here).scope d (goes_on sc here (step ns y here).scope one two)
   goes ns (ts_spawn s x) sc d = goes_left sc (step ns x sc).scope d (goes ns x sc d)
 
-  goes_row : (ns : Names) (all : TypedRow) (sc : Scope) → Descend (length sc.slots) sc.locals → Goes sc (step_row ns all sc).scope
+  pub goes_row : (ns : Names) (all : TypedRow) (sc : Scope) → Descend (length sc.slots) sc.locals → Goes sc (step_row ns all sc).scope
   goes_row ns typed_end sc d = stays sc d
   goes_row ns (typed_more x rest) sc d =
       let one = goes ns x sc d in
@@ -93,7 +93,7 @@ either_length : (b : Bool) (x y : Numbers) (n : ℕ) → length x.slots ≡ n �
 either_length true x y n e f = e
 either_length false x y n e f = f
 
-slots_kept : (i : Inputs) (x : Statement) (s : Numbers) → length (run i x s).slots ≡ length s.slots
+pub slots_kept : (i : Inputs) (x : Statement) (s : Numbers) → length (run i x s).slots ≡ length s.slots
 slots_kept i st_skip s = refl
 slots_kept i (st_then x y) s = slots_kept i y (run i x s) ∙ slots_kept i x s
 slots_kept i (st_set k ty e) s = length-set s.slots k (number i s.slots e)
@@ -205,12 +205,12 @@ written_kept ns i sc s op (tl_mem x None) a e z b d w g h k = write_kept sc s 0 
 written_kept ns i sc s op (tl_mem x (Some y)) a e z b d w g h k = write_kept sc s 0 _ _ _ _ h (number_kept ns sc.locals i s.slots y b k)
 
 -- ---- declarations
-first_kept : (ns : Names) (i : Inputs) (sc : Scope) (s : Numbers) (ty : Ty) (o : Option TypedExprTree) → i.word < 2 ^ 32 → IsInitial ns sc o
+pub first_kept : (ns : Names) (i : Inputs) (sc : Scope) (s : Numbers) (ty : Ty) (o : Option TypedExprTree) → i.word < 2 ^ 32 → IsInitial ns sc o
     → number i s.slots (initial ns sc ty o) ≡ first_number ns i (map (local_at s.slots) sc.locals) o
 first_kept ns i sc s ty None b h = zero_is ty
 first_kept ns i sc s ty (Some e) b h = number_kept ns sc.locals i s.slots e b h
 
-declared_kept : (i : Inputs) (sc : Scope) (s : Numbers) (n : List ℕ) (ty : Ty) (e : Expression) (z : ℤ) → Descend (length sc.slots) sc.locals → length sc.slots < length s.slots → number i s.slots e ≡ z
+pub declared_kept : (i : Inputs) (sc : Scope) (s : Numbers) (n : List ℕ) (ty : Ty) (e : Expression) (z : ℤ) → Descend (length sc.slots) sc.locals → length sc.slots < length s.slots → number i s.slots e ≡ z
     → doing (declared sc n ty e).scope (run i (declared sc n ty e).body s)
     ≡ (let d : Doing = record { locals = (let l : Local = record { name = n; ty = ty; number = z } in l) ∷ map (local_at s.slots) sc.locals; targets = s.targets } in d)
 declared_kept i sc s n ty e z d w h =
@@ -244,7 +244,7 @@ either_kept sc true c x y d e f g h = rw (← f) g
 either_kept sc false c x y d e f g h = rw (← f) h
 
 mutual
-  kept : (ns : Names) (i : Inputs) (x : TypedStmtTree) (sc : Scope) (s : Numbers) → i.word < 2 ^ 32 → Descend (length sc.slots) sc.locals → IsResolvedStatement ns x sc
+  pub kept : (ns : Names) (i : Inputs) (x : TypedStmtTree) (sc : Scope) (s : Numbers) → i.word < 2 ^ 32 → Descend (length sc.slots) sc.locals → IsResolvedStatement ns x sc
       → length (step ns x sc).scope.slots ≤ length s.slots → doing (step ns x sc).scope (run i (step ns x sc).body s) ≡ does ns i x (doing sc s)
   kept ns i (ts_block a all) sc s b d h w =
       leaves_kept sc (step_row ns all sc).scope s (run i (step_row ns all sc).body s) (goes_row ns all sc d) ∙ ap (leaves (doing sc s)) (kept_row ns i all sc s b d h w)

@@ -8,6 +8,7 @@ pub mod Effects
 pub mod ByName
 pub mod Resolving
 pub mod EffectByName
+pub mod ReadsByName
 pub mod ResolvingStatements
 pub mod GraphValues
 pub mod Order

@@ -7,9 +7,10 @@ use Rattle.ix_bits.specs.ResultTypes.{binary_signed, binary_width}
 use Rattle.ix_graph.specs.declared.kind.Kind.TheVariants as k
 use Rattle.ix_tree.specs.TypedTrees.{TypedExprTree, t_literal, t_binary, TypedLvalueTree, tl_name, tl_pc, tl_x, tl_mem, TypedDeclTree, TypedStmtTree, ts_block, ts_empty, ts_locals, ts_assign, ts_if, ts_if_else, ts_spawn, TypedRow, typed_end, typed_more}
 use Rattle.ix_mean.specs.Core.{u32, Expression, x_const, x_slot, x_read, x_cast, x_two, type_of_expression, Statement, st_skip, st_then, st_set, st_write, st_if}
-use Rattle.ix_mean.specs.Meaning.{Inputs, Numbers, run}
+use Rattle.ix_mean.specs.Meaning.{Inputs, Numbers, run, reads}
 use Rattle.ix_mean.specs.ByName.{Names, Numbered, register_in}
 use Rattle.ix_mean.specs.EffectByName.{type_of_text, Doing, does}
+use Rattle.ix_mean.specs.ReadsByName.{read_by}
 use Rattle.ix_mean.specs.Resolving.{Slot, slot_in, register_read, resolved, IsResolved, local_at}
 
 -- the visible locals, the newest first, and the types of all slots so far
@@ -126,7 +127,7 @@ abbrev mutual
   IsResolvedRow ns typed_end sc = Unit {0}
   IsResolvedRow ns (typed_more x rest) sc = IsResolvedStatement ns x sc × IsResolvedRow ns rest (step ns x sc).scope
 
--- ---- the law
+-- ---- the laws
 -- the visible locals with the numbers of their slots, and what is written
 abbrev pub doing : Scope → Numbers → Doing
 doing sc s = record { locals = map (local_at s.slots) sc.locals; targets = s.targets }
@@ -139,3 +140,8 @@ outside = record { locals = []; slots = [] }
 abbrev pub StepLaw : Type 0
 StepLaw = (ns : Names) (i : Inputs) (x : TypedStmtTree) (s : Numbers) → i.word < 2 ^ 32 → IsResolvedStatement ns x outside → length (step ns x outside).scope.slots ≤ length s.slots
     → doing (step ns x outside).scope (run i (step ns x outside).body s) ≡ does ns i x (doing outside s)
+
+-- and what it reads of memory
+abbrev pub ReadsLaw : Type 0
+ReadsLaw = (ns : Names) (i : Inputs) (x : TypedStmtTree) (s : Numbers) → i.word < 2 ^ 32 → IsResolvedStatement ns x outside → length (step ns x outside).scope.slots ≤ length s.slots
+    → reads i (step ns x outside).body s ≡ read_by ns i x (doing outside s)

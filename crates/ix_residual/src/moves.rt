@@ -3,6 +3,8 @@
 ghost use Rattle.std.specs.Prelude.{◌≡◌, ℕ, ◌+◌, ◌<◌, ◌≤◌, ◌^◌, true, false, length, slice_index, All};
 ghost use Rattle.ix_residual.specs.Residuals.{IsOnce, moved, place_at, room};
 
+use ix_bits::List;
+
 /// The greatest amount, up to `most`, that the falling amounts of a path have.
 pub fn room(steps: &[(u32, bool)], amounts: &[u64], most: u64) -> u64
     requires { All (λ s. s.0 < length amounts.now) steps.now }
@@ -18,7 +20,7 @@ pub fn room(steps: &[(u32, bool)], amounts: &[u64], most: u64) -> u64
 }
 
 /// Raises the amounts that a path goes along, and lowers those that it goes against.
-pub fn move_along(amounts: &mut [u64], steps: &[(u32, bool)], amount: u64)
+pub fn move_along(amounts: &mut List<u64>, steps: &[(u32, bool)], amount: u64)
     requires within { All (λ s. s.0 < length amounts.old) steps.now }
     requires once { IsOnce steps.now }
     requires fits { All (λ s. s.1 ≡ true → slice_index amounts.old s.0 + amount < 2 ^ 64) steps.now }
@@ -26,10 +28,9 @@ pub fn move_along(amounts: &mut [u64], steps: &[(u32, bool)], amount: u64)
     ensures { amounts.new ≡ moved amounts.old amount steps.now }
 {
     'steps: for (place, along) in steps {
-        if *along {
-            amounts[*place as usize] += amount;
-        } else {
-            amounts[*place as usize] -= amount;
-        }
+        let place = *place as usize;
+        let held = amounts.as_slice()[place];
+        let moved = if *along { held + amount } else { held - amount };
+        amounts.set(place, moved);
     }
 }

@@ -10,7 +10,6 @@ use crate::moves::{move_along, room};
 use ix_bits::{List, Memory};
 use ix_sheet::{Bound, Problem};
 use std::alloc::Global;
-use std::mem::replace;
 
 /// A path by its steps: the place of a bound, and whether the bound is gone along (true) or against (false).
 #[derive(Debug, Drop)]
@@ -44,9 +43,8 @@ impl Residual {
         })
     }
 
-    /// Moves the greatest amount along a path that the amounts which fall, and both its ends, allow. It takes no memory: `alloc` is
-    /// for the empty lists that stand in while the amounts change.
-    pub fn augment(&mut self, alloc: Global, path: &Path)
+    /// Moves the greatest amount along a path that the amounts which fall, and both its ends, allow. It takes no memory.
+    pub fn augment(&mut self, path: &Path)
         requires { CanAugment self.old path.now }
         ensures { self.new ≡ augmented self.old path.now }
     {
@@ -57,12 +55,8 @@ impl Residual {
         let target = node_behind(bounds, steps[steps.len() - 1], root);
         let most = most_between(self.left.as_slice(), source, target);
         let amount = room(steps, self.amounts.as_slice(), most);
-        let mut amounts = replace(&mut self.amounts, List::new(alloc)).into_vec();
-        move_along(amounts.as_mut_slice(), steps, amount);
-        self.amounts = List::from_vec(amounts);
-        let mut left = replace(&mut self.left, List::new(alloc)).into_vec();
-        settle(&mut left, source, target, amount);
-        self.left = List::from_vec(left);
+        move_along(&mut self.amounts, steps, amount);
+        settle(&mut self.left, source, target, amount);
     }
 }
 
@@ -130,16 +124,24 @@ fn most_between(left: &[i64], source: usize, target: usize) -> u64
     left[target].unsigned_abs().min(left[source].unsigned_abs())
 }
 
-// less is left at both ends
-fn settle(left: &mut Vec<i64>, source: usize, target: usize, amount: u64)
-    requires within { (source < length left.old.items) × (target < length left.old.items) }
-    requires apart { source ≢ target }
-    requires spare { amount ≤ spare_of (slice_index_or left.old.items source (pos 0)) }
-    requires need { amount ≤ need_of (slice_index_or left.old.items target (pos 0)) }
-    ensures { left.new.items ≡ settled left.old.items source target amount }
+// what is left of the balance of a node
+fn left_at(left: &[i64], node: usize) -> i64
+    requires { node < length left.now }
+    ensures { result ≡ slice_index_or left.now node (pos 0) }
 {
-    let spare = left[source];
-    let need = left[target];
-    left[source] = spare + amount as i64;
-    left[target] = need - amount as i64;
+    left[node]
+}
+
+// less is left at both ends
+fn settle(left: &mut List<i64>, source: usize, target: usize, amount: u64)
+    requires within { (source < length left.old) × (target < length left.old) }
+    requires apart { source ≢ target }
+    requires spare { amount ≤ spare_of (slice_index_or left.old source (pos 0)) }
+    requires need { amount ≤ need_of (slice_index_or left.old target (pos 0)) }
+    ensures { left.new ≡ settled left.old source target amount }
+{
+    let spare = left_at(left.as_slice(), source);
+    let need = left_at(left.as_slice(), target);
+    left.set(source, spare + amount as i64);
+    left.set(target, need - amount as i64);
 }

@@ -5,7 +5,7 @@ use Rattle.ix_mean.specs.declared.resolved.ResolvedStmt.{ResolvedStmt}
 use Rattle.ix_bits.specs.declared.number.Ty.{Ty}
 use Rattle.ix_mean.specs.Core.{u1}
 use Rattle.ix_slots.specs.Spawned.{written_in, written_among, spawned_in, spawned_among}
-use Rattle.ix_resolve.specs.Flags.{unmarked, marked}
+use Rattle.ix_behaviour.specs.Flags.{unmarked, marked}
 
 pub marked_both : (fs : List Bool) (xs ys : List ℕ) → marked fs (xs ++ ys) ≡ marked (marked fs xs) ys
 marked_both fs [] ys = refl

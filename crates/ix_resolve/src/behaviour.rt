@@ -4,7 +4,7 @@ ghost use Rattle.ix_extension.specs.Extensions.{view_extension};
 ghost use Rattle.ix_extension.specs.WellFormed.{IsWellFormed};
 ghost use Rattle.ix_behaviour.specs.Behaviours.{HasBehaviour, statement_at, frame_at};
 ghost use Rattle.ix_slots.specs.Found.{entries_of};
-ghost use Rattle.ix_resolve.specs.Flags.{flags_at};
+ghost use Rattle.ix_behaviour.specs.Flags.{flags_at};
 
 use crate::marks::flags;
 use crate::parts::{body_of, pieces_of};

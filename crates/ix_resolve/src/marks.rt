@@ -1,6 +1,6 @@
 ghost use Rattle.std.specs.Prelude.{◌≡◌, List, map, IfOk};
 ghost use Rattle.ix_slots.specs.Spawned.{written_in, written_among, spawned_in, spawned_among};
-ghost use Rattle.ix_resolve.specs.Flags.{unmarked, marked};
+ghost use Rattle.ix_behaviour.specs.Flags.{unmarked, marked};
 
 use ix_bits::{List, Memory, Ty};
 use ix_mean::ResolvedStmt;

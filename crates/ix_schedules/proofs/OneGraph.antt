@@ -19,7 +19,7 @@ use Rattle.ix_flow.specs.Flows.{IsArgOf, AreArgsOf, IsOpOf, AreOpsOf, args_of_te
 use Rattle.ix_extension.specs.Extensions.{ExtensionTree}
 use Rattle.ix_behaviour.specs.declared.which.Which.{Which}
 use Rattle.ix_behaviour.specs.Behaviours.{statement_at, frame_at}
-use Rattle.ix_resolve.specs.Flags.{flags_at}
+use Rattle.ix_behaviour.specs.Flags.{flags_at}
 use Rattle.ix_graph_laws.specs.Operations.{operations_at}
 use Rattle.ix_graphs.specs.Graphed.{IsGraphAt}
 

@@ -14,7 +14,7 @@ use Rattle.ix_sheet.proofs.Duality.{chosen_by_flow}
 use Rattle.ix_sheet.proofs.Rooted.{rooted_below, rooted_root}
 use Rattle.ix_problem.specs.Constraints.{AreConstraints}
 use Rattle.ix_residual.specs.Residuals.{bound_at}
-use Rattle.ix_walks.specs.Search.{no_arc, arc_at}
+use Rattle.ix_solve.specs.Search.{no_arc, arc_at}
 use Rattle.ix_solve.specs.Answers.{used, AreOptimal}
 use Rattle.ix_solve.proofs.Links.{arcs_for, arc_there, arcs_long, each_used, of_used, dual_flow}
 

@@ -12,11 +12,11 @@ use Rattle.ix_residual.specs.declared.residual.Path.{Path}
 use Rattle.ix_residual.specs.declared.residual.Residual.{Residual}
 use Rattle.ix_residual.specs.Residuals.{bound_at, place_at, before, behind, from_of, to_of, root_of, source_of, target_of, IsResidualPath}
 use Rattle.ix_residual.specs.Balances.{step_up, step_down, IsLongest}
-use Rattle.ix_walks.specs.declared.network.Network.{Network}
-use Rattle.ix_walks.specs.declared.search.TheConstants.{LIMIT}
-use Rattle.ix_walks.specs.Search.{no_arc, arc_at, IsFeasible, AreLeast}
-use Rattle.ix_walks.proofs.Starts.{above_root}
-use Rattle.ix_walks.specs.Networks.{step_from, step_to, node_after, IsResidual, IsTightPath, IsLongestPath}
+use Rattle.ix_solve.specs.declared.network.Network.{Network}
+use Rattle.ix_solve.specs.declared.search.TheConstants.{LIMIT}
+use Rattle.ix_solve.specs.Search.{no_arc, arc_at, IsFeasible, AreLeast}
+use Rattle.ix_solve.proofs.Starts.{above_root}
+use Rattle.ix_solve.specs.Networks.{step_from, step_to, node_after, IsResidual, IsTightPath, IsLongestPath}
 use Rattle.ix_solve.specs.Flows.{IsWalk}
 use Rattle.ix_solve.specs.State.{HasTimes, AreTimes, IsNetworkOf, AreLeastOver}
 use Rattle.ix_solve.proofs.Links.{arcs_for, arc_there, arcs_long, from_there, to_there}

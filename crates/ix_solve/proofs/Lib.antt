@@ -1,3 +1,13 @@
+mod Steps
+mod Starts
+mod Rounds
+mod Walks
+mod Lifts
+mod Trails
+mod Paths
+mod Residuals
+mod Turning
+mod Forests
 mod Sums
 mod Moves
 pub mod Links

@@ -17,7 +17,7 @@ use Rattle.ix_sheet.proofs.BoundLemmas.{ends_inside}
 use Rattle.ix_problem.specs.Constraints.{AreConstraints, bounds_with}
 use Rattle.ix_residual.specs.Residuals.{bound_at, from_of, to_of}
 use Rattle.ix_solve.specs.Answers.{used, AreOptimal, FitsByte}
-use Rattle.ix_walks.specs.Search.{no_arc, arc_at, IsFramed, IsInside, IsClosed, Leads}
+use Rattle.ix_solve.specs.Search.{no_arc, arc_at, IsFramed, IsInside, IsClosed, Leads}
 use Rattle.ix_solve.specs.Flows.{flow_at}
 
 abbrev pub arcs_for : Problem → List Bound → List Arc

@@ -11,9 +11,9 @@ use Rattle.ix_residual.specs.declared.residual.Path.{Path}
 use Rattle.ix_residual.specs.declared.residual.Residual.{Residual}
 use Rattle.ix_residual.specs.Residuals.{place_at, left_at, need_of, spare_of, augmented, CanAugment}
 use Rattle.ix_residual.specs.Balances.{fresh}
-use Rattle.ix_walks.specs.declared.network.Network.{Network}
-use Rattle.ix_walks.specs.Search.{IsFeasible, AreLeast}
-use Rattle.ix_walks.specs.Networks.{IsNetwork, IsResidual, IsLongestPath}
+use Rattle.ix_solve.specs.declared.network.Network.{Network}
+use Rattle.ix_solve.specs.Search.{IsFeasible, AreLeast}
+use Rattle.ix_solve.specs.Networks.{IsNetwork, IsResidual, IsLongestPath}
 use Rattle.ix_solve.specs.declared.meet.Met.{Met}
 use Rattle.ix_solve.specs.Answers.{AreOptimal}
 use Rattle.ix_solve.specs.State.{IsState, IsReplay, IsNetworkOf, IsOnWay, IsOpen, are_carried, IsMet}

@@ -3,8 +3,8 @@ use Rattle.std.proofs.Common.{◌≡◌, ℕ, zero, suc, ◌≢◌, ◌+◌, ◌
 use Rattle.std.proofs.lemmas.List.{get_or-set_other, get_or-set_same, take_more, take_all}
 use Rattle.ix_sheet.specs.declared.problem.Arc.{Arc}
 use Rattle.ix_residual.specs.Residuals.{place_at, moved}
-use Rattle.ix_walks.specs.Search.{arc_at}
-use Rattle.ix_walks.specs.Networks.{step_from, step_to, node_after}
+use Rattle.ix_solve.specs.Search.{arc_at}
+use Rattle.ix_solve.specs.Networks.{step_from, step_to, node_after}
 use Rattle.ix_solve.specs.Flows.{flow_at, flow_in, flow_out, IsWalk, HasMoved, GainsAlong}
 
 pub flow_at-set : (node : Arc → ℕ) (bounds : List Arc) (amounts : List ℕ) (k y v : ℕ) → length amounts ≡ length bounds → k < length bounds →

@@ -14,7 +14,7 @@ use Rattle.ix_residual.specs.declared.residual.Residual.{Residual}
 use Rattle.ix_residual.specs.Residuals.{place_at, root_of, left_at, source_of, target_of, need_of, spare_of, room, greatest, moved, settled, augmented, CanAugment, replayed, AreAugmentations}
 use Rattle.ix_residual.specs.Balances.{fresh, IsLongest, AreLongest}
 use Rattle.ix_residual.proofs.Ends.{room_each, room_most, room_some}
-use Rattle.ix_walks.specs.Search.{arc_at}
+use Rattle.ix_solve.specs.Search.{arc_at}
 use Rattle.ix_solve.specs.Flows.{flow_at, flow_in, flow_out, GainsAlong}
 use Rattle.ix_solve.specs.State.{HasTimes, AreTimes, IsState, IsReplay}
 use Rattle.ix_solve.proofs.Balanced.{settled_at, settled_sums, one_way, below_zero, above_zero, balance_there, balances_long, even_balances, parts_of}

@@ -2,7 +2,7 @@
 use Rattle.std.specs.Prelude.{ℕ, Bool, true, ◌≡◌, ◌+◌, ◌≤◌, ◌<◌, ◌==◌, ◌⊎◌, List, [], ◌∷◌, length, slice_index, cond}
 use Rattle.ix_sheet.specs.declared.problem.Arc.{Arc}
 use Rattle.ix_residual.specs.Residuals.{place_at, IsOnce}
-use Rattle.ix_walks.specs.Networks.{step_from, node_after}
+use Rattle.ix_solve.specs.Networks.{step_from, node_after}
 
 -- what the inequalities that belong to node v carry
 abbrev pub flow_at : (Arc → ℕ) → List Arc → List ℕ → ℕ → ℕ

@@ -8,10 +8,10 @@ use Rattle.ix_residual.specs.declared.residual.Path.{Path}
 use Rattle.ix_residual.specs.declared.residual.Residual.{Residual}
 use Rattle.ix_residual.specs.Residuals.{Step, need_of, spare_of, left_at, replayed, AreAugmentations}
 use Rattle.ix_residual.specs.Balances.{fresh, balances, AreLongest}
-use Rattle.ix_walks.specs.declared.network.Network.{Network}
-use Rattle.ix_walks.specs.declared.search.TheConstants.{LIMIT}
-use Rattle.ix_walks.specs.Search.{arc_at, IsFeasible}
-use Rattle.ix_walks.specs.Networks.{IsNetwork, IsResidual, IsTightPath}
+use Rattle.ix_solve.specs.declared.network.Network.{Network}
+use Rattle.ix_solve.specs.declared.search.TheConstants.{LIMIT}
+use Rattle.ix_solve.specs.Search.{arc_at, IsFeasible}
+use Rattle.ix_solve.specs.Networks.{IsNetwork, IsResidual, IsTightPath}
 use Rattle.ix_solve.specs.declared.meet.Met.{Met}
 use Rattle.ix_solve.specs.Flows.{flow_in, flow_out}
 

@@ -3,16 +3,18 @@
 ghost use Rattle.std.specs.Prelude.{◌≡◌, length, map, take, IfOk, All};
 ghost use Rattle.ix_sheet.specs.Schedules.{IsValidProblem};
 ghost use Rattle.ix_sheet.specs.Bounds.{IsBoundOf, arc_of};
-ghost use Rattle.ix_walks.specs.Networks.{IsNetwork};
-ghost use Rattle.ix_walks.specs.Search.{IsFeasible};
+ghost use Rattle.ix_solve.specs.Networks.{IsNetwork};
+ghost use Rattle.ix_solve.specs.Search.{IsFeasible};
 ghost use Rattle.ix_solve.specs.State.{IsMet};
 
 use crate::ends::ends_left;
+use crate::incidence::touching;
+use crate::longest::{Longest, longest_path};
+use crate::network::Network;
 use crate::trees::exhaust;
 use ix_bits::{List, Memory};
 use ix_residual::{Path, Residual};
 use ix_sheet::{Bound, Problem};
-use ix_walks::{Longest, Network, longest_path, touching};
 use std::alloc::Global;
 
 /// A flow, and the paths along which its amounts have moved, in order.
@@ -47,7 +49,7 @@ pub fn meet(
         };
         let Longest { steps, times } = longest_path(alloc, network, source, target)?;
         let path = Path { steps };
-        residual.augment(alloc, &path);
+        residual.augment(&path);
         paths.push(path)?;
         let times = times.as_slice();
         exhaust(

@@ -1,69 +1,85 @@
-//! The inequalities that the bounds of a problem are.
+//! The inequalities that walks follow.
 
-ghost use Rattle.std.specs.Prelude.{◌≡◌, ℕ, ◌<◌, length, map, IfOk, All};
-ghost use Rattle.ix_sheet.specs.Schedules.{IsValidProblem};
-ghost use Rattle.ix_sheet.specs.Bounds.{IsBoundOf, arc_of};
-ghost use Rattle.ix_problem.specs.Constraints.{AreConstraints};
-ghost use Rattle.ix_residual.specs.Residuals.{bound_at};
-ghost use Rattle.ix_walks.specs.Networks.{IsNetwork};
-ghost use Rattle.ix_solve.specs.Answers.{FitsByte};
+ghost use Rattle.std.specs.Prelude.{◌≡◌, ◌<◌, ◌≤◌, ◌^◌, length, take, IfOk, slice_index};
+ghost use Rattle.ix_sheet.specs.Bounds.{turned};
+ghost use Rattle.ix_solve.specs.Networks.{IsNetwork, IsResidual, step_of};
+ghost use Rattle.ix_solve.specs.Search.{IsFramed};
 
-use ix_bits::Memory;
-use ix_sheet::{Arc, Bound, Problem, arc_of_bound};
-use ix_walks::Network;
-use std::alloc::Global;
+use ix_sheet::Arc;
+use std::alloc::{AllocError, Global};
 
-// the inequality that a bound is; the ends of windows are read here, and so known to fit a byte
-fn arc_for(p: &Problem, bound: &Bound) -> Arc
-    requires valid { IsValidProblem p.now }
-    requires of { IsBoundOf p.now bound.now }
-    ensures is { result ≡ arc_of p.now bound.now }
-    ensures byte { FitsByte bound.now result }
+/// Inequalities between the times of nodes.
+#[derive(Drop)]
+pub struct Network {
+    /// The last node, whose time is 0.
+    pub root: u32,
+    /// How many inequalities there are.
+    pub bounds: usize,
+    /// The inequalities, and behind them some of these turned round.
+    pub arcs: Vec<Arc>,
+    /// The places of those that are turned round, in order.
+    pub back: Vec<u32>,
+}
+
+fn turned(arc: Arc) -> Arc
+    ensures { result ≡ turned arc }
 {
-    let ops = p.ops.as_slice();
-    let root = ops.len() as u32;
-    match bound {
-        Bound::Early(op) => Arc {
-            from: root,
-            to: *op,
-            up: u32::from(ops[*op as usize].early),
-            down: 0,
-        },
-        Bound::Late(op) => Arc {
-            from: *op,
-            to: root,
-            up: 0,
-            down: u32::from(ops[*op as usize].late),
-        },
-        Bound::Dep(..) | Bound::Chain(_) => arc_of_bound(p, bound),
+    Arc {
+        from: arc.to,
+        to: arc.from,
+        up: arc.down,
+        down: arc.up,
     }
 }
 
-fn arcs_of(alloc: Global, p: &Problem, bounds: &[Bound]) -> Result<Vec<Arc>, Memory>
-    requires valid { IsValidProblem p.now }
-    requires of { All (IsBoundOf p.now) bounds.now }
-    ensures are { IfOk result (λ arcs. arcs.items ≡ map (arc_of p.now) bounds.now) }
-    ensures bytes { IfOk result (λ arcs. (k : ℕ) → k < length bounds.now → FitsByte (bound_at bounds.now k) (arc_of p.now (bound_at bounds.now k))) }
-{
-    let mut arcs = Vec::new(alloc);
-    'bounds: for bound in bounds {
-        arcs.push(arc_for(p, bound))?;
+impl Network {
+    /// The inequalities, none of them turned round.
+    pub fn new(alloc: Global, root: u32, arcs: Vec<Arc>) -> Network
+        requires framed { IsFramed root arcs.items }
+        requires few { length arcs.items < 2 ^ 32 }
+        ensures network { IsNetwork result }
+        ensures root { result.root ≡ root }
+        ensures arcs { (result.arcs.items ≡ arcs.items) × (result.bounds ≡ length arcs.items) }
+    {
+        Network {
+            root,
+            bounds: arcs.len(),
+            arcs,
+            back: Vec::new(alloc),
+        }
     }
-    Ok(arcs)
-}
 
-/// The network of the bounds, none of them turned round. More bounds than places can be named for, which no memory holds, are
-/// answered as want of memory.
-pub fn network_of(alloc: Global, p: &Problem, bounds: &[Bound]) -> Result<Network, Memory>
-    requires valid { IsValidProblem p.now }
-    requires constraints { AreConstraints p.now bounds.now }
-    ensures network { IfOk result IsNetwork }
-    ensures root { IfOk result (λ network. network.root ≡ length p.now.ops) }
-    ensures arcs { IfOk result (λ network. (network.arcs.items ≡ map (arc_of p.now) bounds.now) × (network.bounds ≡ length bounds.now)) }
-{
-    let arcs = arcs_of(alloc, p, bounds)?;
-    if arcs.len() > u32::MAX as usize {
-        return Err(Memory);
+    /// Turns round the inequalities that carry an amount, and no others.
+    pub fn turn(&mut self, amounts: &[u64]) -> Result<(), AllocError>
+        requires network { IsNetwork self.old }
+        requires same { length amounts.now ≡ self.old.bounds }
+        ensures network { IfOk result (λ _. IsNetwork self.new) }
+        ensures same { IfOk result (λ _. (self.new.root ≡ self.old.root) × (self.new.bounds ≡ self.old.bounds)) }
+        ensures kept { IfOk result (λ _. take self.old.bounds self.new.arcs.items ≡ take self.old.bounds self.old.arcs.items) }
+        ensures residual { IfOk result (λ _. IsResidual amounts.now self.new) }
+    {
+        self.arcs.truncate(self.bounds);
+        self.back.clear();
+        'bounds: for place in 0..amounts.len() {
+            if amounts[place] > 0 {
+                let arc = turned(self.arcs[place]);
+                self.arcs.push(arc)?;
+                self.back.push(place as u32)?;
+            }
+        }
+        Ok(())
     }
-    Ok(Network::new(alloc, p.ops.len() as u32, arcs))
+
+    /// The inequality that stands at a place, and whether it does so along (true) or turned round (false).
+    pub fn step(&self, place: usize) -> (u32, bool)
+        requires network { IsNetwork self.now }
+        requires within { place < length self.now.arcs.items }
+        ensures { result ≡ step_of self.now place }
+    {
+        if place < self.bounds {
+            (place as u32, true)
+        } else {
+            (self.back[place - self.bounds], false)
+        }
+    }
 }

@@ -6,14 +6,15 @@ ghost use Rattle.ix_residual.specs.Residuals.{AreAugmentations, bound_at, replay
 ghost use Rattle.ix_residual.specs.Balances.{AreLongest, fresh, sum_of_needs};
 ghost use Rattle.ix_solve.specs.Answers.{IsRefusal, AreOptimal, IsSolved, used, AreWords};
 
+use crate::bounds::network_of;
 use crate::cost::cost_of;
+use crate::cycle::contradiction;
+use crate::longest::least_times;
 use crate::meet::{Met, meet};
-use crate::network::network_of;
 use ix_bits::{List, Memory};
 use ix_problem::constraints;
 use ix_residual::{Path, Residual};
 use ix_sheet::{Bound, Problem};
-use ix_walks::{contradiction, least_times};
 use std::alloc::{AllocError, Global};
 
 /// A schedule of least cost, and what shows that none costs less.

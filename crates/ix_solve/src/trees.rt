@@ -4,14 +4,15 @@ ghost use Rattle.std.specs.Prelude.{◌≡◌, ◌+◌, ◌<◌, ◌≤◌, leng
 ghost use Rattle.ix_sheet.specs.Schedules.{IsValidProblem};
 ghost use Rattle.ix_sheet.specs.Bounds.{IsBoundOf};
 ghost use Rattle.ix_residual.specs.Residuals.{need_of};
-ghost use Rattle.ix_walks.specs.Forests.{AreTouching, IsForest};
+ghost use Rattle.ix_solve.specs.Forests.{AreTouching, IsForest};
 ghost use Rattle.ix_solve.specs.State.{IsOnWay, LeadsTo, are_carried};
 
 use crate::ends::{needs, spares};
+use crate::forest::{Forest, Walk, grown, way};
+use crate::network::Network;
 use ix_bits::{List, Memory};
 use ix_residual::{Path, Residual};
 use ix_sheet::Problem;
-use ix_walks::{Forest, Network, Walk, grown, way};
 use std::alloc::Global;
 
 // whether all that the steps go against carries an amount
@@ -79,7 +80,7 @@ fn serve(
     let mut moved = false;
     'targets: for target in 0..p.ops.len() + 1 {
         if let Some(path) = open_path(alloc, forest, residual, target, network, times)? {
-            residual.augment(alloc, &path);
+            residual.augment(&path);
             paths.push(path)?;
             moved = true;
         }

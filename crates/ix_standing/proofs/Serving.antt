@@ -11,7 +11,6 @@ use Rattle.ix_behaviour.specs.Behaviours.{HasBehaviour}
 use Rattle.ix_graph_laws.specs.GraphEffects.{values_under}
 use Rattle.ix_graph_laws.specs.Laws.{GraphEffectLaw, ValuesLaw}
 use Rattle.ix_graph.specs.declared.graph.Graph.{Graph}
-use Rattle.ix_resolve.specs.Flags.{flags_at}
 use Rattle.ix_graph_laws.specs.Operations.{IsGraphOf, entries_in}
 use Rattle.ix_graphs.specs.Graphed.{IsGraphAt}
 use Rattle.ix_standing.specs.Standing.{instruction_number, block_number, behaviours_of, IsBuilt}
@@ -31,7 +30,7 @@ pub behaviour_is : (x : ExtensionTree) (k : ℕ) (w : Which) → slice_get (beha
 behaviour_is x k w h = All-contains (HasBehaviour x) (behaviours_of x) w (all_are x) (contains_from_slice_get (behaviours_of x) k w h)
 
 graph_is : (x : ExtensionTree) (w : Which) (g : Graph) → IsGraphAt x w (map entries_in x.tables) g → IsGraphOf x w g
-graph_is x w g h = record { ops = h.ops; few = h.few; targets = flags_at x w; flags = h.flags; tables_are = h.tables_are }
+graph_is x w g h = record { ops = h.ops; few = h.few; flags = h.flags; tables_are = h.tables_are }
 
 pub built_serve : GraphEffectLaw → ValuesLaw → BuiltLaw
 built_serve effect values t x sheet plans nets whole are k w p n which plan net i inputs =

@@ -9,7 +9,7 @@ use Rattle.ix_sheet.specs.declared.problem.Problem.{Problem}
 use Rattle.ix_sheet.specs.Schedules.{HasSchedule}
 use Rattle.ix_sheet.specs.Bounds.{arc_of, rooted, Meets, MeetsBound}
 use Rattle.ix_problem.specs.Constraints.{MeetWhereLegal}
-use Rattle.ix_walks.specs.Search.{no_arc, arc_at, IsFramed, IsInside, IsFeasible}
+use Rattle.ix_solve.specs.Search.{no_arc, arc_at, IsFramed, IsInside, IsFeasible}
 
 -- the times of the operations, counted from that of the root
 abbrev from_root : Problem → (ℕ → ℕ) → ℕ → ℕ

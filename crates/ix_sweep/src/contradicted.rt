@@ -7,8 +7,7 @@ ghost use Rattle.ix_sweep.specs.Periods.{IsDecided};
 use ix_bits::{List, Memory};
 use ix_problem::constraints;
 use ix_sheet::{Bound, Problem};
-use ix_solve::{cycle_of, network_of};
-use ix_walks::contradiction;
+use ix_solve::{contradiction, cycle_of, network_of};
 use std::alloc::Global;
 
 /// Bounds of a valid problem that contradict each other, or None where it has a legal schedule.

@@ -8,6 +8,7 @@ ghost use Rattle.ix_terms.specs.Places.{HasAll};
 ghost use Rattle.ix_terms.specs.Targets.{HasEntry, HasTargets};
 ghost use Rattle.ix_terms.specs.Effected.{HasStart, IsStarted, HasEffect};
 
+use crate::merges::asked;
 use crate::run::{Ends, run_all};
 use crate::term::{put_bit, u32_type};
 use crate::{Node, Source, Store, Target};
@@ -24,11 +25,13 @@ pub struct Effect {
 }
 
 /// What the statements of a behaviour do, from a start at which each slot is 0 and nothing is written. The time is linear
-/// in the statements, but for a comparison of all slots at each `if`. It answers `Memory` past 4 * 10^9 terms too.
+/// in the statements, but for a comparison of all slots at each `if`. It answers `Memory` past 4 * 10^9 terms too, and where
+/// the `if`s would compare more than 2^27 ends of slots and targets.
 pub fn effect_of(alloc: Global, source: &Source, body: &[ResolvedStmt]) -> Result<Effect, Memory>
     requires { IsTypedStatement (frame_of source.now.types) (view_statements source.now.tables body.now) }
     ensures { IfOk result (HasEffect source.now (view_statements source.now.tables body.now)) }
 {
+    asked(source, body)?;
     let tables = copied(alloc, source.tables.as_slice())?;
     let mut store = Store::new(alloc, tables);
     let mut loads = Vec::new(alloc);

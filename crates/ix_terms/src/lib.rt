@@ -5,6 +5,7 @@ mod branch;
 mod effect;
 mod make;
 mod merge;
+mod merges;
 mod node;
 mod run;
 mod slots;

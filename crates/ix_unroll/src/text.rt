@@ -6,6 +6,7 @@ ghost use Rattle.ix_tree.specs.Unrolling.{alone_instr, alone_block, alone_sectio
 ghost use Rattle.ix_unroll.specs.Telling.{Passes, Refuses, ComesWhere};
 
 use crate::UnrollErr;
+use crate::room::{Room, whole_room};
 use crate::scope::Scope;
 use crate::statement::alone;
 use ix_bits::{List, put};
@@ -49,20 +50,20 @@ fn unrolled_sections(alloc: Global, sections: List<Section>) -> Result<List<Sect
     ensures passed { OnOk result (first_refusal 0 (met_sections (map view_section sections)) ≡ None) }
     ensures refused { IfErr result (λ e. Refuses e 0 (met_sections (map view_section sections))) }
 {
-    let mut count = 0;
+    let mut room = whole_room();
     let mut out = Vec::new(alloc);
     for section in sections.into_vec() {
-        let section = unrolled_section(alloc, &mut count, section)?;
+        let section = unrolled_section(alloc, &mut room, section)?;
         put(&mut out, section)?;
     }
     Ok(List::from_vec(out))
 }
 
 // The section without loops.
-fn unrolled_section(alloc: Global, count: &mut u32, section: Section) -> Result<Section, UnrollErr>
+fn unrolled_section(alloc: Global, room: &mut Room, section: Section) -> Result<Section, UnrollErr>
     ensures tree { IfOk result (λ s. view_section s ≡ alone_section (view_section section)) }
-    ensures passed { OnOk result (Passes count.old (met_kind (view_section section).kind) count.new) }
-    ensures refused { IfErr result (λ e. Refuses e count.old (met_kind (view_section section).kind)) }
+    ensures passed { OnOk result (Passes room.old.statements (met_kind (view_section section).kind) room.new.statements) }
+    ensures refused { IfErr result (λ e. Refuses e room.old.statements (met_kind (view_section section).kind)) }
 {
     let Section { span, kind } = section;
     match kind {
@@ -71,14 +72,14 @@ fn unrolled_section(alloc: Global, count: &mut u32, section: Section) -> Result<
             kind: SectionKind::States(states),
         }),
         SectionKind::Instructions(all) => {
-            let all = unrolled_instructions(alloc, count, all)?;
+            let all = unrolled_instructions(alloc, room, all)?;
             Ok(Section {
                 span,
                 kind: SectionKind::Instructions(all),
             })
         }
         SectionKind::Always(all) => {
-            let all = unrolled_blocks(alloc, count, all)?;
+            let all = unrolled_blocks(alloc, room, all)?;
             Ok(Section {
                 span,
                 kind: SectionKind::Always(all),
@@ -89,27 +90,27 @@ fn unrolled_section(alloc: Global, count: &mut u32, section: Section) -> Result<
 
 fn unrolled_instructions(
     alloc: Global,
-    count: &mut u32,
+    room: &mut Room,
     all: List<Instr>,
 ) -> Result<List<Instr>, UnrollErr>
     ensures tree { IfOk result (λ xs. map view_instr xs ≡ map alone_instr (map view_instr all)) }
-    ensures passed { OnOk result (Passes count.old (met_instrs (map view_instr all)) count.new) }
-    ensures refused { IfErr result (λ e. Refuses e count.old (met_instrs (map view_instr all))) }
+    ensures passed { OnOk result (Passes room.old.statements (met_instrs (map view_instr all)) room.new.statements) }
+    ensures refused { IfErr result (λ e. Refuses e room.old.statements (met_instrs (map view_instr all))) }
 {
     let mut out = Vec::new(alloc);
     for instr in all.into_vec() {
-        let instr = unrolled_instruction(alloc, count, instr)?;
+        let instr = unrolled_instruction(alloc, room, instr)?;
         put(&mut out, instr)?;
     }
     Ok(List::from_vec(out))
 }
 
-fn unrolled_instruction(alloc: Global, count: &mut u32, instr: Instr) -> Result<Instr, UnrollErr>
+fn unrolled_instruction(alloc: Global, room: &mut Room, instr: Instr) -> Result<Instr, UnrollErr>
     ensures tree { IfOk result (λ x. view_instr x ≡ alone_instr (view_instr instr)) }
-    ensures passed { OnOk result (Passes count.old (met (view_whole instr.body) []) count.new) }
-    ensures refused { IfErr result (λ e. Refuses e count.old (met (view_whole instr.body) [])) }
+    ensures passed { OnOk result (Passes room.old.statements (met (view_whole instr.body) []) room.new.statements) }
+    ensures refused { IfErr result (λ e. Refuses e room.old.statements (met (view_whole instr.body) [])) }
 {
-    match alone(alloc, &Scope::Outside, count, &instr.body) {
+    match alone(alloc, &Scope::Outside, room, &instr.body) {
         Err(error) => {
             drop(instr);
             Err(error)
@@ -139,27 +140,27 @@ fn with_body(instr: Instr, body: Stmt) -> Instr
 
 fn unrolled_blocks(
     alloc: Global,
-    count: &mut u32,
+    room: &mut Room,
     all: List<BlockText>,
 ) -> Result<List<BlockText>, UnrollErr>
     ensures tree { IfOk result (λ xs. map view_block xs ≡ map alone_block (map view_block all)) }
-    ensures passed { OnOk result (Passes count.old (met_blocks (map view_block all)) count.new) }
-    ensures refused { IfErr result (λ e. Refuses e count.old (met_blocks (map view_block all))) }
+    ensures passed { OnOk result (Passes room.old.statements (met_blocks (map view_block all)) room.new.statements) }
+    ensures refused { IfErr result (λ e. Refuses e room.old.statements (met_blocks (map view_block all))) }
 {
     let mut out = Vec::new(alloc);
     for block in all.into_vec() {
-        let block = unrolled_block(alloc, count, block)?;
+        let block = unrolled_block(alloc, room, block)?;
         put(&mut out, block)?;
     }
     Ok(List::from_vec(out))
 }
 
-fn unrolled_block(alloc: Global, count: &mut u32, block: BlockText) -> Result<BlockText, UnrollErr>
+fn unrolled_block(alloc: Global, room: &mut Room, block: BlockText) -> Result<BlockText, UnrollErr>
     ensures tree { IfOk result (λ x. view_block x ≡ alone_block (view_block block)) }
-    ensures passed { OnOk result (Passes count.old (met (view_whole block.body) []) count.new) }
-    ensures refused { IfErr result (λ e. Refuses e count.old (met (view_whole block.body) [])) }
+    ensures passed { OnOk result (Passes room.old.statements (met (view_whole block.body) []) room.new.statements) }
+    ensures refused { IfErr result (λ e. Refuses e room.old.statements (met (view_whole block.body) [])) }
 {
-    match alone(alloc, &Scope::Outside, count, &block.body) {
+    match alone(alloc, &Scope::Outside, room, &block.body) {
         Err(error) => {
             drop(block);
             Err(error)

@@ -8,7 +8,9 @@ ghost use Rattle.ix_unroll.specs.Turning.{head_of, StepIs, ErrIs};
 
 use crate::UnrollErr;
 use crate::assigned::{is_variable, touches};
+use crate::room::taken;
 use crate::scope::Scope;
+use crate::size::{size_of_judging, size_of_turn};
 use crate::value::{head_value, holds, in_int, stepped};
 use ix_bits::Value;
 use ix_tree::{Loop, Span};
@@ -63,6 +65,7 @@ fn next(scope: &Scope, head: &Loop, v: i32) -> Option<Value>
 fn turns(
     alloc: Global,
     scope: &Scope,
+    steps: &mut usize,
     span: Span,
     head: &Loop,
     first: Value,
@@ -70,9 +73,11 @@ fn turns(
     ensures values { IfOk result (λ vs. turns_from most_turns (bindings scope.now) (head_of head.now) (seen_option (Some first)) ≡ these vs.items) }
     ensures broken { IfErr result (λ e. ErrIs e span (turns_from most_turns (bindings scope.now) (head_of head.now) (seen_option (Some first)))) }
 {
+    let size = size_of_turn(head);
     let mut values = Vec::new(alloc);
     let mut value = Some(first);
     for _ in 0..MOST_TURNS {
+        taken(steps, size)?;
         match tried(scope, head, value) {
             Step::Bound => return Err(UnrollErr::Bound { span }),
             Step::End => return Ok(values),
@@ -89,8 +94,15 @@ fn turns(
     }
 }
 
-/// The values of the loop's variable, one for each turn, or the rule that the loop breaks.
-pub fn judged(alloc: Global, scope: &Scope, span: Span, head: &Loop) -> Result<Vec<i32>, UnrollErr>
+/// The values of the loop's variable, one for each turn, or the rule that the loop breaks. `steps` is the count of the nodes
+/// that may still be looked at.
+pub fn judged(
+    alloc: Global,
+    scope: &Scope,
+    steps: &mut usize,
+    span: Span,
+    head: &Loop,
+) -> Result<Vec<i32>, UnrollErr>
     ensures values { IfOk result (λ vs. judged (bindings scope.now) (head_of head.now) (view_whole head.now.body) ≡ these vs.items) }
     ensures broken { IfErr result (λ e. ErrIs e span (judged (bindings scope.now) (head_of head.now) (view_whole head.now.body))) }
 {
@@ -98,9 +110,10 @@ pub fn judged(alloc: Global, scope: &Scope, span: Span, head: &Loop) -> Result<V
     if !is_variable(name, &head.last.target.kind) {
         return Err(UnrollErr::Bound { span });
     }
+    taken(steps, size_of_judging(head))?;
     match head_value(scope, &head.start) {
         None => Err(UnrollErr::Bound { span }),
-        Some(first) => started(alloc, scope, span, head, first),
+        Some(first) => started(alloc, scope, steps, span, head, first),
     }
 }
 
@@ -108,6 +121,7 @@ pub fn judged(alloc: Global, scope: &Scope, span: Span, head: &Loop) -> Result<V
 fn started(
     alloc: Global,
     scope: &Scope,
+    steps: &mut usize,
     span: Span,
     head: &Loop,
     first: Value,
@@ -123,7 +137,7 @@ fn started(
             }
         }
     }
-    let values = turns(alloc, scope, span, head, first)?;
+    let values = turns(alloc, scope, steps, span, head, first)?;
     if touches(head.name.as_str(), &head.body) {
         Err(UnrollErr::Assigned { span })
     } else {

@@ -1,13 +1,13 @@
 -- Why an instruction is turned, test by test.
 use Rattle.std.proofs.Common.{◌≡◌, ◌∙◌, refl, sym, ap, ℕ, List, [], ◌∷◌, Option, Some, None, Bool, true, false, arith}
-use Rattle.std.specs.Prelude.{find, option_map, get_or, if◌then◌else◌, ◌==◌}
+use Rattle.std.specs.Prelude.{find, option_map, get_or, if◌then◌else◌, ◌==◌, ◌&&◌, ◌||◌, not}
 use Rattle.std.specs.Option.{option_or}
 use Rattle.std.proofs.lemmas.Bool.Decides.{nat_tests}
 use Rattle.rv_asks.specs.declared.asks.Asks.{Asks}
 use Rattle.rv_harts.specs.declared.row.Turn.{Turn}
 use Rattle.rv_harts.specs.declared.row.Turn.TheVariants as turns
 use Rattle.rv_harts.specs.Harts.{Fetched}
-use Rattle.rv_harts.specs.Turns.{eldest, board_of, operand_turn, custom_turn, late_turn, unit_of, unit_turn, drain_turn, reading_turn, executing_turn}
+use Rattle.rv_harts.specs.Turns.{eldest, board_of, operand_of, operand_turn, custom_turn, late_turn, unit_of, unit_turn, drain_turn, reading_turn, executing_turn}
 use Rattle.rv_holds.proofs.Least.{count_is}
 use Rattle.rv_holds.proofs.Spawns.{no_target}
 use Rattle.rv_holds.specs.Holds.{least_from, register_at}
@@ -16,7 +16,7 @@ use Rattle.rv_lawful.specs.Outstanding.{has_target, touches}
 use Rattle.rv_lawful.specs.Settings.{Setting}
 use Rattle.rv_barrel.specs.declared.turning.Wait.{Wait}
 use Rattle.rv_barrel.specs.declared.turning.Wait.TheVariants as waits
-use Rattle.rv_barrel.specs.declared.older.Wanted.TheVariants.{Destination, Target, Spawner, LateCustom, Late, InUnit}
+use Rattle.rv_barrel.specs.declared.older.Wanted.TheVariants.{Destination, Either, Target, Spawner, LateCustom, Late, InUnit}
 use Rattle.rv_barrel.specs.Older.{asked_so}
 use Rattle.rv_barrel.specs.Turning.{waited}
 
@@ -57,6 +57,20 @@ none_spawned k c wr none n = by (touches (k.asks c.word) (register_at n)) where
   by : (b : Bool) → (if b then eldest (λ (d : Fetched). has_target (k.asks d.word) (register_at n)) wr else None) ≡ None
   by true = none_found (asked_so k Spawner) (λ (d : Fetched). has_target (k.asks d.word) (register_at n)) (λ d e. no_target (k.asks d.word) n e) wr none
   by false = refl
+
+-- what is neither register does not write one that is read
+not_read : (d f s n : ℕ) → (not (n == 0) && ((n == f) || (n == s))) ≡ true → (not (d == 0) && ((d == f) || (d == s))) ≡ false → (d == n) ≡ false
+not_read d f s n is none = by (d == n) refl where
+  by : (b : Bool) → (d == n) ≡ b → b ≡ false
+  by true same = let e : d ≡ n = grind (arith, nat_tests, same) in sym is ∙ sym (ap (λ (v : ℕ). not (v == 0) && ((v == f) || (v == s))) e) ∙ none
+  by false same = refl
+
+-- where none of these writes a register that is read, none is waited for
+pub none_written : (k : Setting) (c : Fetched) (un : List Fetched) → eldest (asked_so k (Either (k.asks c.word).first (k.asks c.word).second)) un ≡ None → (n : ℕ) → operand_of k c un n ≡ None
+none_written k c un none n = by (reads_of (k.asks c.word) n) refl where
+  by : (b : Bool) → reads_of (k.asks c.word) n ≡ b → (if b then eldest (λ (d : Fetched). (k.asks d.word).destination == n) un else None) ≡ None
+  by true is = none_found (asked_so k (Either (k.asks c.word).first (k.asks c.word).second)) (λ (d : Fetched). (k.asks d.word).destination == n) (λ d e. not_read (k.asks d.word).destination (k.asks c.word).first (k.asks c.word).second n is e) un none
+  by false is = refl
 
 -- RD
 

@@ -1,5 +1,5 @@
 -- Which older instructions are looked for (this project's choice).
-use Rattle.std.specs.Prelude.{ℕ, ◌<◌, List, filter, suc, get_or, Option, Some, None, Bool, true, false, not, ◌==◌, ◌&&◌, is_none, if◌then◌else◌}
+use Rattle.std.specs.Prelude.{ℕ, ◌<◌, List, filter, suc, get_or, Option, Some, None, Bool, true, false, not, ◌==◌, ◌&&◌, ◌||◌, is_none, if◌then◌else◌}
 use Rattle.rv_asks.specs.declared.asks.Asks.{Asks}
 use Rattle.rv_harts.specs.Harts.{Fetched}
 use Rattle.rv_holds.specs.Holds.{register_at}
@@ -9,11 +9,12 @@ use Rattle.rv_lawful.specs.Settings.{Setting}
 use Rattle.rv_unit.specs.Entries.{is_number}
 use Rattle.rv_barrel.specs.declared.cell.InFlight.{InFlight}
 use Rattle.rv_barrel.specs.declared.older.Wanted.{Wanted}
-use Rattle.rv_barrel.specs.declared.older.Wanted.TheVariants.{Destination, Target, Spawner, LateCustom, Late, InUnit, Any}
+use Rattle.rv_barrel.specs.declared.older.Wanted.TheVariants.{Destination, Either, Target, Spawner, LateCustom, Late, InUnit, Any}
 
 -- there is such a register
 abbrev pub IsWanted : Wanted → Type 0
 IsWanted (Destination r) = Unit
+IsWanted (Either r s) = Unit
 IsWanted (Target n) = n < 48
 IsWanted Spawner = Unit
 IsWanted (LateCustom r) = r < 16
@@ -24,6 +25,7 @@ IsWanted Any = Unit
 -- what is asked of an instruction that is looked for
 abbrev pub meets : Wanted → Asks → Bool
 meets (Destination r) a = a.destination == r
+meets (Either r s) a = not (a.destination == 0) && ((a.destination == r) || (a.destination == s))
 meets (Target n) a = has_target a (register_at n)
 meets Spawner a = has_targets a
 meets (LateCustom r) a = get_or a.late_customs r false

@@ -5,6 +5,7 @@ ghost use Rattle.rv_harts.specs.Turns.{eldest};
 ghost use Rattle.rv_lawful.specs.Settings.{Setting};
 ghost use Rattle.rv_unit.specs.Entries.{is_number};
 ghost use Rattle.rv_barrel.specs.Cells.{fetched_of, AreAsked, AreOwed};
+ghost use Rattle.rv_barrel.specs.declared.older.Wanted.TheVariants.{Either};
 ghost use Rattle.rv_barrel.specs.Older.{IsWanted, meets, asked_so, any_one, kept_of, serial_so, serial_left, does_end};
 
 use crate::cell::{InFlight, Owed};
@@ -17,6 +18,8 @@ use rv_holds::{does_spawn, spawns_any};
 pub enum Wanted {
     /// It writes this x register, and not by `spawn`.
     Destination(u8),
+    /// It writes one of these two x registers, and not by `spawn`.
+    Either(u8, u8),
     /// Its `spawn` body writes this register, given by its number: 32 of the base, then the custom ones.
     Target(u8),
     /// Its `spawn` body writes a register.
@@ -31,6 +34,13 @@ pub enum Wanted {
     Any,
 }
 
+// Does an instruction write one of these x registers, and not by `spawn`?
+fn writes_either(asks: &Asks, first: u8, second: u8) -> bool
+    ensures { result ≡ meets (Either first second) asks.now }
+{
+    asks.destination != 0 && (asks.destination == first || asks.destination == second)
+}
+
 // Is it one that is looked for?
 fn is_wanted(asks: &Asks, wanted: Wanted) -> bool
     requires { IsWanted wanted }
@@ -38,6 +48,7 @@ fn is_wanted(asks: &Asks, wanted: Wanted) -> bool
 {
     match wanted {
         Wanted::Destination(register) => asks.destination == register,
+        Wanted::Either(first, second) => writes_either(asks, first, second),
         Wanted::Target(number) => does_spawn(asks, number),
         Wanted::Spawner => spawns_any(asks),
         Wanted::LateCustom(register) => asks.late_customs[usize::from(register)],

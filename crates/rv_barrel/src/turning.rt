@@ -1,7 +1,7 @@
 ghost use Rattle.std.specs.Prelude.{◌≡◌, ◌++◌, ◌+◌, ◌<◌, ◌≤◌, ◌==◌, None, if◌then◌else◌, ℕ, List, suc, length, reverse};
 ghost use Rattle.rv_harts.specs.Harts.{Fetched};
 ghost use Rattle.rv_harts.specs.Events.{standing as standing_of, undone};
-ghost use Rattle.rv_harts.specs.Turns.{board_of, unit_turn, drain_turn, reading_turn, executing_turn, stop_due as specified_stop_due, turn_of as specified_turn_of};
+ghost use Rattle.rv_harts.specs.Turns.{board_of, operand_of, unit_turn, drain_turn, reading_turn, executing_turn, stop_due as specified_stop_due, turn_of as specified_turn_of};
 ghost use Rattle.rv_holds.specs.Holds.{least_from, register_at as specified_register_at};
 ghost use Rattle.rv_lawful.specs.LawfulTrace.{reads_of};
 ghost use Rattle.rv_lawful.specs.Settings.{Setting};
@@ -96,6 +96,16 @@ fn least_wait(
     None
 }
 
+// The least x register that an instruction reads and an older one writes, and whose write that is. Where none writes one of both, none is looked for register by register.
+fn least_operand(asks: &Asks, owed: &[Owed], older: &[Option<InFlight>]) -> Option<(u8, u32)>
+    ensures { (k : Setting) (q : ℕ) (all : List Fetched) (c : Fetched) → asks.now ≡ k.asks c.word → AreAsked k older.now → AreOwed k owed.now all → result ≡ least_from (operand_of k c (reverse (standing_of (fetched_of q older.now)))) 0 32 }
+{
+    match eldest_standing(older, Wanted::Either(asks.first, asks.second)) {
+        None => None,
+        Some(_) => least_wait(Wait::Operand, asks, owed, older, BASE),
+    }
+}
+
 // The least register with an outstanding write that an instruction reads or writes, and whose it is. Where nothing is to be written later, none is looked for register by register.
 fn least_outstanding(asks: &Asks, owed: &[Owed], older: &[Option<InFlight>]) -> Option<(u8, u32)>
     ensures { (k : Setting) (q : ℕ) (all : List Fetched) (c : Fetched) → asks.now ≡ k.asks c.word → AreAsked k older.now → AreOwed k owed.now all → result ≡ least_from (board_of k c (all ++ reverse (standing_of (fetched_of q older.now)))) 0 48 }
@@ -121,7 +131,7 @@ fn register_at(number: u8) -> Target
 fn reading(asks: &Asks, owed: &[Owed], older: &[Option<InFlight>]) -> Option<Turn>
     ensures { (k : Setting) (q : ℕ) (all : List Fetched) (c : Fetched) → asks.now ≡ k.asks c.word → AreAsked k older.now → AreOwed k owed.now all → result ≡ reading_turn k c (reverse (standing_of (fetched_of q older.now))) (all ++ reverse (standing_of (fetched_of q older.now))) }
 {
-    if let Some((register, serial)) = least_wait(Wait::Operand, asks, owed, older, BASE) {
+    if let Some((register, serial)) = least_operand(asks, owed, older) {
         return Some(Turn::Operand(register, serial));
     }
     if let Some((number, serial)) = least_outstanding(asks, owed, older) {

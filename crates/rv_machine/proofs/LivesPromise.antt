@@ -15,7 +15,7 @@ use Rattle.ix_net.specs.Valuation.{inputs_of}
 use Rattle.ix_plan.specs.declared.design.Design.{Design}
 use Rattle.ix_plan.specs.declared.design.Plan.{Plan}
 use Rattle.ix_plan.specs.Service.{Carries, Shows, ShowsTerms}
-use Rattle.ix_resolve.specs.Flags.{flags_at}
+use Rattle.ix_behaviour.specs.Flags.{flags_at}
 use Rattle.ix_standing.specs.Served.{ServedLaw}
 use Rattle.rv_core.specs.declared.Shape.{Shape}
 use Rattle.rv_engine.specs.Settings.{setting}

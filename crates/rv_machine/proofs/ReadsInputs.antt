@@ -22,7 +22,6 @@ use Rattle.ix_graph_laws.specs.Operations.{IsGraphOf}
 use Rattle.ix_plan.specs.declared.design.Plan.{Plan}
 use Rattle.ix_sheet.specs.declared.sheet.Sheet.{Sheet}
 use Rattle.ix_standing.specs.Standing.{IsPlanned}
-use Rattle.ix_resolve.specs.Flags.{flags_at}
 use Rattle.rv_seq.specs.Memory.{peeked}
 use Rattle.rv_seq.specs.WordEffects.{AreWide}
 use Rattle.rv_isa.specs.Fields.{rs1_of, rs2_of}
@@ -43,7 +42,7 @@ pub record GraphLaws : Type 0 where
   pub blocks : (t : TypedTextTree) (x : ExtensionTree) (n : ℕ) (g : Graph) → IsOf t x → HasBehaviour x (W.Block n) → IsGraphOf x (W.Block n) g → (j : ℕ) (op : Op) → slice_get g.ops j ≡ Some op → ReadsCustoms op.kind
 
 pub graph_of : (x : ExtensionTree) (sheet : Sheet) (w : Which) (p : Plan) → IsPlanned x sheet w p → IsGraphOf x w p.graph
-graph_of x sheet w p h = record { ops = h.graph.ops; few = h.graph.few; targets = flags_at x w; flags = h.graph.flags; tables_are = h.graph.tables_are }
+graph_of x sheet w p h = record { ops = h.graph.ops; few = h.graph.few; flags = h.graph.flags; tables_are = h.graph.tables_are }
 
 -- ---- what is seen is in range
 

@@ -1,3 +1,4 @@
 pub mod Wide
 pub mod Soundness
 pub mod Customs
+pub mod NamedAccesses

@@ -10,3 +10,4 @@ pub mod Decoding
 pub mod Memory
 pub mod BaseEffects
 pub mod WordEffects
+pub mod Accesses

@@ -11,7 +11,7 @@ use Rattle.ix_behaviour.specs.declared.which.Which.{Which}
 use Rattle.ix_behaviour.specs.declared.which.Which.TheVariants as W
 use Rattle.ix_behaviour.specs.Behaviours.{HasBehaviour}
 use Rattle.ix_behaviour.specs.Laws.{FewLaw}
-use Rattle.ix_resolve.specs.Flags.{flags_at}
+use Rattle.ix_behaviour.specs.Flags.{flags_at}
 use Rattle.ix_flow.specs.Flows.{flag_of}
 use Rattle.ix_graph.specs.declared.graph.Op.{Op}
 use Rattle.ix_graph.specs.declared.graph.Graph.{Graph}

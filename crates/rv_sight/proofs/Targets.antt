@@ -8,7 +8,7 @@ use Rattle.std.proofs.lemmas.Option.{same_Some}
 use Rattle.ix_extension.specs.Extensions.{ExtensionTree}
 use Rattle.ix_behaviour.specs.declared.which.Which.{Which}
 use Rattle.ix_behaviour.specs.Behaviours.{spawned_at, targets_at, type_of_register}
-use Rattle.ix_resolve.specs.Flags.{unmarked, marked, flags_at}
+use Rattle.ix_behaviour.specs.Flags.{unmarked, marked, flags_at}
 use Rattle.ix_flow.specs.Flows.{target_of, flag_at, flag_of}
 use Rattle.ix_graph.specs.declared.kind.Kind.{Kind}
 use Rattle.ix_graph.specs.declared.kind.Kind.TheVariants as k

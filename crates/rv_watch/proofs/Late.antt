@@ -26,7 +26,6 @@ use Rattle.ix_terms.specs.Places.{IsOperation}
 use Rattle.ix_flow.specs.Flows.{kind_of_term, args_of_term, IsOpOf, AreArgsOf, AreOpsOf, target_of}
 use Rattle.ix_graph_laws.specs.Laws.{ValidLaw}
 use Rattle.ix_graph_laws.specs.Operations.{IsGraphOf}
-use Rattle.ix_resolve.specs.Flags.{flags_at}
 use Rattle.ix_plan.specs.declared.design.Plan.{Plan}
 use Rattle.ix_plan.specs.declared.design.Design.{Design}
 use Rattle.ix_standing.specs.Standing.{instruction_number, block_number, behaviours_of, IsPlanned, Stands}
@@ -367,7 +366,7 @@ module _ (d : Design) (stands : Stands d) (valid : ValidLaw) where
   written_within w p has planned c h =
       let r = act_from p (acts.writes_late d.sheet.shape.ex c) 0 p.graph.ops h in
       let kind = (and_parts (acts.is_late d.sheet.shape.ex (acts.act_at p r.number r.op)) (acts.is_custom_write c r.op.kind) r.yes).1 in
-      let graph : IsGraphOf x w p.graph = record { ops = planned.graph.ops; few = planned.graph.few; targets = flags_at x w; flags = planned.graph.flags; tables_are = planned.graph.tables_are } in
+      let graph : IsGraphOf x w p.graph = record { ops = planned.graph.ops; few = planned.graph.few; flags = planned.graph.flags; tables_are = planned.graph.tables_are } in
       let good = valid stands.well_formed.0 x w p.graph stands.well_formed.1 has graph in
       let within = within_entries (loads one_term (statement_at x w) (start (frame_at x w))) (effect_terms (frame_at x w) (statement_at x w)).targets p.graph planned.graph.ops good (3 + c) r.place r.op r.is (custom_target c r.op.kind kind) in
       let few = entries_few x w in

@@ -144,7 +144,7 @@ fn replay(
 {
     let mut residual = Residual::new(alloc, p, bounds)?;
     'paths: for path in paths {
-        residual.augment(alloc, path);
+        residual.augment(path);
     }
     Ok(residual)
 }

@@ -11,7 +11,7 @@ use Rattle.ix_behaviour.specs.Behaviours.{stored_in, targets_at}
 use Rattle.ix_slots.specs.Found.{entries_of}
 use Rattle.ix_slots.specs.Made.{made_row}
 use Rattle.ix_slots.specs.Spawned.{spawned_among}
-use Rattle.ix_resolve.specs.Flags.{unmarked, marked}
+use Rattle.ix_behaviour.specs.Flags.{unmarked, marked}
 use Rattle.ix_resolve.proofs.Resolving.{names_are, body_made, spawned_made, statement_made, frame_made}
 use Rattle.ix_resolve.proofs.behaviour.resolve.Goals as goal
 

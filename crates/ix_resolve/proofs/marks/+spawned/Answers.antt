@@ -2,7 +2,7 @@ use Rattle.std.proofs.Common.{◌≡◌, ◌∙◌, ap, sym, ◌+◌, ℕ, ◌++
 use Rattle.ix_mean.specs.declared.resolved.ResolvedStmt.{ResolvedStmt}
 use Rattle.ix_slots.specs.Spawned.{spawned_in, spawned_among}
 use Rattle.ix_slots.proofs.Spawns.{spawned_block}
-use Rattle.ix_resolve.specs.Flags.{marked}
+use Rattle.ix_behaviour.specs.Flags.{marked}
 use Rattle.ix_resolve.proofs.FlagLists.{marked_both, spawned_rest}
 use Rattle.ix_resolve.proofs.marks.+spawned.Goals as goal
 

@@ -1,6 +1,6 @@
 use Rattle.std.proofs.Common.{◌≡◌, drop}
 use Rattle.ix_slots.specs.Spawned.{written_among}
-use Rattle.ix_resolve.specs.Flags.{marked}
+use Rattle.ix_behaviour.specs.Flags.{marked}
 use Rattle.ix_resolve.proofs.marks.+written.Given as goal
 
 abbrev pub invariant-mark_all_written-loop-x : goal.invariant-mark_all_written-loop-x

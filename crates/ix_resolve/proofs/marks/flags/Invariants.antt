@@ -1,5 +1,5 @@
 use Rattle.std.proofs.Common.{◌≡◌, ◌++◌, ◌-◌, drop, length, map}
-use Rattle.ix_resolve.specs.Flags.{unmarked}
+use Rattle.ix_behaviour.specs.Flags.{unmarked}
 use Rattle.ix_resolve.proofs.marks.flags.Given as goal
 
 abbrev pub invariant-loop-flags : goal.invariant-loop-flags

@@ -2,7 +2,7 @@ use Rattle.std.proofs.Common.{ℕ, ◌<◌, get_or, refl, arith}
 use Rattle.std.specs.Prelude.{sum_by}
 use Rattle.ix_residual.specs.declared.residual.Path.{Path}
 use Rattle.ix_residual.specs.Residuals.{need_of}
-use Rattle.ix_walks.specs.Networks.{IsResidual}
+use Rattle.ix_solve.specs.Networks.{IsResidual}
 use Rattle.ix_solve.specs.State.{IsOnWay}
 use Rattle.ix_solve.proofs.Found.{feasible_by}
 use Rattle.ix_solve.proofs.Meeting.{first_network, network_after, state_at_first, way_found, none_left, met_along, on_own_bounds}

@@ -1,6 +1,6 @@
 use Rattle.std.specs.Prelude.{sum_by}
 use Rattle.ix_residual.specs.Residuals.{need_of}
-use Rattle.ix_walks.specs.Forests.{AreTouching}
+use Rattle.ix_solve.specs.Forests.{AreTouching}
 use Rattle.ix_solve.specs.State.{IsState, IsReplay, IsNetworkOf}
 use Rattle.ix_solve.proofs.meet.meet.Given as goal
 

@@ -2,7 +2,7 @@ use Rattle.std.proofs.Common.{◌≡◌, map, arith}
 use Rattle.ix_sheet.specs.Bounds.{IsContradiction}
 use Rattle.ix_sheet.proofs.Cycles.{no_schedule}
 use Rattle.ix_residual.specs.Residuals.{bound_at}
-use Rattle.ix_walks.specs.Search.{IsClosed}
+use Rattle.ix_solve.specs.Search.{IsClosed}
 use Rattle.ix_solve.proofs.Balanced.{even_balances}
 use Rattle.ix_solve.proofs.Links.{arcs_for, contradiction}
 use Rattle.ix_solve.proofs.Meeting.{optimal}

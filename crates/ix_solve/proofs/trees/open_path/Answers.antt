@@ -1,5 +1,5 @@
 use Rattle.std.proofs.Common.{◌≡◌, ◌∙◌, sym, get_or, refl}
-use Rattle.ix_walks.specs.Networks.{IsTightPath}
+use Rattle.ix_solve.specs.Networks.{IsTightPath}
 use Rattle.ix_solve.specs.State.{are_carried}
 use Rattle.ix_solve.proofs.trees.open_path.Goals as goal
 

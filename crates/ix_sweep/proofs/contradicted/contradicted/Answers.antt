@@ -1,7 +1,7 @@
 use Rattle.std.proofs.Common.{◌≡◌, refl, map, length}
 use Rattle.ix_sheet.specs.Bounds.{IsContradiction}
 use Rattle.ix_residual.specs.Residuals.{bound_at}
-use Rattle.ix_walks.specs.Search.{IsClosed, IsFeasible, IsFramed}
+use Rattle.ix_solve.specs.Search.{IsClosed, IsFeasible, IsFramed}
 use Rattle.ix_solve.proofs.Links.{arcs_for, contradiction}
 use Rattle.ix_sweep.proofs.Feasible.{schedule_from}
 use Rattle.ix_sweep.proofs.contradicted.contradicted.Goals as goal

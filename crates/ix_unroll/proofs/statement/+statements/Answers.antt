@@ -34,13 +34,13 @@ alone-returns-in-Block-clause-tree t c =
 pub alone-returns-in-Block-clause-passed : goal.alone-returns-in-Block-clause-passed
 alone-returns-in-Block-clause-passed t c =
     let bs = bindings c.args.scope.now in
-    let P : StmtTree → Type 0 = λ y. OnOk c.blocked.result (Passes c.args.count.now (met y bs) c.blocked.new.count) in
+    let P : StmtTree → Type 0 = λ y. OnOk c.blocked.result (Passes c.args.room.now.statements (met y bs) c.blocked.new.room.statements) in
     subst P (block_is c.args.stmt.now c.in-Block.all c.as_slice.result.now c.in-Block.is c.as_slice.ensures) c.blocked.ensures.passed
 
 pub alone-returns-in-Block-clause-refused : goal.alone-returns-in-Block-clause-refused
 alone-returns-in-Block-clause-refused t c =
     let bs = bindings c.args.scope.now in
-    let P : StmtTree → Type 0 = λ y. IfErr c.blocked.result (λ d. Refuses d c.args.count.now (met y bs)) in
+    let P : StmtTree → Type 0 = λ y. IfErr c.blocked.result (λ d. Refuses d c.args.room.now.statements (met y bs)) in
     subst P (block_is c.args.stmt.now c.in-Block.all c.as_slice.result.now c.in-Block.is c.as_slice.ensures) c.blocked.ensures.refused
 
 pub alone-returns-in-Err-clause-refused : goal.alone-returns-in-Err-clause-refused
@@ -49,38 +49,38 @@ alone-returns-in-Err-clause-refused t c =
     let bs = bindings c.args.scope.now in
     let s = c.args.stmt.now.span in
     let e : view_whole c.args.stmt.now ≡ s_if_else s (view k.condition) (view_whole k.x.value) (view_whole k.y.value) = search (rules, the_lemmas) in
-    let P : Stmt → Type 0 = λ x. Refuses c.in-Err.error c.counted-in-If-default-default-Some.new.count (met (view_whole x) bs) in
+    let P : Stmt → Type 0 = λ x. Refuses c.in-Err.error c.counted-in-If-default-default-Some.new.room.statements (met (view_whole x) bs) in
     let f = subst P c.deref-in-If-default-default-Some.ensures c.in-Err.ensures.refused in
-    let whole = going_step (statement s ∷ []) (met (view_whole k.x.value) bs ++ met (view_whole k.y.value) bs) (going_start c.args.count.now _) c.in_ok-counted-in-If-default-default-Some.ensures.passed in
+    let whole = going_step (statement s ∷ []) (met (view_whole k.x.value) bs ++ met (view_whole k.y.value) bs) (going_start c.args.room.now.statements _) c.in_ok-counted-in-If-default-default-Some.ensures.passed in
     rw e (going_refuse c.in-Err.error (met (view_whole k.x.value) bs) (met (view_whole k.y.value) bs) whole f)
 
 pub alone-returns-in-Ok-clause-passed : goal.alone-returns-in-Ok-clause-passed
 alone-returns-in-Ok-clause-passed t c =
     let k = c.in-If-default-default-Some in
     let bs = bindings c.args.scope.now in
-    let n = c.args.count.now in
+    let n = c.args.room.now.statements in
     let s = c.args.stmt.now.span in
     let y = c.deref-in-Ok.result.now in
     let mx = met (view_whole k.x.value) bs in
     let my = met (view_whole y) bs in
     let e : view_whole c.args.stmt.now ≡ s_if_else s (view k.condition) (view_whole k.x.value) (view_whole y) = search (rules, the_lemmas) in
-    let Px : Stmt → Type 0 = λ x. Passes c.counted-in-If-default-default-Some.new.count (met (view_whole x) bs) c.alone-in-If-default-default-Some.new.count in
+    let Px : Stmt → Type 0 = λ x. Passes c.counted-in-If-default-default-Some.new.room.statements (met (view_whole x) bs) c.alone-in-If-default-default-Some.new.room.statements in
     let px = subst Px c.deref-in-If-default-default-Some.ensures c.in-Ok.ensures.passed in
-    rw e (ok_passes c.choice_else.result c.alone-y.result (Passes c.alone-in-If-default-default-Some.new.count my c.alone-y.new.count) (Passes n ((statement s ∷ []) ++ (mx ++ my)) c.alone-y.new.count) c.choice_else.ensures.ok c.alone-y.ensures.passed
+    rw e (ok_passes c.choice_else.result c.alone-y.result (Passes c.alone-in-If-default-default-Some.new.room.statements my c.alone-y.new.room.statements) (Passes n ((statement s ∷ []) ++ (mx ++ my)) c.alone-y.new.room.statements) c.choice_else.ensures.ok c.alone-y.ensures.passed
     (λ q. passes_join c.in_ok-counted-in-If-default-default-Some.ensures.passed (passes_join px q)))
 
 pub alone-returns-in-Ok-clause-refused : goal.alone-returns-in-Ok-clause-refused
 alone-returns-in-Ok-clause-refused t c =
     let k = c.in-If-default-default-Some in
     let bs = bindings c.args.scope.now in
-    let n = c.args.count.now in
+    let n = c.args.room.now.statements in
     let s = c.args.stmt.now.span in
     let y = c.deref-in-Ok.result.now in
     let mx = met (view_whole k.x.value) bs in
     let my = met (view_whole y) bs in
     let e : view_whole c.args.stmt.now ≡ s_if_else s (view k.condition) (view_whole k.x.value) (view_whole y) = search (rules, the_lemmas) in
-    let m = c.alone-in-If-default-default-Some.new.count in
-    let Px : Stmt → Type 0 = λ x. Passes c.counted-in-If-default-default-Some.new.count (met (view_whole x) bs) m in
+    let m = c.alone-in-If-default-default-Some.new.room.statements in
+    let Px : Stmt → Type 0 = λ x. Passes c.counted-in-If-default-default-Some.new.room.statements (met (view_whole x) bs) m in
     let px = subst Px c.deref-in-If-default-default-Some.ensures c.in-Ok.ensures.passed in
     let front = passes_join c.in_ok-counted-in-If-default-default-Some.ensures.passed px in
     rw e (else_refused c.choice_else.result c.alone-y.result (λ d. Refuses d m my) (λ d. Refuses d n (((statement s ∷ []) ++ mx) ++ my)) c.choice_else.ensures.err c.alone-y.ensures.refused tt
@@ -111,7 +111,7 @@ copies-returns-in_err-opened-clause-refused t c =
     let turn = turn_is c.as_str.result.now n v _ bs c.as_str.ensures.text (to_z-of_z w32 v fits) in
     let s = c.args.span in
     let rest = copy_marks s marks (drop (k + 1) vs) in
-    let P : List Binding → Type 0 = λ env. Refuses c.in_err-opened.field-0.0 c.counted.new.count (row_marks body env) in
+    let P : List Binding → Type 0 = λ env. Refuses c.in_err-opened.field-0.0 c.counted.new.room.statements (row_marks body env) in
     let f = subst P turn c.in_err-opened.ensures.refused in
     rw (p.1, p.2) (going_refuse _ (marks v) rest (going_step (statement s ∷ []) (marks v ++ rest) (going_as _ ((statement s ∷ []) ++ (marks v ++ rest)) (copies_marks s marks vs k c.loop-value-test.true) c.loop-value.invariant.marks) c.in_ok-counted.ensures.passed) f)
 
@@ -129,7 +129,7 @@ copies-loop-value-preserved t c =
     let turn = turn_is c.as_str.result.now n v _ bs c.as_str.ensures.text (to_z-of_z w32 v fits) in
     let s = c.args.span in
     let rest = copy_marks s marks (drop (k + 1) vs) in
-    let P : List Binding → Type 0 = λ env. Passes c.counted.new.count (row_marks body env) c.opened.new.count in
+    let P : List Binding → Type 0 = λ env. Passes c.counted.new.room.statements (row_marks body env) c.opened.new.room.statements in
     let passed = subst P turn c.in_ok-opened.ensures.passed in
     let turn_env : List Binding = (let b : Binding = record { name = c.as_str.result.now; value = cast_signed w32 (cast_unsigned w32 v) } in b) ∷ bs in
     let made : view_items c.opened.new.out.items ≡ row v =
@@ -183,31 +183,31 @@ looped-returns-in_err-copies-clause-refused t c =
     let bs = bindings c.args.scope.now in
     let l = c.args.head.now in
     let s = c.args.span in
-    let n = c.args.count.now in
+    let n = c.args.room.now.statements in
     let vs = c.in_ok-values.values.items in
     let marks = body_marks (view_whole l.body) l.name bs in
-    let P : List ℤ → Type 0 = λ ws. Refuses c.in_err-copies.field-0.0 c.counted.new.count (copy_marks s marks ws) in
+    let P : List ℤ → Type 0 = λ ws. Refuses c.in_err-copies.field-0.0 c.counted.new.room.statements (copy_marks s marks ws) in
     let f = subst P c.as_slice.ensures.value c.in_err-copies.ensures.refused in
     let Q : List Mark → Type 0 = λ ms. Refuses c.in_err-copies.field-0.0 n ms in
-    rw (p.1, p.2) (subst Q (sym (loop_met s l bs vs c.in_ok-values.ensures.values)) (refuses_behind _ n c.counted.new.count (statement s ∷ []) (copy_marks s marks vs) c.in_ok-counted.ensures.passed f))
+    rw (p.1, p.2) (subst Q (sym (loop_met s l bs vs c.in_ok-values.ensures.values)) (refuses_behind _ n c.counted.new.room.statements (statement s ∷ []) (copy_marks s marks vs) c.in_ok-counted.ensures.passed f))
 
 pub looped-returns-clause-passed : goal.looped-returns-clause-passed
 looped-returns-clause-passed t c =
     let bs = bindings c.args.scope.now in
     let l = c.args.head.now in
     let s = c.args.span in
-    let n = c.args.count.now in
+    let n = c.args.room.now.statements in
     let vs = c.in_ok-values.values.items in
     let marks = body_marks (view_whole l.body) l.name bs in
-    let P : List ℤ → Type 0 = λ ws. Passes c.counted.new.count (copy_marks s marks ws) c.copies.new.count in
+    let P : List ℤ → Type 0 = λ ws. Passes c.counted.new.room.statements (copy_marks s marks ws) c.copies.new.room.statements in
     let f = subst P c.as_slice.ensures.value c.in_ok-copies.ensures.passed in
-    let Q : List Mark → Type 0 = λ ms. Passes n ms c.copies.new.count in
+    let Q : List Mark → Type 0 = λ ms. Passes n ms c.copies.new.room.statements in
     subst Q (sym (loop_met s l bs vs c.in_ok-values.ensures.values)) (passes_join c.in_ok-counted.ensures.passed f)
 
 pub opened-returns-in_ok-values-in-For-clause-refused : goal.opened-returns-in_ok-values-in-For-clause-refused
 opened-returns-in_ok-values-in-For-clause-refused t c =
     let bs = bindings c.args.scope.now in
-    let n = c.args.count.now in
+    let n = c.args.room.now.statements in
     let s = c.args.stmt.now.span in
     let l = c.in-For.head.value in
     let vs = c.in_ok-values-in-For.values.items in
@@ -232,6 +232,6 @@ opened-returns-in_ok-put-in_default t c =
     let f = no_loop x c.in_default.not-For in
     record {
       tree = pushed_row c.args.out.now.items c.put.new.out.items c.in_ok-stmt-in_default.stmt x bs c.in_ok-put-in_default.ensures f c.in_ok-stmt-in_default.ensures.tree;
-      passed = let P : List Mark → Type 0 = λ ms. Passes c.args.count.now ms c.alone.new.count in subst P (sym (no_loop_marks x bs f)) c.in_ok-stmt-in_default.ensures.passed;
+      passed = let P : List Mark → Type 0 = λ ms. Passes c.args.room.now.statements ms c.alone.new.room.statements in subst P (sym (no_loop_marks x bs f)) c.in_ok-stmt-in_default.ensures.passed;
       refused = tt;
     }

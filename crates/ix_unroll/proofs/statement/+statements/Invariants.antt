@@ -13,7 +13,7 @@ invariant-inside-loop-stmt l =
     let rest = view_items (drop l.stmt-index l.all) in
     record {
       tree : row_join (view_items l.out.items) (inside rest bs) ≡ inside (view_items l.all) bs;
-      marks : Going l.fn.count (met_row (view_items l.all) bs) (met_row rest bs) l.count;
+      marks : Going l.fn.room.statements (met_row (view_items l.all) bs) (met_row rest bs) l.room.statements;
     }
 
 abbrev pub invariant-copies-loop-value : goal.invariant-copies-loop-value
@@ -25,5 +25,5 @@ invariant-copies-loop-value l =
     let marks = body_marks body l.head.name bs in
     record {
       tree : row_join (view_items l.out.items) (copies l.span row rest) ≡ row_join (view_items l.fn.out.items) (copies l.span row l.values);
-      marks : Going l.fn.count (copy_marks l.span marks l.values) (copy_marks l.span marks rest) l.count;
+      marks : Going l.fn.room.statements (copy_marks l.span marks l.values) (copy_marks l.span marks rest) l.room.statements;
     }

@@ -9,5 +9,5 @@ invariant-loop-block l =
     let rest = drop (length l.yielded) l.fn.all in
     record {
       tree : map view_block l.out.items ++ map (λ x. alone_block (view_block x)) rest ≡ map (λ x. alone_block (view_block x)) l.fn.all;
-      marks : Going l.fn.count (met_blocks (map view_block l.fn.all)) (met_blocks (map view_block rest)) l.count;
+      marks : Going l.fn.room.statements (met_blocks (map view_block l.fn.all)) (met_blocks (map view_block rest)) l.room.statements;
     }

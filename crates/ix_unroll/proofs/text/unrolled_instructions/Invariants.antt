@@ -9,5 +9,5 @@ invariant-loop-instr l =
     let rest = drop (length l.yielded) l.fn.all in
     record {
       tree : map view_instr l.out.items ++ map (λ x. alone_instr (view_instr x)) rest ≡ map (λ x. alone_instr (view_instr x)) l.fn.all;
-      marks : Going l.fn.count (met_instrs (map view_instr l.fn.all)) (met_instrs (map view_instr rest)) l.count;
+      marks : Going l.fn.room.statements (met_instrs (map view_instr l.fn.all)) (met_instrs (map view_instr rest)) l.room.statements;
     }

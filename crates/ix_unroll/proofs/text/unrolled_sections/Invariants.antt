@@ -9,5 +9,5 @@ invariant-loop-section l =
     let rest = drop (length l.yielded) l.fn.sections in
     record {
       tree : map view_section l.out.items ++ map (λ x. alone_section (view_section x)) rest ≡ map (λ x. alone_section (view_section x)) l.fn.sections;
-      marks : Going 0 (met_sections (map view_section l.fn.sections)) (met_sections (map view_section rest)) l.count;
+      marks : Going 0 (met_sections (map view_section l.fn.sections)) (met_sections (map view_section rest)) l.room.statements;
     }

@@ -10,9 +10,9 @@ pub returns-in-Some-least_outstanding : goal.returns-in-Some-least_outstanding
 returns-in-Some-least_outstanding c k q all d asks asked owed =
     ap (λ t. Some (Board t c.in-Some-least_outstanding.serial)) c.register_at.ensures
     ∙ sym (ap2' c.in_default.is c.in-Some-least_outstanding.is)
-    ∙ reading_is k d (reverse (standing_of (fetched_of q c.args.older.now))) (all ++ reverse (standing_of (fetched_of q c.args.older.now))) c.least_wait.result c.least_outstanding.result (c.least_wait.ensures k q all d asks asked owed) (c.least_outstanding.ensures k q all d asks asked owed)
+    ∙ reading_is k d (reverse (standing_of (fetched_of q c.args.older.now))) (all ++ reverse (standing_of (fetched_of q c.args.older.now))) c.least_operand.result c.least_outstanding.result (c.least_operand.ensures k q all d asks asked owed) (c.least_outstanding.ensures k q all d asks asked owed)
 
 pub returns : goal.returns
 returns c k q all d asks asked owed =
     sym (ap2' c.in_default.is c.in_default-least_outstanding.is)
-    ∙ reading_is k d (reverse (standing_of (fetched_of q c.args.older.now))) (all ++ reverse (standing_of (fetched_of q c.args.older.now))) c.least_wait.result c.least_outstanding.result (c.least_wait.ensures k q all d asks asked owed) (c.least_outstanding.ensures k q all d asks asked owed)
+    ∙ reading_is k d (reverse (standing_of (fetched_of q c.args.older.now))) (all ++ reverse (standing_of (fetched_of q c.args.older.now))) c.least_operand.result c.least_outstanding.result (c.least_operand.ensures k q all d asks asked owed) (c.least_outstanding.ensures k q all d asks asked owed)

@@ -1,5 +1,0 @@
-use Rattle.ix_walks.specs.Forests.{AreEntries}
-use Rattle.ix_walks.proofs.forest.begin.Given as goal
-
-abbrev pub invariant-nodes : goal.invariant-nodes
-invariant-nodes l = AreEntries l.node l.log.items l.entries.items

@@ -1,5 +1,0 @@
-use Rattle.ix_walks.specs.Forests.{AreTouching}
-use Rattle.ix_walks.proofs.incidence.touching.Given as goal
-
-abbrev pub invariant-bounds : goal.invariant-bounds
-invariant-bounds l = AreTouching l.network.root l.network.bounds l.lists.items
